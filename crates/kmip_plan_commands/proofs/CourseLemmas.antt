@@ -1,5 +1,5 @@
 -- What has come of a run is what its exchanges did.
-use Rattle.std.proofs.Common.{◌≡◌, ◌≢◌, ◌≤◌, ◌<◌, ◌⊎◌, ◌∙◌, ℕ, Bool, true, false, List, Option, Result, Ok, Err, IfOk, inl, inr, refl, subst, sym}
+use Rattle.std.proofs.Common.{◌≡◌, ◌≢◌, ◌∙◌, ℕ, Bool, true, false, List, Option, Result, Ok, Err, IfOk, inl, inr, refl, subst, sym}
 use Rattle.std.specs.Io.KnownBytes.{Appends}
 use Rattle.kmip_message_commands.specs.declared.command_fault.CommandFault.{CommandFault}
 use Rattle.kmip_plan.specs.Reading.{FailsPlan}
@@ -9,17 +9,12 @@ use Rattle.kmip_plan.specs.declared.key.Key.{Key}
 use Rattle.kmip_client.specs.Clients.{ClientState}
 use Rattle.kmip_client.specs.Held.{Held}
 use Rattle.kmip_client.specs.declared.knowledge.Knowledge.{Knowledge}
-use Rattle.kmip_protocol.specs.Clean.{Disturbances}
-use Rattle.kmip_protocol.specs.Past.{Names, Past, is_planned}
 use Rattle.kmip_protocol.specs.Seen.{Seen}
-use Rattle.kmip_plan.specs.Chains.{bound}
-use Rattle.kmip_runs.specs.Driving.{AsksOne, IsGood, IsSettling, Keeps, Learnt, need}
-use Rattle.kmip_runs.specs.Losing.{IsEnough}
+use Rattle.kmip_runs.specs.Driving.{IsGood}
 use Rattle.kmip_runs.specs.declared.stop.Stop.{Stop}
 use Rattle.kmip_runs.specs.declared.stop.Stop.TheVariants as stops
 use Rattle.kmip_progress.specs.declared.progress_fault.ProgressFault.{ProgressFault}
-use Rattle.kmip_runs.specs.Refusals.{HasRisen}
-use Rattle.kmip_runs.specs.Saved.{AreSaved, IsInMemory, IsLeft, IsWhole, Moment, moment}
+use Rattle.kmip_runs.specs.Saved.{AreSaved, IsInMemory, Snapshot}
 use Rattle.kmip_runs.specs.declared.save_fault.SaveFault.{SaveFault}
 use Rattle.kmip_runs.specs.CarriesOut.{CarriesOut, Stage}
 use Rattle.kmip_plan_commands.specs.Course.{Came, IsGoodStart, IsTrueText, RunState, run_state}
@@ -47,8 +42,8 @@ state_at s = run_state s.link s.keeper s.is_tired
 came : (limit : ℕ) (old new : Stage) (r : Result Stop SaveFault) (made : ℕ) → IsInMemory r → CarriesOut limit old r made new
     → Came limit old.client.batch (λ keys. IsGood old.client old.link) (state_at old) (state_at new) old.client.keys old.client.knowns (outcome new.client.knowns r made)
 came limit old new r made whole carries = record {
-  kept = carries.kept.kept;
-  learnt = λ h. (carries.honestly h).known.1 whole;
+  kept = carries.forgets_nothing.kept;
+  learnt = λ h. (carries.honestly h).learns.1 whole;
   saved_are = carries.saved;
   settles = λ quiet ready within patient all.
       let s = (carries.calmly (record { calm_for = quiet; ready = ready })).settles within patient all in (s.0, s.3);
@@ -74,15 +69,15 @@ came_unsaved limit old new r fault same made is alike carries =
     let whole : IsInMemory r = λ e. no_stop fault stops.NoMemory (sym is ∙ e) in
     subst (λ f. P (Err f)) alike (subst P is (came limit old new r made whole carries))
 
-saved_for : (keys : List Key) (most : ℕ) (good other honest : Type 0) (a b : Moment) (r : Result Stop SaveFault) (made : ℕ) (old new : List (List ℕ))
-    → (other → good) → AreSaved keys most good honest a b r made old new → AreSaved keys most other honest a b r made old new
-saved_for keys most good other honest a b r made old new f s = record {
+saved_for : (keys : List Key) (most : ℕ) (good other honest : Type 0) (old new : Snapshot) (r : Result Stop SaveFault) (made : ℕ) → (other → good)
+    → AreSaved keys most (record { good = good; honest = honest }) old new r made → AreSaved keys most (record { good = other; honest = honest }) old new r made
+saved_for keys most good other honest old new r made f s = record {
   moments = s.moments;
   texts_are = s.texts_are;
   unsaved = s.unsaved;
   are_unsaved = s.are_unsaved;
   as_many = s.as_many;
-  kept = s.kept;
+  forgets_nothing = s.forgets_nothing;
   taught = s.taught;
   rest = s.rest;
   true_of = λ o. s.true_of (f o);
@@ -97,7 +92,7 @@ came_for limit most good other old new keys knowns o f c =
     record {
       kept = c.kept;
       learnt = c.learnt;
-      saved_are = λ k. ((c.saved_are k).0, saved_for keys most (good keys) (other keys) _ _ _ o.result o.exchanges _ _ f (c.saved_are k).1);
+      saved_are = λ k. ((c.saved_are k).0, saved_for keys most (good keys) (other keys) _ _ _ o.result o.exchanges f (c.saved_are k).1);
       settles = c.settles;
       at_limit = c.at_limit;
       given_up = c.given_up;

@@ -10,8 +10,7 @@ use Rattle.kmip_progress.specs.declared.known.Known.{Known}
 use Rattle.kmip_client.specs.Held.{TrueProgress}
 use Rattle.kmip_client.specs.Shapes.{IsKept}
 use Rattle.kmip_client.specs.declared.knowledge.Knowledge.{Knowledge}
-use Rattle.kmip_protocol.specs.Clean.{Disturbances}
-use Rattle.kmip_protocol.specs.Past.{Names, Past, is_planned}
+use Rattle.kmip_protocol.specs.Past.{Past, is_planned}
 use Rattle.kmip_protocol.specs.Seen.{Seen}
 use Rattle.kmip_protocol.specs.Ready.{IsReady}
 use Rattle.kmip_runs.specs.Headline.{GoodLink}
@@ -19,7 +18,7 @@ use Rattle.kmip_runs.specs.Driving.{IsQuestion, Learnt, WentOn}
 use Rattle.kmip_runs.specs.Losing.{IsEnough}
 use Rattle.kmip_runs.specs.declared.stop.Stop.TheVariants as stops
 use Rattle.kmip_runs.specs.Refusals.{HasRisen}
-use Rattle.kmip_runs.specs.Saved.{AreSaved, IsLeft, IsWhole}
+use Rattle.kmip_runs.specs.Saved.{AreSaved, IsLeft, IsWhole, snapshot}
 use Rattle.kmip_runs.specs.declared.save_fault.SaveFault.TheVariants as faults
 use Rattle.kmip_runs.specs.Keeping.{Kept}
 use Rattle.kmip_plan_commands.specs.RunText.{Outcome}
@@ -55,7 +54,9 @@ pub record Came (limit most : ℕ) (good : List Key → Type 0) (old new : RunSt
   -- exchange was kept, but for the last one where it could not be (`AreSaved`). Where all was good, what
   -- each of these texts says is true of the objects at the end, so that the next run may begin with it.
   pub saved_are : old.keeper.keeps → new.keeper.keeps
-      × AreSaved keys most (good keys) (old.link.honest (is_planned keys)) (record { knowns = knowns; past = old.link.past }) (record { knowns = outcome.knowns; past = new.link.past }) outcome.result outcome.exchanges old.keeper.saved new.keeper.saved
+      × AreSaved keys most (record { good = good keys; honest = old.link.honest (is_planned keys) })
+      (snapshot (record { knowns = knowns; past = old.link.past }) old.keeper.saved)
+      (snapshot (record { knowns = outcome.knowns; past = new.link.past }) new.keeper.saved) outcome.result outcome.exchanges
   -- Over a calm link, with what is ready to settle, and a limit of at least the plan's bound: every key
   -- is finished after no more exchanges than the bound. That is said where each text could be kept,
   -- memory did not run out, and patience has not given up.

@@ -13,7 +13,7 @@ use Rattle.kmip_client.specs.Clients.{fresh}
 use Rattle.kmip_client.specs.Saving.{resume}
 use Rattle.kmip_client.specs.Verdicts.{counts_of, verdicts_of}
 use Rattle.kmip_client.specs.declared.knowledge.Knowledge.{Knowledge}
-use Rattle.kmip_runs.specs.Driving.{Stands}
+use Rattle.kmip_runs.specs.Driving.{IsBorneOut}
 use Rattle.kmip_runs.specs.Reporting.{report_text}
 use Rattle.kmip_runs.specs.Stops.{is_all_finished, stop_name}
 use Rattle.kmip_runs.specs.declared.stop.Stop.{Stop}
@@ -63,7 +63,7 @@ pub record TellsExchanges (came : Outcome → Type 0) (keys : List Key) (limit :
   pub exchanges : ℕ
   pub has_come : came (record { knowns = knowns; result = Ok stop; exchanges = exchanges })
   pub in_memory : stop ≢ stops.NoMemory
-  pub stands : Stands stop keys knowns
+  pub stands : IsBorneOut stop keys knowns
   pub within : exchanges ≤ limit
   pub refused_is : refused ≡ not (is_all_finished stop)
   pub text_is : text ≡ report_text keys (counts_of knowns) (verdicts_of keys knowns) ++ stop_line stop exchanges

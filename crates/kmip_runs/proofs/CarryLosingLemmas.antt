@@ -8,7 +8,7 @@ use Rattle.kmip_protocol.specs.Moves.{Delivered}
 use Rattle.kmip_protocol.specs.Past.{Names, is_planned}
 use Rattle.kmip_protocol.specs.Seen.{Seen}
 use Rattle.kmip_protocol.specs.Needs.{need_all}
-use Rattle.kmip_runs.specs.Driving.{IsGood, Stands}
+use Rattle.kmip_runs.specs.Driving.{IsBorneOut, IsGood}
 use Rattle.kmip_runs.specs.Losing.{ArePaid, IsEnough, cost, left_for}
 use Rattle.kmip_runs.specs.declared.stop.Stop.{Stop}
 use Rattle.kmip_runs.specs.declared.stop.Stop.TheVariants as stops
@@ -49,7 +49,7 @@ spent l a b x y limit lawful good still paid enough works =
 
 outlasted_stop : CarryingLaws → (a b : ClientState) (x y : Seen) (stop : Stop) (made limit : ℕ) → IsLawful a.keys → IsGood a x
     → IsGood b y → ArePaid made (left_for a x.past) (left_for b y.past) x.disturbances y.disturbances → stop ≢ stops.NoMemory
-    → Stands stop b.keys b.knowns → (stop ≡ stops.Limit → made ≡ limit) → IsEnough a.keys limit x.disturbances y.disturbances → stop ≡ stops.AllFinished
+    → IsBorneOut stop b.keys b.knowns → (stop ≡ stops.Limit → made ≡ limit) → IsEnough a.keys limit x.disturbances y.disturbances → stop ≡ stops.AllFinished
 outlasted_stop l a b x y stops.AllFinished made limit lawful good still paid memory stands at enough = refl
 outlasted_stop l a b x y stops.Limit made limit lawful good still paid memory stands at enough =
     spent l a b x y limit lawful good still
@@ -62,7 +62,7 @@ outlasted_stop l a b x y stops.NoMemory made limit lawful good still paid memory
 -- a run that may make enough exchanges finishes every key
 pub outlasted : CarryingLaws → (a b : ClientState) (x y : Seen) (result : Result Stop SaveFault) (made limit : ℕ) → IsLawful a.keys → IsGood a x
     → IsGood b y → (IsInMemory result → ArePaid made (left_for a x.past) (left_for b y.past) x.disturbances y.disturbances)
-    → IfOk result (λ stop. Stands stop b.keys b.knowns) → (result ≡ Ok stops.Limit → made ≡ limit) → IsWhole result
+    → IfOk result (λ stop. IsBorneOut stop b.keys b.knowns) → (result ≡ Ok stops.Limit → made ≡ limit) → IsWhole result
     → IsEnough a.keys limit x.disturbances y.disturbances → result ≡ Ok stops.AllFinished
 outlasted l a b x y (Err fault) made limit lawful good still paid stands at whole enough = absurd whole
 outlasted l a b x y (Ok stop) made limit lawful good still paid stands at whole enough =

@@ -7,7 +7,7 @@ use Rattle.kmip_client.specs.Known.{facts}
 use Rattle.kmip_client.specs.declared.knowledge.Knowledge.{Knowledge}
 use Rattle.kmip_protocol.specs.Past.{Names, Past, is_planned}
 use Rattle.kmip_protocol.specs.Seen.{Seen}
-use Rattle.kmip_runs.specs.Driving.{AsksOne, Grown, IsGood, IsSettling, IsUnheard, IsUnmade, Keeps, KeepsFurther, Learnt, LearntUntil, Nearer, SomeClash, Stands, WentOn}
+use Rattle.kmip_runs.specs.Driving.{AsksOne, IsBorneOut, IsGood, IsSettling, IsUnheard, IsUnmade, Keeps, KeepsFurther, Learnt, LearntUntil, Nearer, SomeClash, TakesNothingBack, WentOn}
 use Rattle.kmip_runs.specs.Private.{IsBrokenOff}
 use Rattle.kmip_runs.specs.PrivateLawbook.{Lawbook}
 use Rattle.kmip_runs.specs.Private.{exchanges_made}
@@ -39,10 +39,10 @@ breaks_off keys most old new heard Unheard off = inr (refl, off)
 -- after so many exchanges
 pub record Driven (first now : ClientState) (start link : Seen) (made : ℕ) : Type 0 where
   pub good : IsGood first start → IsGood now link
-  pub goes : IsGood first start → WentOn first.keys start.past link.past
-  pub known : start.honest (is_planned first.keys)
+  pub onward : IsGood first start → WentOn first.keys start.past link.past
+  pub learns : start.honest (is_planned first.keys)
       → link.honest (is_planned first.keys) × Learnt first.keys first.batch start.past link.past first.knowns now.knowns made
-  pub grown : start.honest (is_planned first.keys) → Grown start.past link.past
+  pub takes_nothing_back : start.honest (is_planned first.keys) → TakesNothingBack start.past link.past
   pub keeps : Keeps first now
   pub near : IsSettling first start → Nearer first now start link made
   pub honest_still : (names : Names) → start.honest names → link.honest names
@@ -51,9 +51,9 @@ pub record Driven (first now : ClientState) (start link : Seen) (made : ℕ) : T
 pub driven_none : Lawbook → (c : ClientState) (link : Seen) → Driven c c link link 0
 driven_none l c link = record {
   good = λ good. good;
-  goes = λ good. went_nowhere l c.keys link.past;
-  known = λ holds. (holds, learnt_nothing c.keys c.batch link.past c.knowns);
-  grown = λ holds. grown_itself link.past;
+  onward = λ good. went_nowhere l c.keys link.past;
+  learns = λ holds. (holds, learnt_nothing c.keys c.batch link.past c.knowns);
+  takes_nothing_back = λ holds. grown_itself link.past;
   keeps = keeps_itself c;
   near = nearer_none c link;
   honest_still = λ names holds. holds;
@@ -76,17 +76,17 @@ further_if keys x y whole other to kept = record { good = kept.good; calmly = λ
 pub driven_then : Lawbook → (a b c : ClientState) (x y z : Seen) (m n : ℕ) → Driven a b x y m → Driven b c y z n → Driven a c x z (m + n)
 driven_then l a b c x y z m n first second = record {
   good = λ good. second.good (first.good good);
-  goes = λ good. went_then l a.keys x.past y.past z.past (first.goes good) (subst (λ ks. WentOn ks y.past z.past) first.keeps.keys_stay (second.goes (first.good good)));
-  known = λ holds.
-      let before = first.known holds in
-      let after = second.known (subst (λ ks. y.honest (is_planned ks)) (sym first.keeps.keys_stay) before.0) in (
+  onward = λ good. went_then l a.keys x.past y.past z.past (first.onward good) (subst (λ ks. WentOn ks y.past z.past) first.keeps.keys_stay (second.onward (first.good good)));
+  learns = λ holds.
+      let before = first.learns holds in
+      let after = second.learns (subst (λ ks. y.honest (is_planned ks)) (sym first.keeps.keys_stay) before.0) in (
         subst (λ ks. z.honest (is_planned ks)) first.keeps.keys_stay after.0,
         learnt_then l.blind a.keys a.batch x.past y.past z.past a.knowns b.knowns c.knowns m n before.1
             (learnt_of a.keys b.keys a.batch b.batch y.past z.past b.knowns c.knowns n first.keeps.keys_stay first.keeps.batch_stays after.1),
       );
-  grown = λ holds.
-      grown_then x.past y.past z.past (first.grown holds)
-      (second.grown (subst (λ ks. y.honest (is_planned ks)) (sym first.keeps.keys_stay) (first.known holds).0));
+  takes_nothing_back = λ holds.
+      grown_then x.past y.past z.past (first.takes_nothing_back holds)
+      (second.takes_nothing_back (subst (λ ks. y.honest (is_planned ks)) (sym first.keeps.keys_stay) (first.learns holds).0));
   keeps = keeps_then a b c first.keeps second.keeps;
   near = λ settling.
       let before = first.near settling in
@@ -100,7 +100,7 @@ pub known_end : Lawbook → (a b c : ClientState) (x y z : Seen) (m : ℕ) → D
     → (y.honest (is_planned b.keys) → z.honest (is_planned b.keys) × Learnt b.keys b.batch y.past z.past b.knowns c.knowns 0)
     → x.honest (is_planned a.keys) → z.honest (is_planned a.keys) × Learnt a.keys a.batch x.past z.past a.knowns c.knowns m
 known_end l a b c x y z m first last holds =
-    let before = first.known holds in
+    let before = first.learns holds in
     let after = last (subst (λ ks. y.honest (is_planned ks)) (sym first.keeps.keys_stay) before.0) in
     let none : m + 0 ≡ m = omega arith in (
       subst (λ ks. z.honest (is_planned ks)) first.keeps.keys_stay after.0,
@@ -114,7 +114,7 @@ pub broken_end : (a b c : ClientState) (x y z : Seen) (m : ℕ) (fault : TurnFau
     → (y.honest (is_planned b.keys) → (facts c.knowns ≡ facts b.knowns) × IsBrokenOff b.keys b.batch y.past z.past fault) → x.honest (is_planned a.keys)
     → LearntUntil a.keys a.batch x.past z.past a.knowns c.knowns (m + exchanges_made fault)
 broken_end a b c x y z m fault first last holds =
-    let before = first.known holds in
+    let before = first.learns holds in
     let off = last (subst (λ ks. y.honest (is_planned ks)) (sym first.keeps.keys_stay) before.0) in
     record {
       between = y.past;
@@ -128,18 +128,18 @@ broken_end a b c x y z m fault first last holds =
 -- so few exchanges were made
 pub few_made : (a b : ClientState) (x y : Seen) (m limit : ℕ) → Driven a b x y m → m ≤ limit → x.honest (is_planned a.keys) → length y.past.sent ≤ length x.past.sent + limit
 few_made a b x y m limit driven within holds =
-    let long = learnt_long a.keys a.batch x.past y.past a.knowns b.knowns m (driven.known holds).1 in
+    let long = learnt_long a.keys a.batch x.past y.past a.knowns b.knowns m (driven.learns holds).1 in
     omega (arith, long, within)
 
 -- what is good is in no conflict
-pub good_no_conflict : Lawbook → (c : ClientState) (link : Seen) (stop : Stop) → IsGood c link → Stands stop c.keys c.knowns → stop ≢ stops.Conflict
-good_no_conflict l c link stop good stands = λ is. in_conflict (subst (λ s. Stands s c.keys c.knowns) is stands).1
+pub good_no_conflict : Lawbook → (c : ClientState) (link : Seen) (stop : Stop) → IsGood c link → IsBorneOut stop c.keys c.knowns → stop ≢ stops.Conflict
+good_no_conflict l c link stop good stands = λ is. in_conflict (subst (λ s. IsBorneOut s c.keys c.knowns) is stands).1
   where
     in_conflict : {X : Type 0} → SomeClash c.keys c.knowns → X
     in_conflict clash = absurd (l.no_conflict link.past.objects c.keys c.knowns good.held clash.0 clash.1 clash.3)
 
 -- where each key is settled a run does not stop at its limit
-pub settled_no_limit : Lawbook → (c : ClientState) (stop : Stop) → AreSettled c.keys c.knowns → Stands stop c.keys c.knowns → stop ≢ stops.Limit
+pub settled_no_limit : Lawbook → (c : ClientState) (stop : Stop) → AreSettled c.keys c.knowns → IsBorneOut stop c.keys c.knowns → stop ≢ stops.Limit
 settled_no_limit l c stop settled stands = λ is.
-    let works = subst (λ s. Stands s c.keys c.knowns) is stands in
+    let works = subst (λ s. IsBorneOut s c.keys c.knowns) is stands in
     l.settled c.keys c.knowns settled works.0 works.1 works.2

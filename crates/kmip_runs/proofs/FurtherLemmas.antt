@@ -13,7 +13,7 @@ use Rattle.kmip_client.specs.declared.question.Question.{Question}
 use Rattle.kmip_protocol.specs.Calm.{CalmlyExchanged}
 use Rattle.kmip_protocol.specs.Exchanges.{Exchanged}
 use Rattle.kmip_protocol.specs.Moves.{Delivered}
-use Rattle.kmip_protocol.specs.Past.{AreAmong, Names, Past, is_planned}
+use Rattle.kmip_protocol.specs.Past.{Names, Past, is_planned}
 use Rattle.kmip_protocol.specs.Seen.{Seen}
 use Rattle.kmip_protocol.specs.Sound.{Sound}
 use Rattle.kmip_protocol.specs.declared.link_fault.LinkFault.{LinkFault}

@@ -15,7 +15,7 @@ use Rattle.kmip_protocol.specs.Moves.{Delivered, Move, after_move, after_moves}
 use Rattle.kmip_protocol.specs.Past.{Names, Past}
 use Rattle.kmip_protocol.specs.declared.link_fault.LinkFault.{LinkFault}
 use Rattle.kmip_protocol.specs.declared.link_fault.LinkFault.TheVariants.{Io, Frame, NoMemory}
-use Rattle.kmip_runs.specs.Driving.{Grown, IsQuestion, IsUnheard, IsUnmade, Learnt, LearntUntil}
+use Rattle.kmip_runs.specs.Driving.{IsQuestion, IsUnheard, IsUnmade, Learnt, LearntUntil, TakesNothingBack}
 use Rattle.kmip_runs.specs.Private.{IsToBePut}
 use Rattle.kmip_client.specs.Known.{facts, heard, known_after}
 use Rattle.kmip_protocol.specs.Losses.{or_loss}
@@ -250,33 +250,33 @@ grown_by old between new first second = (first.0 ++ second.0, joined old between
 still : {A : Type 0} (old new : List A) → new ≡ old → (more : List A) × (new ≡ old ++ more)
 still old new same = ([], same ∙ sym (append-nil old))
 
-pub grown_itself : (p : Past) → Grown p p
+pub grown_itself : (p : Past) → TakesNothingBack p p
 grown_itself p = record { requests = still p.requests p.requests refl; sent = still p.sent p.sent refl; handed = still p.handed p.handed refl }
 
-pub grown_then : (old between new : Past) → Grown old between → Grown between new → Grown old new
+pub grown_then : (old between new : Past) → TakesNothingBack old between → TakesNothingBack between new → TakesNothingBack old new
 grown_then old between new first second = record {
   requests = grown_by old.requests between.requests new.requests first.requests second.requests;
   sent = grown_by old.sent between.sent new.sent first.sent second.sent;
   handed = grown_by old.handed between.handed new.handed first.handed second.handed;
 }
 
-stays_grown : (old new : Past) → Stays old new → Grown old new
+stays_grown : (old new : Past) → Stays old new → TakesNothingBack old new
 stays_grown old new stays =
     record { requests = still old.requests new.requests stays.requests_stay; sent = still old.sent new.sent stays.sent_stays; handed = still old.handed new.handed stays.handed_stays }
 
-pub delivered_grown : (names : Names) (old new : Past) → Delivered names old new → Grown old new
+pub delivered_grown : (names : Names) (old new : Past) → Delivered names old new → TakesNothingBack old new
 delivered_grown names old new d = stays_grown old new (delivered_stays names old new d)
 
-asked_grown : (sent : List ℕ) (p : Past) → Grown p (with_asked sent p)
+asked_grown : (sent : List ℕ) (p : Past) → TakesNothingBack p (with_asked sent p)
 asked_grown sent p = record { requests = (requests_in sent, refl); sent = still p.sent p.sent refl; handed = still p.handed p.handed refl }
 
-hands_grown : (names : Names) (old new : Past) (sent : List ℕ) (answer : Option (List ℕ)) → HandsOver names old sent answer new → Grown old new
+hands_grown : (names : Names) (old new : Past) (sent : List ℕ) (answer : Option (List ℕ)) → HandsOver names old sent answer new → TakesNothingBack old new
 hands_grown names old new sent answer hands =
     let asks = handed_asks names old new sent answer hands in
     record { requests = (requests_in sent, asks.2); sent = (sent ∷ [], asks.0); handed = (answer ∷ [], asks.1) }
 
 -- by an exchange, whether it has an answer or not
-pub exchanged_grown : (names : Names) (old new : Past) (sent : List ℕ) (answered : Result (Option (List ℕ)) LinkFault) → Exchanged names old sent answered new → Grown old new
+pub exchanged_grown : (names : Names) (old new : Past) (sent : List ℕ) (answered : Result (Option (List ℕ)) LinkFault) → Exchanged names old sent answered new → TakesNothingBack old new
 exchanged_grown names old new sent (Ok answer) done = hands_grown names old new sent answer done
 exchanged_grown names old new sent (Err Io) done = hands_grown names old new sent None done
 exchanged_grown names old new sent (Err Frame) done = hands_grown names old new sent None done

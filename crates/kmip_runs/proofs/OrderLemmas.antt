@@ -15,7 +15,7 @@ use Rattle.kmip_client.specs.declared.verdict.Verdict.{Verdict}
 use Rattle.kmip_client.specs.declared.verdict.Verdict.TheVariants.{Working, Finished, Conflict}
 use Rattle.kmip_runs.specs.Campaign.{AreFull, IsEnd, IsFull, StopsSo, saves}
 use Rattle.kmip_runs.specs.PrivateCampaignParts.{HasEnded, IsEndOf, IsEnding, IsNoted, saved_with}
-use Rattle.kmip_runs.specs.Driving.{Stands}
+use Rattle.kmip_runs.specs.Driving.{IsBorneOut}
 use Rattle.kmip_runs.specs.Remembering.{saved_after}
 use Rattle.kmip_runs.specs.declared.campaign_end.CampaignEnd.{CampaignEnd}
 use Rattle.kmip_runs.specs.declared.run.Run.{Run}
@@ -46,7 +46,7 @@ verdict_there v (key ∷ keys) (known ∷ knowns) few (suc place) below is =
     Contains-append_right (verdict_of key known ∷ []) (verdicts_of keys knowns) v (verdict_there v keys knowns few.1 place (omega (arith, below)) is)
 
 stops_so : (stop : Stop) (keys : List Key) (knowns : List Knowledge) (run : Run) (end : RunEnd) → end.verdicts.items ≡ verdicts_of keys knowns
-    → AreWithin keys (counts_of knowns) → stop ≢ stops.NoMemory → Stands stop keys knowns → (stop ≡ stops.Limit → end.exchanges ≡ run.limit) → StopsSo stop run end
+    → AreWithin keys (counts_of knowns) → stop ≢ stops.NoMemory → IsBorneOut stop keys knowns → (stop ≡ stops.Limit → end.exchanges ≡ run.limit) → StopsSo stop run end
 stops_so stops.AllFinished keys knowns run end are few in_memory stands limit =
     subst (λ verdicts. All (λ verdict. verdict ≡ Finished) verdicts) (sym are) (all_verdicts (λ verdict. verdict ≡ Finished) keys knowns stands)
 stops_so stops.Limit keys knowns run end are few in_memory stands limit =
@@ -72,7 +72,7 @@ are_full (key ∷ keys) [] few = absurd few
 are_full (key ∷ keys) (known ∷ knowns) few = (is_full key known few.0, are_full keys knowns few.1)
 
 pub is_end : (keys : List Key) (knowns : List Knowledge) (run : Run) (stop : Stop) (exchanges : ℕ) (end : RunEnd) → IsEndOf keys knowns stop exchanges end
-    → Stands stop keys knowns → (stop ≡ stops.Limit → exchanges ≡ run.limit) → exchanges ≤ run.limit → IsEnd keys run end
+    → IsBorneOut stop keys knowns → (stop ≡ stops.Limit → exchanges ≡ run.limit) → exchanges ≤ run.limit → IsEnd keys run end
 is_end keys knowns run stop exchanges end is stands limit within =
     let few = subst (λ counts. AreWithin keys counts) is.counts_are is.few in
     record {
@@ -84,7 +84,7 @@ is_end keys knowns run stop exchanges end is stands limit within =
     }
 
 pub is_noted : (keys : List Key) (knowns : List Knowledge) (run : Run) (driven : Stop × ℕ) (end : RunEnd) (old new : List RunEnd) → IsEndOf keys knowns driven.0 driven.1 end
-    → Stands driven.0 keys knowns → (driven.0 ≡ stops.Limit → driven.1 ≡ run.limit) → driven.1 ≤ run.limit → new ≡ old ++ end ∷ [] → IsNoted keys run knowns driven old new
+    → IsBorneOut driven.0 keys knowns → (driven.0 ≡ stops.Limit → driven.1 ≡ run.limit) → driven.1 ≤ run.limit → new ≡ old ++ end ∷ [] → IsNoted keys run knowns driven old new
 is_noted keys knowns run driven end old new is stands limit within joined = record {
   end = end;
   joined = joined;
@@ -103,7 +103,7 @@ saved_noted run knowns saved old new is joined = elim (cases_Bool run.save) [
 
 -- what was made of a run is noted
 pub has_ended : (keys : List Key) (knowns : List Knowledge) (run : Run) (driven : Stop × ℕ) (ending : Ending) (old new : CampaignEnd)
-    → IsEnding keys run knowns driven ending → Stands driven.0 keys knowns → (driven.0 ≡ stops.Limit → driven.1 ≡ run.limit) → driven.1 ≤ run.limit
+    → IsEnding keys run knowns driven ending → IsBorneOut driven.0 keys knowns → (driven.0 ≡ stops.Limit → driven.1 ≡ run.limit) → driven.1 ≤ run.limit
     → new.runs.items ≡ old.runs.items ++ ending.run ∷ [] → new.saved.items ≡ saved_with ending.saved old.saved.items → HasEnded keys run knowns driven old new
 has_ended keys knowns run driven ending old new is stands limit within joined saved = record {
   noted = is_noted keys knowns run driven ending.run old.runs.items new.runs.items is.end_is stands limit within joined;

@@ -6,7 +6,6 @@ use Rattle.kmip_progress.specs.declared.known.Known.{Known}
 use Rattle.kmip_client.specs.Clients.{ClientState}
 use Rattle.kmip_client.specs.Held.{Held, TrueProgress}
 use Rattle.kmip_protocol.specs.Clean.{Disturbances}
-use Rattle.kmip_protocol.specs.Past.{Names, Past}
 use Rattle.kmip_protocol.specs.Seen.{Seen}
 use Rattle.kmip_runs.specs.PrivateCampaignParts.{IsNoted, Standing}
 use Rattle.kmip_runs.specs.Driving.{IsGood}

@@ -5,7 +5,8 @@ use Rattle.kmip_plan.specs.Prolonging.{Prolongs}
 use Rattle.kmip_plan.specs.declared.key.Key.{Key}
 use Rattle.kmip_progress.specs.declared.known.Known.{Known}
 use Rattle.kmip_protocol.specs.Past.{Past}
-use Rattle.kmip_runs.specs.Campaigns.{AreParts, AreProlonged, IsPart, LastIsShort, Part, Premises, carried_over, first_plan, last_plan, part_saved}
+use Rattle.kmip_runs.specs.Campaigns.{AreParts, AreProlonged, IsPart, LastIsShort, Premises, carried_over, first_plan, last_plan}
+use Rattle.kmip_runs.specs.Remembering.{Notes, noted_saves}
 use Rattle.kmip_runs.specs.PrivateCampaignsParts.{PlansLaws}
 use Rattle.kmip_runs.specs.declared.run.Run.{Run}
 use Rattle.kmip_runs.proofs.RunLemmas.{known_if}
@@ -72,17 +73,17 @@ not_empty : {A X : Type 0} (x : A) (xs : List A) → x ∷ xs ≡ [] → X
 not_empty x xs is = absurd cc
 
 module _ (premises : Premises) where
-  pub part_if : (keys : List Key) (carried : List (List Known)) (list : List Run) (part : Part) (whole other : Type 0) (old new : Past) → (other → whole)
+  pub part_if : (keys : List Key) (carried : List (List Known)) (list : List Run) (part : Notes) (whole other : Type 0) (old new : Past) → (other → whole)
       → IsPart keys carried list part premises whole old new → IsPart keys carried list part premises other old new
   part_if keys carried list part whole other old new to is = record {
     order = is.order;
     complete = λ holds. is.complete (to holds);
-    known = known_if keys carried list part.ends part.saved premises.honest whole other old new to is.known;
+    known = known_if keys carried list part premises.honest whole other old new to is.known;
     settles = λ calmly holds. is.settles calmly (to holds);
   }
 
   -- less is said where it is said of less
-  pub parts_if : (plans : List (List Key)) (runs : List (List Run)) (saved : List (List Known)) (parts : List Part) (whole other : Type 0) (old new : Past) → (other → whole)
+  pub parts_if : (plans : List (List Key)) (runs : List (List Run)) (saved : List (List Known)) (parts : List Notes) (whole other : Type 0) (old new : Past) → (other → whole)
       → AreParts plans runs saved parts premises whole old new → AreParts plans runs saved parts premises other old new
   parts_if plans runs saved [] whole other old new to are = (λ holds. are.0 (to holds), are.1)
   parts_if [] runs saved (p ∷ parts) whole other old new to are = absurd are
@@ -94,7 +95,7 @@ module _ (premises : Premises) where
   )
 
   -- the runs on the first plans were made, and those on the others were not
-  pub parts_broken : (plans : List (List Key)) (runs : List (List Run)) (saved : List (List Known)) (parts : List Part) (place : ℕ) (whole : Type 0) (old new : Past)
+  pub parts_broken : (plans : List (List Key)) (runs : List (List Run)) (saved : List (List Known)) (parts : List Notes) (place : ℕ) (whole : Type 0) (old new : Past)
       → (whole → ⊥) → AreParts (take place plans) (take place runs) saved parts premises whole old new → AreParts plans runs saved parts premises whole old new
   parts_broken plans runs saved [] place whole old new none are = (λ holds. absurd (none holds), are.1)
   parts_broken [] runs saved (p ∷ parts) zero whole old new none are = absurd are
@@ -105,7 +106,7 @@ module _ (premises : Premises) where
       (are.0, are.1, parts_broken plans runs (saved ++ p.saved) parts place whole are.0 new none are.2)
 
   -- the runs on all plans were made
-  pub parts_all : (plans : List (List Key)) (runs : List (List Run)) (saved : List (List Known)) (parts : List Part) (place : ℕ) (whole : Type 0) (old new : Past)
+  pub parts_all : (plans : List (List Key)) (runs : List (List Run)) (saved : List (List Known)) (parts : List Notes) (place : ℕ) (whole : Type 0) (old new : Past)
       → place ≡ length plans → length runs ≡ length plans → AreParts (take place plans) (take place runs) saved parts premises ⊤ old new
       → AreParts plans runs saved parts premises whole old new
   parts_all plans runs saved parts place whole old new all as_many are =
@@ -116,17 +117,17 @@ module _ (premises : Premises) where
       (subst (λ rs. AreParts (take place plans) rs saved parts premises ⊤ old new) all_runs are))
 
   -- the runs of one more plan were made
-  pub parts_more : (plans : List (List Key)) (runs : List (List Run)) (saved : List (List Known)) (parts : List Part) (place : ℕ) (keys : List Key) (list : List Run) (part : Part)
+  pub parts_more : (plans : List (List Key)) (runs : List (List Run)) (saved : List (List Known)) (parts : List Notes) (place : ℕ) (keys : List Key) (list : List Run) (part : Notes)
       (whole : Type 0) (old between new : Past) → slice_get plans place ≡ Some keys → slice_get runs place ≡ Some list
       → AreParts (take place plans) (take place runs) saved parts premises ⊤ old between
-      → IsPart keys (map (carried_over keys) (saved ++ flat_map part_saved parts)) list part premises whole between new
+      → IsPart keys (map (carried_over keys) (saved ++ flat_map noted_saves parts)) list part premises whole between new
       → AreParts (take (suc place) plans) (take (suc place) runs) saved (parts ++ part ∷ []) premises whole old new
   parts_more [] runs saved parts place keys list part whole old between new is so before more = absurd cc
   parts_more (first ∷ plans) [] saved parts place keys list part whole old between new is so before more = absurd cc
   parts_more (first ∷ plans) (runs ∷ lists) saved [] zero keys list part whole old between new is so before more =
       rw (same_plan first keys is, same_list runs list so, before.1) (
         new,
-        part_if keys (map (carried_over keys) saved) list part whole (whole ⊎ (◌≢◌ {A = List Part} [] [])) between new (one_of whole)
+        part_if keys (map (carried_over keys) saved) list part whole (whole ⊎ (◌≢◌ {A = List Notes} [] [])) between new (one_of whole)
             (subst (λ s. IsPart keys (map (carried_over keys) s) list part premises whole between new) (append-nil saved) more),
         (λ holds. take_none plans, refl),
       )
@@ -137,11 +138,11 @@ module _ (premises : Premises) where
     before.0,
     part_if first (map (carried_over first) saved) runs p (⊤ ⊎ (parts ≢ [])) (whole ⊎ (parts ++ part ∷ [] ≢ [])) old before.0 (λ both. inl tt) before.1,
     parts_more plans lists (saved ++ p.saved) parts place keys list part whole before.0 between new is so before.2
-        (subst (λ s. IsPart keys (map (carried_over keys) s) list part premises whole between new) (sym (append_assoc saved p.saved (flat_map part_saved parts))) more),
+        (subst (λ s. IsPart keys (map (carried_over keys) s) list part premises whole between new) (sym (append_assoc saved p.saved (flat_map noted_saves parts))) more),
   )
 
   -- as many parts as plans, where the runs on each were made
-  pub parts_long : (plans : List (List Key)) (runs : List (List Run)) (saved : List (List Known)) (parts : List Part) (old new : Past)
+  pub parts_long : (plans : List (List Key)) (runs : List (List Run)) (saved : List (List Known)) (parts : List Notes) (old new : Past)
       → AreParts plans runs saved parts premises ⊤ old new → length parts ≡ length plans
   parts_long plans runs saved [] old new are = ap length (sym (are.0 tt))
   parts_long [] runs saved (p ∷ parts) old new are = absurd are
@@ -149,7 +150,7 @@ module _ (premises : Premises) where
   parts_long (keys ∷ plans) (list ∷ runs) saved (p ∷ parts) old new are = ap (λ n. suc n) (parts_long plans runs (saved ++ p.saved) parts are.0 new are.2)
 
 -- one more part is the last
-pub last_short : (runs : List (List Run)) (parts : List Part) (part : Part) (place : ℕ) (list : List Run) → length parts ≡ place → slice_get runs place ≡ Some list
+pub last_short : (runs : List (List Run)) (parts : List Notes) (part : Notes) (place : ℕ) (list : List Run) → length parts ≡ place → slice_get runs place ≡ Some list
     → length part.ends < length list → LastIsShort runs (parts ++ part ∷ [])
 last_short [] parts part place list long is short = absurd cc
 last_short (first ∷ runs) [] part zero list long is short = subst (λ (l : List Run). length part.ends < length l) (sym (same_list first list is)) short

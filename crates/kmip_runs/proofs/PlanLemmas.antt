@@ -20,15 +20,15 @@ use Rattle.kmip_progress.specs.declared.known.Known.{Known}
 use Rattle.kmip_client.specs.Held.{TrueProgress}
 use Rattle.kmip_client.specs.Saving.{known_of}
 use Rattle.kmip_client.specs.declared.knowledge.Knowledge.{Knowledge}
-use Rattle.kmip_protocol.specs.Past.{AreAmong, Names, Past, is_planned}
+use Rattle.kmip_protocol.specs.Past.{Names, Past, is_planned}
 use Rattle.kmip_protocol.specs.Seen.{Seen}
 use Rattle.kmip_protocol.specs.Sound.{Sound}
 use Rattle.kmip_runs.specs.Campaign.{CalmLink}
 use Rattle.kmip_runs.specs.Headline.{GoodLink}
 use Rattle.kmip_runs.specs.PrivateCampaignParts.{AreSame, CampaignLaws, HasRunAll}
-use Rattle.kmip_runs.specs.Campaigns.{AreInTurn, AreParts, AreProlonged, CalmStart, GoodStart, IsPart, IsTrueFor, LastIsShort, Part, Premises, carried_over, first_plan, last_plan, part_ends, part_saved}
+use Rattle.kmip_runs.specs.Campaigns.{AreInTurn, AreParts, AreProlonged, CalmStart, GoodStart, IsPart, IsTrueFor, LastIsShort, Premises, carried_over, first_plan, last_plan, premises_of}
 use Rattle.kmip_runs.specs.PrivateCampaignsParts.{HasRunBroken, HasRunPart, HasRunPlans, HasRunWhole, IsGoodFor, IsReadFor, PlansLaws}
-use Rattle.kmip_runs.specs.Remembering.{AreKnownFrom, Shows, saved_after, saved_from}
+use Rattle.kmip_runs.specs.Remembering.{AreKnownFrom, Notes, Shows, noted_ends, noted_saves, notes_of, saved_after, saved_from}
 use Rattle.kmip_runs.specs.declared.campaign_end.CampaignEnd.{CampaignEnd}
 use Rattle.kmip_runs.specs.declared.run.Run.{Run}
 use Rattle.kmip_runs.specs.declared.run_end.RunEnd.{RunEnd}
@@ -73,25 +73,25 @@ saves_few saved (run ∷ runs) [] = omega arith
 saves_few saved (run ∷ runs) (knowns ∷ known) =
     omega (arith, saves_few (saved_after run knowns saved) runs known, one_saved run knowns saved)
 
-pub few_saved : (keys : List Key) (carried : List (List Known)) (runs : List Run) (ends : List RunEnd) (saved : List (List Known)) (honest whole : Type 0) (old new : Past)
-    → AreKnownFrom keys carried runs ends saved honest whole old new → length ends ≤ length runs → length saved ≤ length runs
-few_saved keys carried runs ends saved honest whole old new is few =
-    let as_many = AllZip-long (Shows keys) is.known ends is.shown in
+pub few_saved : (keys : List Key) (carried : List (List Known)) (runs : List Run) (notes : Notes) (honest whole : Type 0) (old new : Past)
+    → AreKnownFrom keys carried runs notes honest whole old new → length notes.ends ≤ length runs → length notes.saved ≤ length runs
+few_saved keys carried runs notes honest whole old new is few =
+    let as_many = AllZip-long (Shows keys) is.known notes.ends is.shown in
     let most = saves_few carried runs is.known in
-    omega (arith, as_many, most, few, ap length is.saved_are, length-append carried saved)
+    omega (arith, as_many, most, few, ap length is.saved_are, length-append carried notes.saved)
 
 -- ---- the runs of one plan
 
-pub known_for : (keys : List Key) (carried : List (List Known)) (runs : List Run) (ends : List RunEnd) (saved : List (List Known)) (honest other whole : Type 0) (old new : Past)
-    → (other → honest) → AreKnownFrom keys carried runs ends saved honest whole old new → AreKnownFrom keys carried runs ends saved other whole old new
-known_for keys carried runs ends saved honest other whole old new to is = record {
+pub known_for : (keys : List Key) (carried : List (List Known)) (runs : List Run) (notes : Notes) (honest other whole : Type 0) (old new : Past)
+    → (other → honest) → AreKnownFrom keys carried runs notes honest whole old new → AreKnownFrom keys carried runs notes other whole old new
+known_for keys carried runs notes honest other whole old new to is = record {
   known = is.known;
   shown = is.shown;
-  kept = is.kept;
+  forgets_nothing = is.forgets_nothing;
   saved_are = is.saved_are;
   until = is.until;
   heard = λ holds. is.heard (to holds);
-  grown = λ holds. is.grown (to holds);
+  takes_nothing_back = λ holds. is.takes_nothing_back (to holds);
   few_more = λ holds. is.few_more (to holds);
   no_more = is.no_more;
 }
@@ -153,10 +153,6 @@ take_long [] place x is = absurd cc
 take_long (y ∷ xs) zero x is = refl
 take_long (y ∷ xs) (suc place) x is = ap (λ n. suc n) (take_long xs place x is)
 
--- what is premised of the link before the runs on the first plan
-abbrev premises_of : List (List Key) → Seen → Premises
-premises_of plans start = record { honest = start.honest (is_planned (last_plan plans)); calm = CalmStart plans start }
-
 -- all that stands before the runs on the plan at a place
 module _ (plans : List (List Key)) (runs : List (List Run)) where
   pub record Reached (start link : Seen) (place : ℕ) (ends : List RunEnd) (saved carried : List (List Known)) : Type 0 where
@@ -165,9 +161,9 @@ module _ (plans : List (List Key)) (runs : List (List Run)) where
     pub carried_true : (keys : List Key) → slice_get plans place ≡ Some keys → All (TrueProgress link.past.objects keys) carried
 
   pub record Turning (start link : Seen) (place : ℕ) (end : CampaignEnd) (carried : List (List Known)) : Type 0 where
-    pub parts : List Part
-    pub ends_are : end.runs.items ≡ flat_map part_ends parts
-    pub saved_are : end.saved.items ≡ flat_map part_saved parts
+    pub parts : List Notes
+    pub ends_are : end.runs.items ≡ flat_map noted_ends parts
+    pub saved_are : end.saved.items ≡ flat_map noted_saves parts
     pub each : AreParts (take place plans) (take place runs) [] parts (premises_of plans start) ⊤ start.past link.past
     pub carried_are : (keys : List Key) → slice_get plans place ≡ Some keys → (carried ≡ map (carried_over keys) end.saved.items) × All (Suits keys) carried
     pub honest_still : (names : Names) → start.honest names → link.honest names
@@ -204,9 +200,9 @@ module _ (plans : List (List Key)) (runs : List (List Run)) where
 
   -- what the runs on the plan at a place leave, whole or broken off
   pub record Turned (start link : Seen) (place : ℕ) (end : CampaignEnd) (whole : Type 0) : Type 0 where
-    pub parts : List Part
-    pub ends_are : end.runs.items ≡ flat_map part_ends parts
-    pub saved_are : end.saved.items ≡ flat_map part_saved parts
+    pub parts : List Notes
+    pub ends_are : end.runs.items ≡ flat_map noted_ends parts
+    pub saved_are : end.saved.items ≡ flat_map noted_saves parts
     pub each : AreParts (take (suc place) plans) (take (suc place) runs) [] parts (premises_of plans start) whole start.past link.past
     pub good : GoodStart plans start → IsGoodFor (last_plan plans) start link end.runs.items end.saved.items
 
@@ -238,20 +234,20 @@ module _ (plans : List (List Key)) (runs : List (List Run)) where
         }
 
     part_of : (start x y : Seen) (place : ℕ) (keys : List Key) (list : List Run) (old : CampaignEnd) (carried : List (List Known)) (whole : Type 0) → IsLawful keys
-        → slice_get plans place ≡ Some keys → (before : Turning start x place old carried) (part : CampaignEnd) → HasRunAll keys carried list part x y
+        → slice_get plans place ≡ Some keys → (before : Turning start x place old carried) (part : CampaignEnd) → HasRunAll keys carried list (notes_of part) (part.fault ≡ None) x y
         → (whole → part.fault ≡ None)
-        → IsPart keys (map (carried_over keys) ([] ++ flat_map part_saved before.parts)) list (record { ends = part.runs.items; saved = part.saved.items })
+        → IsPart keys (map (carried_over keys) ([] ++ flat_map noted_saves before.parts)) list (record { ends = part.runs.items; saved = part.saved.items })
         (premises_of plans start) whole x.past y.past
     part_of start x y place keys list old carried whole lawful_keys is before part all to =
         let names = l.names (last_plan plans) keys lawful (last_prolongs l plans place keys prolonged is) in
-        let carried_is : carried ≡ map (carried_over keys) (flat_map part_saved before.parts) = (before.carried_are keys is).0 ∙ ap (map (carried_over keys)) before.saved_are in
+        let carried_is : carried ≡ map (carried_over keys) (flat_map noted_saves before.parts) = (before.carried_are keys is).0 ∙ ap (map (carried_over keys)) before.saved_are in
         record {
           order = all.order;
           complete = λ holds. all.complete (to holds);
-          known = subst (λ cs. AreKnownFrom keys cs list part.runs.items part.saved.items (start.honest (is_planned (last_plan plans))) whole x.past y.past) carried_is
-              (known_for keys carried list part.runs.items part.saved.items (x.honest (is_planned keys)) (start.honest (is_planned (last_plan plans))) whole x.past y.past
+          known = subst (λ cs. AreKnownFrom keys cs list (notes_of part) (start.honest (is_planned (last_plan plans))) whole x.past y.past) carried_is
+              (known_for keys carried list (notes_of part) (x.honest (is_planned keys)) (start.honest (is_planned (last_plan plans))) whole x.past y.past
               (λ holds. (x.fewer (is_planned (last_plan plans)) (is_planned keys) names).0 (before.honest_still (is_planned (last_plan plans)) holds))
-              (known_if keys carried list part.runs.items part.saved.items (x.honest (is_planned keys)) (part.fault ≡ None) whole x.past y.past to all.known));
+              (known_if keys carried list (notes_of part) (x.honest (is_planned keys)) (part.fault ≡ None) whole x.past y.past to all.known));
           settles = λ begun holds.
               (all.settles (calm_of start x place old keys carried is lawful_keys before begun)
               ((before.stands (begun_of start begun)).carried_true keys is) (to holds)).0;
@@ -262,18 +258,18 @@ module _ (plans : List (List Key)) (runs : List (List Run)) where
         → slice_get plans place ≡ Some keys → slice_get runs place ≡ Some list → Turning start x place old carried
         → (ran : HasRunPart keys carried list x y old new) → (whole → ran.part.fault ≡ None) → Turned start y place new whole
     turned start x y place keys list old new carried whole lawful_keys is so before ran to =
-        let part : Part = record { ends = ran.part.runs.items; saved = ran.part.saved.items } in
+        let part : Notes = record { ends = ran.part.runs.items; saved = ran.part.saved.items } in
         let prolongs = last_prolongs l plans place keys prolonged is in
         record {
           parts = before.parts ++ part ∷ [];
-          ends_are = ran.runs_are ∙ ap (λ ends. ends ++ ran.part.runs.items) before.ends_are ∙ flat_push part_ends before.parts part;
-          saved_are = ran.saved_are ∙ ap (λ saved. saved ++ ran.part.saved.items) before.saved_are ∙ flat_push part_saved before.parts part;
+          ends_are = ran.runs_are ∙ ap (λ ends. ends ++ ran.part.runs.items) before.ends_are ∙ flat_push noted_ends before.parts part;
+          saved_are = ran.saved_are ∙ ap (λ saved. saved ++ ran.part.saved.items) before.saved_are ∙ flat_push noted_saves before.parts part;
           each = parts_more (premises_of plans start) plans runs [] before.parts place keys list part whole start.past
               x.past y.past is so before.each (part_of start x y place keys list old carried whole lawful_keys is before ran.part ran.all to);
           good = λ begun.
               let reached = before.stands begun in
-              let (camp, kept) = ran.all.stands (good_of start x place old keys carried is lawful_keys before begun) (reached.carried_true keys is) in
-              let (last, went) = kept.good (last_plan plans) lawful prolongs reached.good.good in
+              let ended = ran.all.well (good_of start x place old keys carried is lawful_keys before begun) (reached.carried_true keys is) in
+              let (last, went) = ended.further.good (last_plan plans) lawful prolongs reached.good.good in
               record {
                 good = last;
                 went = record {
@@ -283,7 +279,7 @@ module _ (plans : List (List Key)) (runs : List (List Run)) where
                 noted = rw (ran.runs_are, ran.saved_are)
                     (noted_for_both (last_plan plans) y.past old.runs.items ran.part.runs.items old.saved.items ran.part.saved.items
                     (noted_for_onward r (last_plan plans) x.past y.past old.runs.items old.saved.items lawful went.onward reached.good.noted)
-                    (noted_over r l (last_plan plans) keys y.past ran.part.runs.items ran.part.saved.items lawful prolongs camp.noted));
+                    (noted_over r l (last_plan plans) keys y.past ran.part.runs.items ran.part.saved.items lawful prolongs ended.campaigned.noted));
               };
         }
 
@@ -309,11 +305,12 @@ module _ (plans : List (List Key)) (runs : List (List Run)) where
                 (before.carried_are keys is).0 ran.ran.saved_are,
             (reads next at).1,
           );
-          honest_still = λ names holds. all.honest_still names (before.honest_still names holds);
+          honest_still = λ names holds. all.stays_honest names (before.honest_still names holds);
           stands = λ begun.
               let reached = before.stands begun in
-              let (camp, kept) = all.stands (good_of start x place old keys carried is lawful_keys before begun) (reached.carried_true keys is) in
-              let (last, went) = kept.good (last_plan plans) lawful (last_prolongs l plans place keys prolonged is) reached.good.good in
+              let ended = all.well (good_of start x place old keys carried is lawful_keys before begun) (reached.carried_true keys is) in
+              let camp = ended.campaigned in
+              let (last, went) = ended.further.good (last_plan plans) lawful (last_prolongs l plans place keys prolonged is) reached.good.good in
               record {
                 good = end.good begun;
                 sound = λ next at lawful_next.
@@ -332,8 +329,8 @@ module _ (plans : List (List Key)) (runs : List (List Run)) where
               };
           calmly = λ begun.
               let reached = before.stands (begun_of start begun) in
-              let kept = (all.stands (good_of start x place old keys carried is lawful_keys before (begun_of start begun)) (reached.carried_true keys is)).1 in
-              kept.calmly ran.whole (last_plan plans) lawful (last_prolongs l plans place keys prolonged is) (before.calmly begun);
+              let ended = all.well (good_of start x place old keys carried is lawful_keys before (begun_of start begun)) (reached.carried_true keys is) in
+              ended.further.calmly ran.whole (last_plan plans) lawful (last_prolongs l plans place keys prolonged is) (before.calmly begun);
         }
 
     -- or one of them has no end, or nothing was carried over to the next plan
@@ -343,7 +340,7 @@ module _ (plans : List (List Key)) (runs : List (List Run)) where
         → (length (before.parts ++ record { ends = broken.ran.part.runs.items; saved = broken.ran.part.saved.items } ∷ []) < length plans)
         ⊎ LastIsShort runs (before.parts ++ record { ends = broken.ran.part.runs.items; saved = broken.ran.part.saved.items } ∷ [])
     broken_of start x y place keys next list old new carried is so next_is before broken =
-        let part : Part = record { ends = broken.ran.part.runs.items; saved = broken.ran.part.saved.items } in
+        let part : Notes = record { ends = broken.ran.part.runs.items; saved = broken.ran.part.saved.items } in
         let long : length before.parts ≡ place =
         parts_long (premises_of plans start) (take place plans) (take place runs) [] before.parts start.past x.past before.each
         ∙ take_long plans place keys is in
@@ -415,13 +412,13 @@ module _ (plans : List (List Key)) (runs : List (List Run)) where
       };
     }
 
-pub in_turn_if : (plans : List (List Key)) (runs : List (List Run)) (ends : List RunEnd) (saved : List (List Known)) (honest calm whole other : Type 0) (old new : Past)
-    → (other → whole) → (whole → other) → AreInTurn plans runs ends saved honest calm whole old new → AreInTurn plans runs ends saved honest calm other old new
-in_turn_if plans runs ends saved honest calm whole other old new to back are = record {
+pub in_turn_if : (plans : List (List Key)) (runs : List (List Run)) (notes : Notes) (premises : Premises) (whole other : Type 0) (old new : Past)
+    → (other → whole) → (whole → other) → AreInTurn plans runs notes premises whole old new → AreInTurn plans runs notes premises other old new
+in_turn_if plans runs notes premises whole other old new to back are = record {
   parts = are.parts;
   ends_are = are.ends_are;
   saved_are = are.saved_are;
-  each = parts_if (record { honest = honest; calm = calm }) plans runs [] are.parts whole other old new to are.each;
+  each = parts_if premises plans runs [] are.parts whole other old new to are.each;
   broken = λ but. are.broken (λ is. but (back is));
 }
 

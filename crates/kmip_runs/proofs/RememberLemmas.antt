@@ -16,8 +16,8 @@ use Rattle.kmip_protocol.specs.Moves.{Delivered}
 use Rattle.kmip_protocol.specs.Past.{Names, Past, is_planned}
 use Rattle.kmip_protocol.specs.Seen.{Seen}
 use Rattle.kmip_runs.specs.PrivateCampaignParts.{AreSame, HasEnded, HasRun, IsBroken, begins_with}
-use Rattle.kmip_runs.specs.Driving.{Grown, IsQuestion, Keeps, Learnt}
-use Rattle.kmip_runs.specs.Remembering.{AreAsked, AreHeard, AreKnownFrom, AreTaught, IsTalkOf, Shows, Talk, limit_at, saved_after, saved_from, start_knowns, starts, starts_from}
+use Rattle.kmip_runs.specs.Driving.{IsQuestion, Keeps, Learnt, TakesNothingBack}
+use Rattle.kmip_runs.specs.Remembering.{AreAsked, AreHeard, AreKnownFrom, AreTaught, IsTalkOf, Shows, Talk, limit_at, notes_of, saved_after, saved_from, start_knowns, starts, starts_from}
 use Rattle.kmip_runs.specs.declared.campaign_end.CampaignEnd.{CampaignEnd}
 use Rattle.kmip_runs.specs.declared.run.Run.{Run}
 use Rattle.kmip_runs.specs.declared.run_end.RunEnd.{RunEnd}
@@ -138,7 +138,7 @@ module _ (keys : List Key) (carried : List (List Known)) (runs : List Run) where
   pub record Recalled (c : ClientState) (x y : Seen) (ends : List RunEnd) (saved : List (List Known)) : Type 0 where
     pub known : List (List Knowledge)
     pub shown : AllZip (Shows keys) known ends
-    pub kept : AllZip (AllZip IsKept) (starts keys carried runs known) known
+    pub forgets_nothing : AllZip (AllZip IsKept) (starts keys carried runs known) known
     pub saved_are : carried ++ saved ≡ saved_from carried runs known
     pub last_is : c.knowns ≡ last_of known (fresh keys).knowns
     pub heard : x.honest (is_planned keys) → y.honest (is_planned keys) × AreHeard keys runs (starts keys carried runs known) known ends x.past y.past
@@ -151,7 +151,7 @@ module _ (keys : List Key) (carried : List (List Known)) (runs : List Run) where
       (record {
         known = [];
         shown = tt;
-        kept = subst (λ begun. AllZip (AllZip IsKept) begun []) (sym none) tt;
+        forgets_nothing = subst (λ begun. AllZip (AllZip IsKept) begun []) (sym none) tt;
         saved_are = append-nil carried ∙ sym (saved_none carried runs);
         last_is = is;
         heard = λ holds. (
@@ -171,7 +171,7 @@ module _ (keys : List Key) (carried : List (List Known)) (runs : List Run) where
 
   pub recalled_more : (a b : ClientState) (x y z : Seen) (run : Run) (old new : CampaignEnd) (place : ℕ) → slice_get runs place ≡ Some run
       → length old.runs.items ≡ place → Recalled a x y old.runs.items old.saved.items
-      → HasRun keys carried run a b (record { link = y; end = old }) (record { link = z; end = new }) → Recalled b x z new.runs.items new.saved.items
+      → HasRun keys carried run (record { client = a; link = y; end = old }) (record { client = b; link = z; end = new }) → Recalled b x z new.runs.items new.saved.items
   recalled_more a b x y z run old new place is long before ran =
       let noted = ran.ended.noted in
       let many = AllZip-long (Shows keys) before.known old.runs.items before.shown in
@@ -187,8 +187,8 @@ module _ (keys : List Key) (carried : List (List Known)) (runs : List Run) where
       (record {
         known = before.known ++ b.knowns ∷ [];
         shown = zip_push (Shows keys) before.known old.runs.items b.knowns noted.end before.shown noted.shows;
-        kept = subst (λ s. AllZip (AllZip IsKept) s (before.known ++ b.knowns ∷ [])) (sym further)
-            (zip_push (AllZip IsKept) (starts keys carried runs before.known) before.known start b.knowns before.kept ran.kept);
+        forgets_nothing = subst (λ s. AllZip (AllZip IsKept) s (before.known ++ b.knowns ∷ [])) (sym further)
+            (zip_push (AllZip IsKept) (starts keys carried runs before.known) before.known start b.knowns before.forgets_nothing ran.forgets_nothing);
         saved_are =
             ap (λ saved. carried ++ saved) ran.ended.saved_are ∙ saved_behind run b.knowns carried old.saved.items
             ∙ ap (λ saved. saved_after run b.knowns saved) before.saved_are ∙ sym (saves_more carried runs before.known run b.knowns at);
@@ -204,15 +204,15 @@ module _ (keys : List Key) (carried : List (List Known)) (runs : List Run) where
       })
 
   pub recalled_known : (c : ClientState) (x y : Seen) (ends : List RunEnd) (saved : List (List Known)) (whole : Type 0) → Recalled c x y ends saved
-      → AreKnownFrom keys carried runs ends saved (x.honest (is_planned keys)) whole x.past y.past
+      → AreKnownFrom keys carried runs (record { ends = ends; saved = saved }) (x.honest (is_planned keys)) whole x.past y.past
   recalled_known c x y ends saved whole recalled = record {
     known = recalled.known;
     shown = recalled.shown;
-    kept = recalled.kept;
+    forgets_nothing = recalled.forgets_nothing;
     saved_are = recalled.saved_are;
     until = y.past;
     heard = λ holds. (recalled.heard holds).1;
-    grown = λ holds. grown_itself y.past;
+    takes_nothing_back = λ holds. grown_itself y.past;
     few_more = λ holds. omega arith;
     no_more = λ is. refl;
   }
@@ -220,7 +220,7 @@ module _ (keys : List Key) (carried : List (List Known)) (runs : List Run) where
   -- the next run was broken off
   pub broken_known : (c : ClientState) (x y z : Seen) (run : Run) (old new : CampaignEnd) (place : ℕ) (whole : Type 0) → slice_get runs place ≡ Some run
       → length old.runs.items ≡ place → (whole → y.past ≡ z.past) → Recalled c x y old.runs.items old.saved.items → IsBroken keys run y z old new
-      → AreKnownFrom keys carried runs new.runs.items new.saved.items (x.honest (is_planned keys)) whole x.past z.past
+      → AreKnownFrom keys carried runs (notes_of new) (x.honest (is_planned keys)) whole x.past z.past
   broken_known c x y z run old new place whole is long no_more recalled broken =
       let many = AllZip-long (Shows keys) recalled.known old.runs.items recalled.shown in
       let at = subst (λ n. slice_get runs n ≡ Some run) (sym long ∙ many) is in
@@ -229,11 +229,11 @@ module _ (keys : List Key) (carried : List (List Known)) (runs : List Run) where
       (record {
         known = recalled.known;
         shown = recalled.shown;
-        kept = recalled.kept;
+        forgets_nothing = recalled.forgets_nothing;
         saved_are = recalled.saved_are;
         until = y.past;
         heard = λ holds. (recalled.heard holds).1;
-        grown = λ holds. broken.grown (recalled.heard holds).0;
+        takes_nothing_back = λ holds. broken.takes_nothing_back (recalled.heard holds).0;
         few_more = λ holds. rw limit (broken.few (recalled.heard holds).0);
         no_more = no_more;
       })
@@ -244,11 +244,11 @@ module _ (keys : List Key) (carried : List (List Known)) where
       → b.knowns ≡ begins_with keys carried run a old → Keeps b c
       → (x.honest (is_planned b.keys) → y.honest (is_planned b.keys) × Learnt b.keys b.batch x.past y.past b.knowns c.knowns driven.1)
       → HasEnded c.keys run c.knowns driven old new → ((names : Names) → y.honest names → z.honest names × Delivered names y.past z.past)
-      → HasRun keys carried run a c (record { link = x; end = old }) (record { link = z; end = new })
+      → HasRun keys carried run (record { client = a; link = x; end = old }) (record { client = c; link = z; end = new })
   ran_closed run a b c x y z driven old new b_keys b_batch begun keeps learnt ended closes = record {
     driven = driven;
     ended = subst (λ ks. HasEnded ks run c.knowns driven old new) (keeps.keys_stay ∙ b_keys) ended;
-    kept = subst (λ start. AllZip IsKept start c.knowns) begun keeps.kept;
+    forgets_nothing = subst (λ start. AllZip IsKept start c.knowns) begun keeps.kept;
     learnt = λ holds.
         let taught = learnt (subst (λ ks. x.honest (is_planned ks)) (sym b_keys) holds) in
         let close = closes (is_planned keys) (subst (λ ks. y.honest (is_planned ks)) b_keys taught.0) in (
@@ -262,25 +262,25 @@ module _ (keys : List Key) (carried : List (List Known)) where
   }
 
   -- or begun, driven and broken off
-  pub broken_off : (b : ClientState) (x y : Seen) (run : Run) (old new : CampaignEnd) → b.keys ≡ keys → (x.honest (is_planned b.keys) → Grown x.past y.past)
+  pub broken_off : (b : ClientState) (x y : Seen) (run : Run) (old new : CampaignEnd) → b.keys ≡ keys → (x.honest (is_planned b.keys) → TakesNothingBack x.past y.past)
       → (x.honest (is_planned b.keys) → length y.past.sent ≤ length x.past.sent + run.limit) → AreSame old new → IsBroken keys run x y old new
   broken_off b x y run old new b_keys grown few same = record {
     same = same;
-    grown = λ holds. grown (subst (λ ks. x.honest (is_planned ks)) (sym b_keys) holds);
+    takes_nothing_back = λ holds. grown (subst (λ ks. x.honest (is_planned ks)) (sym b_keys) holds);
     few = λ holds. few (subst (λ ks. x.honest (is_planned ks)) (sym b_keys) holds);
   }
 
   -- or begun and driven, and broken off where it was to be ended over the link
-  pub broken_closed : (b : ClientState) (x y z : Seen) (run : Run) (old new : CampaignEnd) → b.keys ≡ keys → (x.honest (is_planned b.keys) → Grown x.past y.past)
+  pub broken_closed : (b : ClientState) (x y z : Seen) (run : Run) (old new : CampaignEnd) → b.keys ≡ keys → (x.honest (is_planned b.keys) → TakesNothingBack x.past y.past)
       → (x.honest (is_planned b.keys) → length y.past.sent ≤ length x.past.sent + run.limit) → ((names : Names) → x.honest names → y.honest names)
       → ((names : Names) → y.honest names → z.honest names × Delivered names y.past z.past) → AreSame old new → IsBroken keys run x z old new
   broken_closed b x y z run old new b_keys grown few still closes same =
       let off = broken_off b x y run old new b_keys grown few same in
       record {
         same = same;
-        grown = λ holds.
+        takes_nothing_back = λ holds.
             let close = closes (is_planned keys) (still (is_planned keys) holds) in
-            grown_then x.past y.past z.past (off.grown holds) (delivered_grown (is_planned keys) y.past z.past close.1);
+            grown_then x.past y.past z.past (off.takes_nothing_back holds) (delivered_grown (is_planned keys) y.past z.past close.1);
         few = λ holds.
             let close = closes (is_planned keys) (still (is_planned keys) holds) in
             subst (λ sent. length sent ≤ length x.past.sent + run.limit) (sym (delivered_stays (is_planned keys) y.past z.past close.1).sent_stays) (off.few holds);

@@ -18,7 +18,7 @@ use Rattle.kmip_runs.specs.Campaign.{CalmLink, IsEnd, Settles, saves}
 use Rattle.kmip_runs.specs.Headline.{GoodLink}
 use Rattle.kmip_runs.specs.PrivateCampaignParts.{Campaigned, CampaignLaws, HasRun, HasSettled, Standing}
 use Rattle.kmip_runs.specs.Driving.{IsGood, KeepsFurther, WentOn}
-use Rattle.kmip_runs.specs.Remembering.{AreKnownFrom}
+use Rattle.kmip_runs.specs.Remembering.{AreKnownFrom, Notes, notes_of}
 use Rattle.kmip_runs.specs.declared.campaign_end.CampaignEnd.{CampaignEnd}
 use Rattle.kmip_runs.specs.declared.run.Run.{Run}
 use Rattle.kmip_runs.specs.declared.run_end.RunEnd.{RunEnd}
@@ -29,19 +29,20 @@ use Rattle.kmip_runs.proofs.FurtherLemmas.{further_nowhere, further_then}
 use Rattle.kmip_runs.proofs.OrderLemmas.{ends_more, saved_long, saves_more, zip_more}
 use Rattle.kmip_runs.proofs.RememberLemmas.{Recalled, recalled_more, recalled_none}
 
-pub record Running (keys : List Key) (carried : List (List Known)) (c : ClientState) (start link : Seen) (runs : List Run) (ends : List RunEnd) (saved : List (List Known)) (at : ℕ) : Type 0 where
+-- the first runs were made, and all is as it is to be before the next
+pub record Running (keys : List Key) (carried : List (List Known)) (c : ClientState) (start link : Seen) (runs : List Run) (notes : Notes) (at : ℕ) : Type 0 where
   pub keys_are : c.keys ≡ keys
-  pub suits : All (Suits keys) saved
+  pub suits : All (Suits keys) notes.saved
   pub stands : GoodLink keys start → All (TrueProgress start.past.objects keys) carried
-      → Standing keys c link ends saved × WentOn keys start.past link.past
+      → Standing keys c link notes.ends notes.saved × WentOn keys start.past link.past
   pub honest_still : (names : Names) → start.honest names → link.honest names
   pub further : GoodLink keys start → All (TrueProgress start.past.objects keys) carried
       → KeepsFurther keys ⊤ start link
-  pub each : AllZip (IsEnd keys) (take at runs) ends
-  pub settled : CalmLink keys start → All (TrueProgress start.past.objects keys) carried → AllZip (Settles keys) (take at runs) ends × CalmLink keys link
-  pub as_many_ends : length ends ≡ at
-  pub recalled : Recalled keys carried runs c start link ends saved
-  pub as_many : length saved ≡ length (filter saves (take at runs))
+  pub each : AllZip (IsEnd keys) (take at runs) notes.ends
+  pub settled : CalmLink keys start → All (TrueProgress start.past.objects keys) carried → AllZip (Settles keys) (take at runs) notes.ends × CalmLink keys link
+  pub as_many_ends : length notes.ends ≡ at
+  pub recalled : Recalled keys carried runs c start link notes.ends notes.saved
+  pub as_many : length notes.saved ≡ length (filter saves (take at runs))
 
 one_longer : (old new : List RunEnd) (end : RunEnd) (at : ℕ) → length old ≡ at → new ≡ old ++ end ∷ [] → length new ≡ suc at
 one_longer old new end at is joined = ap length joined ∙ length-append old (end ∷ []) ∙ omega (arith, is)
@@ -61,7 +62,7 @@ module _ (keys : List Key) (carried : List (List Known)) where
 
   -- what stands after one more run, whether it was broken off or not
   pub ran_on : CampaignLaws → (a b : ClientState) (start x y : Seen) (runs : List Run) (at : ℕ) (whole : Type 0) (ends nexts : List RunEnd) (saved kept : List (List Known))
-      → IsLawful keys → Running keys carried a start x runs ends saved at
+      → IsLawful keys → Running keys carried a start x runs (record { ends = ends; saved = saved }) at
       → (Standing keys a x ends saved → All (TrueProgress x.past.objects keys) carried
       → Standing keys b y nexts kept × WentOn keys x.past y.past)
       → (Standing keys a x ends saved → All (TrueProgress x.past.objects keys) carried → KeepsFurther keys whole x y)
@@ -77,7 +78,7 @@ module _ (keys : List Key) (carried : List (List Known)) where
       )
 
   pub ran_off : CampaignLaws → (a b : ClientState) (start x y : Seen) (runs : List Run) (at : ℕ) (whole : Type 0) (ends nexts : List RunEnd) (saved kept : List (List Known))
-      → IsLawful keys → b.keys ≡ keys → Running keys carried a start x runs ends saved at
+      → IsLawful keys → b.keys ≡ keys → Running keys carried a start x runs (record { ends = ends; saved = saved }) at
       → (Standing keys a x ends saved → All (TrueProgress x.past.objects keys) carried
       → Standing keys b y nexts kept × WentOn keys x.past y.past)
       → (Standing keys a x ends saved → All (TrueProgress x.past.objects keys) carried → KeepsFurther keys whole x y)
@@ -89,17 +90,17 @@ module _ (keys : List Key) (carried : List (List Known)) where
 
   -- and one more run
   pub running_more : CampaignLaws → (a b : ClientState) (start x y : Seen) (runs : List Run) (at : ℕ) (run : Run) (old new : CampaignEnd) → IsLawful keys
-      → slice_get runs at ≡ Some run → Running keys carried a start x runs old.runs.items old.saved.items at → b.keys ≡ keys → All (Suits keys) new.saved.items
+      → slice_get runs at ≡ Some run → Running keys carried a start x runs (notes_of old) at → b.keys ≡ keys → All (Suits keys) new.saved.items
       → (Standing keys a x old.runs.items old.saved.items → All (TrueProgress x.past.objects keys) carried
       → Standing keys b y new.runs.items new.saved.items × WentOn keys x.past y.past)
       → ((names : Names) → x.honest names → y.honest names)
       → (Standing keys a x old.runs.items old.saved.items → All (TrueProgress x.past.objects keys) carried → KeepsFurther keys ⊤ x y)
-      → HasRun keys carried run a b (record { link = x; end = old }) (record { link = y; end = new })
+      → HasRun keys carried run (record { client = a; link = x; end = old }) (record { client = b; link = y; end = new })
       → (Standing keys a x old.runs.items old.saved.items → All (TrueProgress x.past.objects keys) carried → CalmLink keys x
-      → HasSettled keys run old.runs.items new.runs.items × CalmLink keys y) → Running keys carried b start y runs new.runs.items new.saved.items (at + 1)
+      → HasSettled keys run old.runs.items new.runs.items × CalmLink keys y) → Running keys carried b start y runs (notes_of new) (at + 1)
   running_more l a b start x y runs at run old new lawful is before b_keys suits stands still further ran settles =
       let e : at + 1 ≡ suc at = omega arith in
-      subst (λ n. Running keys carried b start y runs new.runs.items new.saved.items n) (sym e)
+      subst (λ n. Running keys carried b start y runs (notes_of new) n) (sym e)
       (record {
         keys_are = b_keys;
         suits = suits;
@@ -126,7 +127,7 @@ module _ (keys : List Key) (carried : List (List Known)) where
 
   -- before the first
   pub running_none : CampaignLaws → (c : ClientState) (x : Seen) (runs : List Run) (ends : List RunEnd) (saved : List (List Known)) → c ≡ fresh keys
-      → ((objects : List Object) → Held objects c.keys c.knowns) → ends ≡ [] → saved ≡ [] → Running keys carried c x x runs ends saved 0
+      → ((objects : List Object) → Held objects c.keys c.knowns) → ends ≡ [] → saved ≡ [] → Running keys carried c x x runs (record { ends = ends; saved = saved }) 0
   running_none l c x runs ends saved is held no_end none_saved =
       let c_keys = ap (λ (s : ClientState). s.keys) is in
       record {
@@ -185,16 +186,16 @@ pub if_fault : {E P : Type 0} (r : Result (Unit {0}) E) (fault : Option E) → f
 if_fault (Ok tt) fault is some holds = absurd (some is)
 if_fault (Err e) fault is some holds = holds
 
-pub known_if : (keys : List Key) (carried : List (List Known)) (runs : List Run) (ends : List RunEnd) (saved : List (List Known)) (honest whole other : Type 0) (old new : Past)
-    → (other → whole) → AreKnownFrom keys carried runs ends saved honest whole old new → AreKnownFrom keys carried runs ends saved honest other old new
-known_if keys carried runs ends saved honest whole other old new to known = record {
+pub known_if : (keys : List Key) (carried : List (List Known)) (runs : List Run) (notes : Notes) (honest whole other : Type 0) (old new : Past)
+    → (other → whole) → AreKnownFrom keys carried runs notes honest whole old new → AreKnownFrom keys carried runs notes honest other old new
+known_if keys carried runs notes honest whole other old new to known = record {
   known = known.known;
   shown = known.shown;
-  kept = known.kept;
+  forgets_nothing = known.forgets_nothing;
   saved_are = known.saved_are;
   until = known.until;
   heard = known.heard;
-  grown = known.grown;
+  takes_nothing_back = known.takes_nothing_back;
   few_more = known.few_more;
   no_more = λ is. known.no_more (to is);
 }

@@ -15,7 +15,7 @@ use Rattle.kmip_client.specs.declared.knowledge.Knowledge.{Knowledge}
 use Rattle.kmip_runs.specs.Driving.{Learnt}
 use Rattle.kmip_runs.specs.declared.stop.Stop.{Stop}
 use Rattle.kmip_runs.specs.declared.stop.Stop.TheVariants as stops
-use Rattle.kmip_runs.specs.Saved.{AreKept, AreSaved, AreInTurn, IsInMemory, IsWhole, Moment, AreUnsaved, last_moment, text_at}
+use Rattle.kmip_runs.specs.Saved.{AreKept, AreSaved, AreTaughtInTurn, AreUnsaved, Grounds, IsInMemory, IsWhole, Moment, last_moment, snapshot, text_at}
 use Rattle.kmip_runs.specs.declared.save_fault.SaveFault.{SaveFault}
 use Rattle.kmip_runs.proofs.WentLemmas.{joined, kept_itself, kept_then, learnt_nothing, learnt_then, stop_is}
 
@@ -52,9 +52,9 @@ last_joined : (begun : Moment) (first : List Moment) (m : Moment) (second : List
 last_joined begun [] m second = refl
 last_joined begun (x ∷ first) m second = last_joined x first m second
 
-taught_joined : HearingIsBlind → (keys : List Key) (most : ℕ) (begun : Moment) (first : List Moment) (mid : Moment) (second : List Moment) → AreInTurn keys most begun first
-    → Learnt keys most (last_moment begun first).past mid.past (last_moment begun first).knowns mid.knowns 0 → AreInTurn keys most mid second
-    → AreInTurn keys most begun (first ++ second)
+taught_joined : HearingIsBlind → (keys : List Key) (most : ℕ) (begun : Moment) (first : List Moment) (mid : Moment) (second : List Moment) → AreTaughtInTurn keys most begun first
+    → Learnt keys most (last_moment begun first).past mid.past (last_moment begun first).knowns mid.knowns 0 → AreTaughtInTurn keys most mid second
+    → AreTaughtInTurn keys most begun (first ++ second)
 taught_joined blind keys most begun [] mid [] before between after = tt
 taught_joined blind keys most begun [] mid (m ∷ second) before between after =
     (learnt_then blind keys most begun.past mid.past m.past begun.knowns mid.knowns m.knowns 0 1 between after.0, after.1)
@@ -109,15 +109,15 @@ unsaved_none stops.Conflict count memory are = are
 unsaved_none stops.NoMemory count memory are = absurd (memory refl)
 
 -- nothing, where no exchange was made
-pub saved_none : (keys : List Key) (most : ℕ) (good honest : Type 0) (begun ended : Moment) (stop : Stop) (texts : List (List ℕ)) → AllZip IsKept begun.knowns ended.knowns
-    → (honest → stop ≢ stops.NoMemory → Learnt keys most begun.past ended.past begun.knowns ended.knowns 0) → AreSaved keys most good honest begun ended (Ok stop) 0 texts texts
-saved_none keys most good honest begun ended stop texts kept learnt = record {
+pub saved_none : (keys : List Key) (most : ℕ) (grounds : Grounds) (begun ended : Moment) (stop : Stop) (texts : List (List ℕ)) → AllZip IsKept begun.knowns ended.knowns
+    → (grounds.honest → stop ≢ stops.NoMemory → Learnt keys most begun.past ended.past begun.knowns ended.knowns 0) → AreSaved keys most grounds (snapshot begun texts) (snapshot ended texts) (Ok stop) 0
+saved_none keys most grounds begun ended stop texts kept learnt = record {
   moments = [];
   texts_are = sym (append-nil texts);
   unsaved = 0;
   are_unsaved = none_unsaved stop;
   as_many = refl;
-  kept = (kept, tt);
+  forgets_nothing = (kept, tt);
   taught = λ holds. tt;
   rest = λ holds memory. learnt holds (λ is. memory (ap Ok is));
   true_of = λ holds. All-nil (λ (m : Moment). Held ended.past.objects keys m.knowns);
@@ -125,16 +125,16 @@ saved_none keys most good honest begun ended stop texts kept learnt = record {
 }
 
 -- what is known after an exchange
-pub saved_one : (keys : List Key) (most : ℕ) (good honest : Type 0) (begun ended : Moment) (stop : Stop) (old new : List (List ℕ)) → AllZip IsKept begun.knowns ended.knowns
-    → (honest → Learnt keys most begun.past ended.past begun.knowns ended.knowns 1) → new ≡ old ++ text_at keys ended ∷ []
-    → (good → Held ended.past.objects keys ended.knowns) → AreSaved keys most good honest begun ended (Ok stop) 1 old new
-saved_one keys most good honest begun ended stop old new kept learnt is held = record {
+pub saved_one : (keys : List Key) (most : ℕ) (grounds : Grounds) (begun ended : Moment) (stop : Stop) (old new : List (List ℕ)) → AllZip IsKept begun.knowns ended.knowns
+    → (grounds.honest → Learnt keys most begun.past ended.past begun.knowns ended.knowns 1) → new ≡ old ++ text_at keys ended ∷ []
+    → (grounds.good → Held ended.past.objects keys ended.knowns) → AreSaved keys most grounds (snapshot begun old) (snapshot ended new) (Ok stop) 1
+saved_one keys most grounds begun ended stop old new kept learnt is held = record {
   moments = ended ∷ [];
   texts_are = is;
   unsaved = 0;
   are_unsaved = none_unsaved stop;
   as_many = refl;
-  kept = (kept, (kept_itself ended.knowns, tt));
+  forgets_nothing = (kept, (kept_itself ended.knowns, tt));
   taught = λ holds. (learnt holds, tt);
   rest = λ holds memory. learnt_nothing keys most ended.past ended.knowns;
   true_of = λ holds.
@@ -144,15 +144,15 @@ saved_one keys most good honest begun ended stop old new kept learnt is held = r
 }
 
 -- or nothing again, where it was not saved
-pub saved_not : (keys : List Key) (most : ℕ) (good honest : Type 0) (begun ended : Moment) (fault : SaveFault) (old new : List (List ℕ)) → AllZip IsKept begun.knowns ended.knowns
-    → (honest → Learnt keys most begun.past ended.past begun.knowns ended.knowns 1) → new ≡ old → AreSaved keys most good honest begun ended (Err fault) 1 old new
-saved_not keys most good honest begun ended fault old new kept learnt same = record {
+pub saved_not : (keys : List Key) (most : ℕ) (grounds : Grounds) (begun ended : Moment) (fault : SaveFault) (old new : List (List ℕ)) → AllZip IsKept begun.knowns ended.knowns
+    → (grounds.honest → Learnt keys most begun.past ended.past begun.knowns ended.knowns 1) → new ≡ old → AreSaved keys most grounds (snapshot begun old) (snapshot ended new) (Err fault) 1
+saved_not keys most grounds begun ended fault old new kept learnt same = record {
   moments = [];
   texts_are = same ∙ sym (append-nil old);
   unsaved = 1;
   are_unsaved = refl;
   as_many = refl;
-  kept = (kept, tt);
+  forgets_nothing = (kept, tt);
   taught = λ holds. tt;
   rest = λ holds memory. learnt holds;
   true_of = λ holds. All-nil (λ (m : Moment). Held ended.past.objects keys m.knowns);
@@ -160,29 +160,29 @@ saved_not keys most good honest begun ended fault old new kept learnt same = rec
 }
 
 -- or where memory ran out in it
-pub saved_broken : (keys : List Key) (most : ℕ) (good honest : Type 0) (begun ended : Moment) (made : ℕ) (texts : List (List ℕ)) → AllZip IsKept begun.knowns ended.knowns
-    → made ≤ 1 → AreSaved keys most good honest begun ended (Ok stops.NoMemory) made texts texts
-saved_broken keys most good honest begun ended made texts kept few = record {
+pub saved_broken : (keys : List Key) (most : ℕ) (grounds : Grounds) (begun ended : Moment) (made : ℕ) (texts : List (List ℕ)) → AllZip IsKept begun.knowns ended.knowns
+    → made ≤ 1 → AreSaved keys most grounds (snapshot begun texts) (snapshot ended texts) (Ok stops.NoMemory) made
+saved_broken keys most grounds begun ended made texts kept few = record {
   moments = [];
   texts_are = sym (append-nil texts);
   unsaved = made;
   are_unsaved = few;
   as_many = omega arith;
-  kept = (kept, tt);
+  forgets_nothing = (kept, tt);
   taught = λ holds. tt;
   rest = λ holds memory. absurd (memory refl);
   true_of = λ holds. All-nil (λ (m : Moment). Held ended.past.objects keys m.knowns);
   last_is = λ holds whole. absurd (whole refl);
 }
 
-pub saved_then : HearingIsBlind → (keys : List Key) (most : ℕ) (good honest : Type 0) (begun mid ended : Moment) (stop : Stop) (result : Result Stop SaveFault) (m n : ℕ)
-    (old between new : List (List ℕ)) → stop ≢ stops.NoMemory → StaysTrue keys good mid ended → AreSaved keys most good honest begun mid (Ok stop) m old between
-    → AreSaved keys most good honest mid ended result n between new → AreSaved keys most good honest begun ended result (m + n) old new
-saved_then blind keys most good honest begun mid ended stop result m n old between new memory stays a b =
+pub saved_then : HearingIsBlind → (keys : List Key) (most : ℕ) (grounds : Grounds) (begun mid ended : Moment) (stop : Stop) (result : Result Stop SaveFault) (m n : ℕ)
+    (old between new : List (List ℕ)) → stop ≢ stops.NoMemory → StaysTrue keys grounds.good mid ended → AreSaved keys most grounds (snapshot begun old) (snapshot mid between) (Ok stop) m
+    → AreSaved keys most grounds (snapshot mid between) (snapshot ended new) result n → AreSaved keys most grounds (snapshot begun old) (snapshot ended new) result (m + n)
+saved_then blind keys most grounds begun mid ended stop result m n old between new memory stays a b =
     let in_memory : IsInMemory (Ok stop) = λ is. memory (stop_is stop stops.NoMemory is) in
     let none = unsaved_none stop a.unsaved memory a.are_unsaved in
     let last = last_moment begun a.moments in
-    let rests = λ (holds : honest). subst (λ count. Learnt keys most last.past mid.past last.knowns mid.knowns count) none (a.rest holds in_memory) in
+    let rests = λ (holds : grounds.honest). subst (λ count. Learnt keys most last.past mid.past last.knowns mid.knowns count) none (a.rest holds in_memory) in
     record {
       moments = a.moments ++ b.moments;
       texts_are = joined old between new (map (text_at keys) a.moments) (map (text_at keys) b.moments) a.texts_are b.texts_are
@@ -190,34 +190,34 @@ saved_then blind keys most good honest begun mid ended stop result m n old betwe
       unsaved = b.unsaved;
       are_unsaved = b.are_unsaved;
       as_many = let long = length-append a.moments b.moments in omega (arith, long, none, a.as_many, b.as_many);
-      kept = subst (λ ms. AreKept begun.knowns ms) (sym (append_assoc a.moments b.moments (ended ∷ [])))
-          (kept_joined begun.knowns a.moments mid (b.moments ++ ended ∷ []) a.kept b.kept);
+      forgets_nothing = subst (λ ms. AreKept begun.knowns ms) (sym (append_assoc a.moments b.moments (ended ∷ [])))
+          (kept_joined begun.knowns a.moments mid (b.moments ++ ended ∷ []) a.forgets_nothing b.forgets_nothing);
       taught = λ holds. taught_joined blind keys most begun a.moments mid b.moments (a.taught holds) (rests holds) (b.taught holds);
       rest = λ holds whole. rest_joined blind keys most begun a.moments mid b.moments ended b.unsaved (rests holds) (b.rest holds whole);
       true_of = λ holds.
           All-append (λ (m : Moment). Held ended.past.objects keys m.knowns) a.moments b.moments
-          (still_true keys good mid ended a.moments stays holds (a.true_of holds)) (b.true_of holds);
+          (still_true keys grounds.good mid ended a.moments stays holds (a.true_of holds)) (b.true_of holds);
       last_is = λ holds whole. last_text keys begun a.moments mid b.moments ended (a.last_is holds memory) (b.last_is holds whole);
     }
 
 -- the end of the run saves nothing
-pub saved_closed : HearingIsBlind → (keys : List Key) (most : ℕ) (good honest : Type 0) (begun mid ended : Moment) (result last : Result Stop SaveFault) (m : ℕ) (old new : List (List ℕ))
-    → mid.knowns ≡ ended.knowns → (honest → Learnt keys most mid.past ended.past mid.knowns ended.knowns 0) → ((count : ℕ) → AreUnsaved result count → AreUnsaved last count)
-    → (IsInMemory last → IsInMemory result) → (IsWhole last → IsWhole result) → StaysTrue keys good mid ended → AreSaved keys most good honest begun mid result m old new
-    → AreSaved keys most good honest begun ended last m old new
-saved_closed blind keys most good honest begun mid ended result last m old new same learnt still memory whole stays a = record {
+pub saved_closed : HearingIsBlind → (keys : List Key) (most : ℕ) (grounds : Grounds) (begun mid ended : Moment) (result last : Result Stop SaveFault) (m : ℕ) (old new : List (List ℕ))
+    → mid.knowns ≡ ended.knowns → (grounds.honest → Learnt keys most mid.past ended.past mid.knowns ended.knowns 0) → ((count : ℕ) → AreUnsaved result count → AreUnsaved last count)
+    → (IsInMemory last → IsInMemory result) → (IsWhole last → IsWhole result) → StaysTrue keys grounds.good mid ended → AreSaved keys most grounds (snapshot begun old) (snapshot mid new) result m
+    → AreSaved keys most grounds (snapshot begun old) (snapshot ended new) last m
+saved_closed blind keys most grounds begun mid ended result last m old new same learnt still memory whole stays a = record {
   moments = a.moments;
   texts_are = a.texts_are;
   unsaved = a.unsaved;
   are_unsaved = still a.unsaved a.are_unsaved;
   as_many = a.as_many;
-  kept = kept_joined begun.knowns a.moments mid (ended ∷ []) a.kept (subst (λ ks. AllZip IsKept mid.knowns ks) same (kept_itself mid.knowns), tt);
+  forgets_nothing = kept_joined begun.knowns a.moments mid (ended ∷ []) a.forgets_nothing (subst (λ ks. AllZip IsKept mid.knowns ks) same (kept_itself mid.knowns), tt);
   taught = a.taught;
   rest = λ holds in_memory.
       let before = last_moment begun a.moments in
       let none : a.unsaved + 0 ≡ a.unsaved = omega arith in
       subst (λ n. Learnt keys most before.past ended.past before.knowns ended.knowns n) none
       (learnt_then blind keys most before.past mid.past ended.past before.knowns mid.knowns ended.knowns a.unsaved 0 (a.rest holds (memory in_memory)) (learnt holds));
-  true_of = λ holds. still_true keys good mid ended a.moments stays holds (a.true_of holds);
+  true_of = λ holds. still_true keys grounds.good mid ended a.moments stays holds (a.true_of holds);
   last_is = λ holds done. same_text keys most mid ended (learnt holds) ∙ a.last_is holds (whole done);
 }

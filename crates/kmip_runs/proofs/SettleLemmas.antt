@@ -19,7 +19,7 @@ use Rattle.kmip_protocol.specs.declared.link_fault.LinkFault.TheVariants.{Io, Fr
 use Rattle.kmip_protocol.specs.Needs.{need_all}
 use Rattle.kmip_protocol.specs.Ready.{IsReady}
 use Rattle.kmip_protocol.specs.Turns.{known_then, taught}
-use Rattle.kmip_runs.specs.Driving.{AreFinished, AsksOne, IsSettling, Nearer, Stands, need}
+use Rattle.kmip_runs.specs.Driving.{AreFinished, AsksOne, IsBorneOut, IsSettling, Nearer, need}
 use Rattle.kmip_runs.specs.Private.{IsToBePut}
 use Rattle.kmip_runs.specs.PrivateLawbook.{Lawbook}
 use Rattle.kmip_protocol.specs.Losses.{or_loss}
@@ -120,7 +120,7 @@ nearer_limit l c now x y limit lawful settling enough near =
     let nothing : need now y.past ≡ 0 = omega (arith, near.nearer, few, enough) in
     (omega (arith, near.nearer, few, enough), l.needless now.keys y.past.objects now.knowns near.settling.ready.held nothing)
 
-pub finished_stop : (keys : List Key) (knowns : List Knowledge) (stop : Stop) → AreFinished keys knowns → stop ≢ stops.NoMemory → Stands stop keys knowns → stop ≡ stops.AllFinished
+pub finished_stop : (keys : List Key) (knowns : List Knowledge) (stop : Stop) → AreFinished keys knowns → stop ≢ stops.NoMemory → IsBorneOut stop keys knowns → stop ≡ stops.AllFinished
 finished_stop keys knowns stops.AllFinished finished memory stands = refl
 finished_stop keys knowns stops.Limit finished memory stands =
     let both : Working ≡ Finished = sym stands.2 ∙ finished stands.0 stands.1 in

@@ -1,5 +1,5 @@
 -- Turns, one after the other: what was asked in them, and what was learnt.
-use Rattle.std.proofs.Common.{◌≡◌, ◌≢◌, ◌∙◌, ℕ, ◌+◌, List, [], ◌∷◌, ◌++◌, length, Option, Some, None, option_map, IsSome, Result, Ok, Err, IfErr, OnErr, OnOk, ap, arith, append-nil, inl, inr, refl, sym}
+use Rattle.std.proofs.Common.{◌≡◌, ◌≢◌, ◌∙◌, ℕ, ◌+◌, List, [], ◌∷◌, ◌++◌, length, Option, Some, None, option_map, IsSome, Result, Ok, Err, IfErr, OnErr, ap, arith, append-nil, inl, inr, refl, sym}
 use Rattle.std.proofs.lemmas.List.{length-append}
 use Rattle.kmip_client.specs.Asking.{after_ask, if_any, next_places, next_question, question_at, turn_behind}
 use Rattle.kmip_client.specs.Clients.{ClientState}

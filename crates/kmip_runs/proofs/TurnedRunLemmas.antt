@@ -6,7 +6,7 @@ use Rattle.kmip_client.specs.Clients.{ClientState, fresh}
 use Rattle.kmip_protocol.specs.Moves.{Delivered}
 use Rattle.kmip_protocol.specs.Past.{Names, Past, is_planned}
 use Rattle.kmip_protocol.specs.Seen.{Seen}
-use Rattle.kmip_runs.specs.PrivateCampaignParts.{AreSame, HasEnded}
+use Rattle.kmip_runs.specs.PrivateCampaignParts.{HasEnded}
 use Rattle.kmip_runs.specs.Driving.{Keeps}
 use Rattle.kmip_runs.specs.Remembering.{Talk, saved_after}
 use Rattle.kmip_runs.specs.Turning.{IsLeft, IsTurned, Turns}

@@ -17,11 +17,11 @@ use Rattle.kmip_protocol.specs.Moves.{Delivered}
 use Rattle.kmip_protocol.specs.Past.{Names, Past, is_planned}
 use Rattle.kmip_protocol.specs.Seen.{Seen}
 use Rattle.kmip_protocol.specs.Ready.{IsReady}
-use Rattle.kmip_runs.specs.Driving.{AsksOne, Grown, IsGood, IsQuestion, Keeps, Learnt, LearntUntil, WentOn, need}
+use Rattle.kmip_runs.specs.Driving.{AsksOne, IsGood, IsQuestion, Keeps, Learnt, LearntUntil, TakesNothingBack, WentOn, need}
 use Rattle.kmip_runs.specs.declared.stop.Stop.{Stop}
 use Rattle.kmip_runs.specs.declared.stop.Stop.TheVariants as stops
 use Rattle.kmip_runs.specs.PrivateCarried.{CarryingLaws, Went}
-use Rattle.kmip_runs.specs.Saved.{IsInMemory, IsWhole}
+use Rattle.kmip_runs.specs.Saved.{IsInMemory, IsWhole, Situation}
 use Rattle.kmip_runs.specs.declared.save_fault.SaveFault.{SaveFault}
 
 abbrev ok : Stop → Result Stop SaveFault
@@ -194,17 +194,17 @@ grown_by old between new first second = (first.0 ++ second.0, joined old between
 still : {A : Type 0} (old new : List A) → new ≡ old → (more : List A) × (new ≡ old ++ more)
 still old new same = ([], same ∙ sym (append-nil old))
 
-grown_itself : (p : Past) → Grown p p
+grown_itself : (p : Past) → TakesNothingBack p p
 grown_itself p = record { requests = still p.requests p.requests refl; sent = still p.sent p.sent refl; handed = still p.handed p.handed refl }
 
-grown_then : (old between new : Past) → Grown old between → Grown between new → Grown old new
+grown_then : (old between new : Past) → TakesNothingBack old between → TakesNothingBack between new → TakesNothingBack old new
 grown_then old between new first second = record {
   requests = grown_by old.requests between.requests new.requests first.requests second.requests;
   sent = grown_by old.sent between.sent new.sent first.sent second.sent;
   handed = grown_by old.handed between.handed new.handed first.handed second.handed;
 }
 
-grown_delivered : DeliveriesKeepTheRequests → (names : Names) (old new : Past) → Delivered names old new → Grown old new
+grown_delivered : DeliveriesKeepTheRequests → (names : Names) (old new : Past) → Delivered names old new → TakesNothingBack old new
 grown_delivered requests names old new done =
     let grows = requests names old new done in
     record {
@@ -223,137 +223,137 @@ stop_is s t is = cc
 
 -- ---- exchanges, one after the other
 
-pub went_nowhere : CarryingLaws → (c : ClientState) (x : Seen) (result : Result Stop SaveFault) → IsInMemory result → Went c c x x result 0
-went_nowhere l c x result memory = record {
+pub went_nowhere : CarryingLaws → (a : Situation) (result : Result Stop SaveFault) → IsInMemory result → Went a a result 0
+went_nowhere l a result memory = record {
   good = λ good. good;
-  goes = λ good. record { onward = l.itself c.keys x.past.objects; mirrored = λ image. image };
-  known = λ holds. (holds, λ in_memory. learnt_nothing c.keys c.batch x.past c.knowns);
+  onward = λ good. record { onward = l.itself a.client.keys a.link.past.objects; mirrored = λ image. image };
+  learns = λ holds. (holds, λ in_memory. learnt_nothing a.client.keys a.client.batch a.link.past a.client.knowns);
   broken = λ holds is. absurd (memory is);
-  grown = λ holds. grown_itself x.past;
-  keeps = keeps_itself c;
+  takes_nothing_back = λ holds. grown_itself a.link.past;
+  keeps = keeps_itself a.client;
   near = λ settling whole. record { settling = settling; nearer = omega arith; exactly = λ one. omega arith };
 }
 
 -- where there was no memory to begin with
-pub went_unbegun : CarryingLaws → (c : ClientState) (x : Seen) → Went c c x x (Ok stops.NoMemory) 0
-went_unbegun l c x = record {
+pub went_unbegun : CarryingLaws → (a : Situation) → Went a a (Ok stops.NoMemory) 0
+went_unbegun l a = record {
   good = λ good. good;
-  goes = λ good. record { onward = l.itself c.keys x.past.objects; mirrored = λ image. image };
-  known = λ holds. (holds, λ memory. absurd (memory refl));
+  onward = λ good. record { onward = l.itself a.client.keys a.link.past.objects; mirrored = λ image. image };
+  learns = λ holds. (holds, λ memory. absurd (memory refl));
   broken = λ holds is. record {
-    between = x.past;
+    between = a.link.past;
     heard = 0;
-    learnt = learnt_nothing c.keys c.batch x.past c.knowns;
+    learnt = learnt_nothing a.client.keys a.client.batch a.link.past a.client.knowns;
     broken = inl (refl, record { asked = inl refl; sent_stays = refl; handed_stays = refl });
   };
-  grown = λ holds. grown_itself x.past;
-  keeps = keeps_itself c;
+  takes_nothing_back = λ holds. grown_itself a.link.past;
+  keeps = keeps_itself a.client;
   near = λ settling whole. absurd (whole refl);
 }
 
-pub went_then : CarryingLaws → (a b c : ClientState) (x y z : Seen) (stop : Stop) (result : Result Stop SaveFault) (m n : ℕ) → stop ≢ stops.NoMemory
-    → Went a b x y (Ok stop) m → Went b c y z result n → Went a c x z result (m + n)
-went_then l a b c x y z stop result m n memory first second =
+pub went_then : CarryingLaws → (a b c : Situation) (stop : Stop) (result : Result Stop SaveFault) (m n : ℕ) → stop ≢ stops.NoMemory
+    → Went a b (Ok stop) m → Went b c result n → Went a c result (m + n)
+went_then l a b c stop result m n memory first second =
     let in_memory : IsInMemory (Ok stop) = λ is. memory (stop_is stop stops.NoMemory is) in
     let keys = first.keeps.keys_stay in
     record {
       good = λ good. second.good (first.good good);
-      goes = λ good.
-          let before = first.goes good in
-          let after = subst (λ ks. WentOn ks y.past z.past) keys (second.goes (first.good good)) in
+      onward = λ good.
+          let before = first.onward good in
+          let after = subst (λ ks. WentOn ks b.link.past c.link.past) keys (second.onward (first.good good)) in
           record {
-            onward = l.twice a.keys x.past.objects y.past.objects z.past.objects before.onward after.onward;
+            onward = l.twice a.client.keys a.link.past.objects b.link.past.objects c.link.past.objects before.onward after.onward;
             mirrored = λ image. after.mirrored (before.mirrored image);
           };
-      known = λ holds.
-          let before = first.known holds in
-          let after = second.known (subst (λ ks. y.honest (is_planned ks)) (sym keys) before.0) in (
-            subst (λ ks. z.honest (is_planned ks)) keys after.0,
+      learns = λ holds.
+          let before = first.learns holds in
+          let after = second.learns (subst (λ ks. b.link.honest (is_planned ks)) (sym keys) before.0) in (
+            subst (λ ks. c.link.honest (is_planned ks)) keys after.0,
             λ whole.
-                learnt_then l.blind a.keys a.batch x.past y.past z.past a.knowns b.knowns c.knowns m n (before.1 in_memory)
-                (subst (λ ks. Learnt ks a.batch y.past z.past b.knowns c.knowns n) keys
-                (subst (λ most. Learnt b.keys most y.past z.past b.knowns c.knowns n) first.keeps.batch_stays (after.1 whole))),
+                learnt_then l.blind a.client.keys a.client.batch a.link.past b.link.past c.link.past a.client.knowns b.client.knowns c.client.knowns m n (before.1 in_memory)
+                (subst (λ ks. Learnt ks a.client.batch b.link.past c.link.past b.client.knowns c.client.knowns n) keys
+                (subst (λ most. Learnt b.client.keys most b.link.past c.link.past b.client.knowns c.client.knowns n) first.keeps.batch_stays (after.1 whole))),
           );
       broken = λ holds is.
-          let before = first.known holds in
-          let after = second.broken (subst (λ ks. y.honest (is_planned ks)) (sym keys) before.0) is in
-          until_then l.blind a.keys a.batch x.past y.past z.past a.knowns b.knowns c.knowns m n (before.1 in_memory)
-          (subst (λ ks. LearntUntil ks a.batch y.past z.past b.knowns c.knowns n) keys
-          (subst (λ most. LearntUntil b.keys most y.past z.past b.knowns c.knowns n) first.keeps.batch_stays after));
-      grown = λ holds.
-          grown_then x.past y.past z.past (first.grown holds) (second.grown (subst (λ ks. y.honest (is_planned ks)) (sym keys) (first.known holds).0));
-      keeps = keeps_then a b c first.keeps second.keeps;
+          let before = first.learns holds in
+          let after = second.broken (subst (λ ks. b.link.honest (is_planned ks)) (sym keys) before.0) is in
+          until_then l.blind a.client.keys a.client.batch a.link.past b.link.past c.link.past a.client.knowns b.client.knowns c.client.knowns m n (before.1 in_memory)
+          (subst (λ ks. LearntUntil ks a.client.batch b.link.past c.link.past b.client.knowns c.client.knowns n) keys
+          (subst (λ most. LearntUntil b.client.keys most b.link.past c.link.past b.client.knowns c.client.knowns n) first.keeps.batch_stays after));
+      takes_nothing_back = λ holds.
+          grown_then a.link.past b.link.past c.link.past (first.takes_nothing_back holds) (second.takes_nothing_back (subst (λ ks. b.link.honest (is_planned ks)) (sym keys) (first.learns holds).0));
+      keeps = keeps_then a.client b.client c.client first.keeps second.keeps;
       near = λ settling whole.
           let before = first.near settling memory in
           let after = second.near before.settling whole in
           record {
             settling = after.settling;
             nearer = omega (arith, before.nearer, after.nearer);
-            exactly = λ one. omega (arith, before.exactly one, after.exactly (asks_one a b first.keeps one));
+            exactly = λ one. omega (arith, before.exactly one, after.exactly (asks_one a.client b.client first.keeps one));
           };
     }
 
 -- the end of the run, after these exchanges
-pub went_closed : {V E : Type 0} → CarryingLaws → (a b : ClientState) (x y z : Seen) (result ended : Result Stop SaveFault) (closed : Result V E) (m : ℕ) → IsLawful a.keys
-    → ((names : Names) → y.honest names → z.honest names × Delivered names y.past z.past)
-    → ((names : Names) → y.calm names → z.calm names × OnOk closed (z.past ≡ y.past)) → (IsInMemory ended → IsInMemory result)
+pub went_closed : {V E : Type 0} → CarryingLaws → (a b : Situation) (z : Seen) (result ended : Result Stop SaveFault) (closed : Result V E) (m : ℕ) → IsLawful a.client.keys
+    → ((names : Names) → b.link.honest names → z.honest names × Delivered names b.link.past z.past)
+    → ((names : Names) → b.link.calm names → z.calm names × OnOk closed (z.past ≡ b.link.past)) → (IsInMemory ended → IsInMemory result)
     → (ended ≡ Ok stops.NoMemory → (result ≡ Ok stops.NoMemory) ⊎ IsInMemory result)
-    → (IsWhole ended → IsWhole result × (OnOk closed (z.past ≡ y.past) → z.past ≡ y.past)) → Went a b x y result m → Went a b x z ended m
-went_closed l a b x y z result ended closed m lawful delivers calms memory cut whole first =
+    → (IsWhole ended → IsWhole result × (OnOk closed (z.past ≡ b.link.past) → z.past ≡ b.link.past)) → Went a b result m → Went a (record b { link = z }) ended m
+went_closed l a b z result ended closed m lawful delivers calms memory cut whole first =
     let keys = first.keeps.keys_stay in
     record {
       good = λ good. (good_closed (first.good good)).0;
-      goes = λ good.
-          let before = first.goes good in
-          let after = subst (λ ks. WentOn ks y.past z.past) keys (good_closed (first.good good)).1 in
+      onward = λ good.
+          let before = first.onward good in
+          let after = subst (λ ks. WentOn ks b.link.past z.past) keys (good_closed (first.good good)).1 in
           record {
-            onward = l.twice a.keys x.past.objects y.past.objects z.past.objects before.onward after.onward;
+            onward = l.twice a.client.keys a.link.past.objects b.link.past.objects z.past.objects before.onward after.onward;
             mirrored = λ image. after.mirrored (before.mirrored image);
           };
-      known = λ holds.
-          let before = first.known holds in
-          let step = delivers (is_planned a.keys) before.0 in (
+      learns = λ holds.
+          let before = first.learns holds in
+          let step = delivers (is_planned a.client.keys) before.0 in (
             step.0,
             λ in_memory.
                 let none : m + 0 ≡ m = omega arith in
-                subst (λ n. Learnt a.keys a.batch x.past z.past a.knowns b.knowns n) none
-                (learnt_then l.blind a.keys a.batch x.past y.past z.past a.knowns b.knowns b.knowns m 0 (before.1 (memory in_memory))
-                (learnt_delivered l.requests a.keys a.batch (is_planned a.keys) y.past z.past b.knowns step.1)),
+                subst (λ n. Learnt a.client.keys a.client.batch a.link.past z.past a.client.knowns b.client.knowns n) none
+                (learnt_then l.blind a.client.keys a.client.batch a.link.past b.link.past z.past a.client.knowns b.client.knowns b.client.knowns m 0 (before.1 (memory in_memory))
+                (learnt_delivered l.requests a.client.keys a.client.batch (is_planned a.client.keys) b.link.past z.past b.client.knowns step.1)),
           );
       broken = λ holds is.
-          let before = first.known holds in
-          let step = delivers (is_planned a.keys) before.0 in
+          let before = first.learns holds in
+          let step = delivers (is_planned a.client.keys) before.0 in
           elim (cut is) [
-            | inl so ↦ until_delivered l.requests a.keys a.batch (is_planned a.keys) x.past y.past z.past a.knowns b.knowns m step.1 (first.broken holds so)
-            | inr in_memory ↦ until_behind l.requests a.keys a.batch (is_planned a.keys) x.past y.past z.past a.knowns b.knowns m step.1 (before.1 in_memory)
+            | inl so ↦ until_delivered l.requests a.client.keys a.client.batch (is_planned a.client.keys) a.link.past b.link.past z.past a.client.knowns b.client.knowns m step.1 (first.broken holds so)
+            | inr in_memory ↦ until_behind l.requests a.client.keys a.client.batch (is_planned a.client.keys) a.link.past b.link.past z.past a.client.knowns b.client.knowns m step.1 (before.1 in_memory)
           ];
-      grown = λ holds.
-          let step = delivers (is_planned a.keys) (first.known holds).0 in
-          grown_then x.past y.past z.past (first.grown holds) (grown_delivered l.requests (is_planned a.keys) y.past z.past step.1);
+      takes_nothing_back = λ holds.
+          let step = delivers (is_planned a.client.keys) (first.learns holds).0 in
+          grown_then a.link.past b.link.past z.past (first.takes_nothing_back holds) (grown_delivered l.requests (is_planned a.client.keys) b.link.past z.past step.1);
       keeps = first.keeps;
       near = λ settling done.
           let held = whole done in
           let before = first.near settling held.0 in
-          let step = calms (is_planned b.keys) before.settling.calm_for in
+          let step = calms (is_planned b.client.keys) before.settling.calm_for in
           let same = held.1 step.1 in
           record {
             settling = record {
               calm_for = step.0;
-              ready = subst (λ (p : Past). IsReady p.room b.keys p.objects b.knowns) (sym same) before.settling.ready;
+              ready = subst (λ (p : Past). IsReady p.room b.client.keys p.objects b.client.knowns) (sym same) before.settling.ready;
             };
-            nearer = subst (λ (p : Past). m + need b p ≤ need a x.past) (sym same) before.nearer;
-            exactly = λ one. subst (λ (p : Past). m + need b p ≡ need a x.past) (sym same) (before.exactly one);
+            nearer = subst (λ (p : Past). m + need b.client p ≤ need a.client a.link.past) (sym same) before.nearer;
+            exactly = λ one. subst (λ (p : Past). m + need b.client p ≡ need a.client a.link.past) (sym same) (before.exactly one);
           };
     }
   where
-    good_closed : IsGood b y → IsGood b z × WentOn b.keys y.past z.past
+    good_closed : IsGood b.client b.link → IsGood b.client z × WentOn b.client.keys b.link.past z.past
     good_closed good =
-        let step = delivers (is_planned b.keys) good.honest_for in
-        let on = l.onward b.keys y.past z.past good.sound step.1 in (
+        let step = delivers (is_planned b.client.keys) good.honest_for in
+        let on = l.onward b.client.keys b.link.past z.past good.sound step.1 in (
           record {
             honest_for = step.0;
-            sound = l.deliveries b.keys y.past z.past good.sound step.1;
-            held = l.known_for_good b.keys b.knowns y.past.objects z.past.objects (subst (λ ks. IsLawful ks) (sym first.keeps.keys_stay) lawful) on good.held;
+            sound = l.deliveries b.client.keys b.link.past z.past good.sound step.1;
+            held = l.known_for_good b.client.keys b.client.knowns b.link.past.objects z.past.objects (subst (λ ks. IsLawful ks) (sym first.keeps.keys_stay) lawful) on good.held;
           },
-          record { onward = on; mirrored = λ image. l.images b.keys y.past z.past good.sound image step.1 },
+          record { onward = on; mirrored = λ image. l.images b.client.keys b.link.past z.past good.sound image step.1 },
         )

@@ -9,7 +9,7 @@ use Rattle.kmip_client.specs.Knowledge.{chain_length}
 use Rattle.kmip_client.specs.declared.clash.Clash.{Clash}
 use Rattle.kmip_client.specs.declared.verdict.Verdict.{Verdict}
 use Rattle.kmip_client.specs.declared.verdict.Verdict.TheVariants.{Working, Finished, Conflict}
-use Rattle.kmip_protocol.specs.Past.{Past, Names, is_planned}
+use Rattle.kmip_protocol.specs.Past.{is_planned}
 use Rattle.kmip_protocol.specs.Seen.{Seen}
 use Rattle.kmip_protocol.specs.Sound.{Sound}
 use Rattle.kmip_protocol.specs.Needs.{missing}

@@ -8,14 +8,13 @@ use Rattle.kmip_plan.specs.declared.key.Key.{Key}
 use Rattle.kmip_progress.specs.Suiting.{nothing_known}
 use Rattle.kmip_progress.specs.declared.known.Known.{Known}
 use Rattle.kmip_client.specs.Held.{TrueProgress}
-use Rattle.kmip_protocol.specs.Past.{Names, Past, is_planned}
+use Rattle.kmip_protocol.specs.Past.{Past, is_planned}
 use Rattle.kmip_protocol.specs.Seen.{Seen}
 use Rattle.kmip_protocol.specs.Sound.{NoneIsFurther, Sound}
 use Rattle.kmip_protocol.specs.Needs.{missing}
 use Rattle.kmip_runs.specs.Campaign.{IsEnd, Settles, saves}
-use Rattle.kmip_runs.specs.Remembering.{AreKnownFrom}
+use Rattle.kmip_runs.specs.Remembering.{AreKnownFrom, Notes, noted_ends, noted_saves}
 use Rattle.kmip_runs.specs.declared.run.Run.{Run}
-use Rattle.kmip_runs.specs.declared.run_end.RunEnd.{RunEnd}
 
 -- each plan prolongs the one before it
 abbrev pub AreProlonged : List (List Key) → Type 0
@@ -59,35 +58,26 @@ carried_over keys saved = saved ++ map (λ key. nothing_known) (drop (length sav
 abbrev pub IsTrueFor : List Object → List Key → List Known → Type 0
 IsTrueFor objects keys saved = TrueProgress objects keys (carried_over keys saved)
 
--- what the runs on one plan noted: their ends, and what was saved
-pub record Part : Type 0 where
-  pub ends : List RunEnd
-  pub saved : List (List Known)
-
--- the ends that the runs on one plan noted
-abbrev pub part_ends : Part → List RunEnd
-part_ends part = part.ends
-
--- what the runs on one plan saved
-abbrev pub part_saved : Part → List (List Known)
-part_saved part = part.saved
-
 -- what may be premised of the link where the first run begins: that it is honest, and that all is calm
 pub record Premises : Type 1 where
   pub honest : Type 0
   pub calm : Type 0
 
+-- what is premised of this link for these plans
+abbrev pub premises_of : List (List Key) → Seen → Premises
+premises_of plans link = record { honest = link.honest (is_planned (last_plan plans)); calm = CalmStart plans link }
+
 -- These runs were made on a plan, between two pasts, as in a campaign on this plan alone that finds what was
 -- carried over to it.
-pub record IsPart (keys : List Key) (carried : List (List Known)) (runs : List Run) (part : Part) (premises : Premises) (whole : Type 0) (old new : Past) : Type 0 where
+pub record IsPart (keys : List Key) (carried : List (List Known)) (runs : List Run) (part : Notes) (premises : Premises) (whole : Type 0) (old new : Past) : Type 0 where
   pub order : AllZip (IsEnd keys) (take (length part.ends) runs) part.ends
   pub complete : whole → AllZip (IsEnd keys) runs part.ends × (length part.saved ≡ length (filter saves runs))
-  pub known : AreKnownFrom keys carried runs part.ends part.saved premises.honest whole old new
+  pub known : AreKnownFrom keys carried runs part premises.honest whole old new
   pub settles : premises.calm → whole → AllZip (Settles keys) runs part.ends
 
 -- The lists of runs were made on the plans in turn, the last of them whole or broken off. What was saved so
 -- far is carried over to each plan.
-abbrev pub AreParts : List (List Key) → List (List Run) → List (List Known) → List Part → Premises → Type 0 → Past → Past → Type 0
+abbrev pub AreParts : List (List Key) → List (List Run) → List (List Known) → List Notes → Premises → Type 0 → Past → Past → Type 0
 AreParts plans runs saved [] premises whole old new = (whole → plans ≡ []) × (old ≡ new)
 AreParts [] runs saved (part ∷ parts) premises whole old new = ⊥
 AreParts (keys ∷ plans) [] saved (part ∷ parts) premises whole old new = ⊥
@@ -96,7 +86,7 @@ AreParts (keys ∷ plans) (list ∷ runs) saved (part ∷ parts) premises whole 
     × AreParts plans runs (saved ++ part.saved) parts premises whole between new
 
 -- the last of these parts has fewer ends than its list has runs
-abbrev pub LastIsShort : List (List Run) → List Part → Type 0
+abbrev pub LastIsShort : List (List Run) → List Notes → Type 0
 LastIsShort runs [] = ⊥
 LastIsShort [] (part ∷ parts) = ⊥
 LastIsShort (list ∷ runs) (part ∷ []) = length part.ends < length list
@@ -104,9 +94,9 @@ LastIsShort (list ∷ runs) (part ∷ next ∷ parts) = LastIsShort runs (next �
 
 -- What is noted is what the runs on the plans noted, one plan after the other. Where memory ran out, the last
 -- part lacks an end, or there are fewer parts than plans.
-pub record AreInTurn (plans : List (List Key)) (runs : List (List Run)) (ends : List RunEnd) (saved : List (List Known)) (honest calm whole : Type 0) (old new : Past) : Type 0 where
-  pub parts : List Part
-  pub ends_are : ends ≡ flat_map part_ends parts
-  pub saved_are : saved ≡ flat_map part_saved parts
-  pub each : AreParts plans runs [] parts (record { honest = honest; calm = calm }) whole old new
+pub record AreInTurn (plans : List (List Key)) (runs : List (List Run)) (notes : Notes) (premises : Premises) (whole : Type 0) (old new : Past) : Type 0 where
+  pub parts : List Notes
+  pub ends_are : notes.ends ≡ flat_map noted_ends parts
+  pub saved_are : notes.saved ≡ flat_map noted_saves parts
+  pub each : AreParts plans runs [] parts premises whole old new
   pub broken : (whole → ⊥) → (length parts < length plans) ⊎ LastIsShort runs parts

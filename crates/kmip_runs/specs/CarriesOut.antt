@@ -6,11 +6,11 @@ use Rattle.kmip_plan.specs.Chains.{bound}
 use Rattle.kmip_protocol.specs.Ending.{EndedAt}
 use Rattle.kmip_protocol.specs.Past.{is_planned}
 use Rattle.kmip_protocol.specs.Seen.{Seen}
-use Rattle.kmip_runs.specs.Driving.{AsksOne, Grown, IsGood, IsSettling, Keeps, Learnt, LearntUntil, Nearer, Stands, WentOn, need}
+use Rattle.kmip_runs.specs.Driving.{AsksOne, IsBorneOut, IsGood, IsSettling, Keeps, Learnt, LearntUntil, Nearer, TakesNothingBack, WentOn, need}
 use Rattle.kmip_runs.specs.Keeping.{Kept}
 use Rattle.kmip_runs.specs.Losing.{ArePaid, IsEnough, left_for}
 use Rattle.kmip_runs.specs.Refusals.{HasRisen}
-use Rattle.kmip_runs.specs.Saved.{AreSaved, IsInMemory, IsLeft, IsWhole, moment}
+use Rattle.kmip_runs.specs.Saved.{AreSavedBetween, IsInMemory, IsLeft, IsWhole, Situation}
 use Rattle.kmip_runs.specs.declared.save_fault.SaveFault.{SaveFault}
 use Rattle.kmip_runs.specs.declared.stop.Stop.{Stop}
 use Rattle.kmip_runs.specs.declared.stop.Stop.TheVariants as stops
@@ -24,6 +24,10 @@ pub record Stage : Type 1 where
   pub keeper : Kept
   pub is_tired : Bool
 
+-- What is seen at a stage, but for patience.
+abbrev pub situation : Stage → Situation
+situation stage = record { client = stage.client; link = stage.link; keeper = stage.keeper }
+
 -- What carrying out a plan promises where all was good before (`IsGood`).
 pub record CarriesOutWell (most : ℕ) (old : Stage) (stopped : Result Stop SaveFault) (made : ℕ) (new : Stage) : Type 0 where
   -- Where all is good, it is so after it, however it stops: the link is honest for the plan's names,
@@ -31,7 +35,7 @@ pub record CarriesOutWell (most : ℕ) (old : Stage) (stopped : Result Stop Save
   pub good : IsGood new.client new.link
   -- Where all was good (`IsGood`), the objects have gone onward. A past that was an image of the plan
   -- machine is one still.
-  pub goes : WentOn old.client.keys old.link.past new.link.past
+  pub onward : WentOn old.client.keys old.link.past new.link.past
   -- Where all was good (`IsGood`), with no premise of calm: the exchanges that were made and those that
   -- are left are no more than were left, and what disturbed exchanges cost. That is said unless it
   -- stops for want of memory, and also where the text of the last one was not saved. What arrives at
@@ -54,7 +58,7 @@ pub record CarriesOutHonestly (old : Stage) (stopped : Result Stop SaveFault) (m
   -- many messages were sent as it counts exchanges, and nothing else was asked. Each asks about keys of
   -- the plan, each once, and about no more than the client asks about at once. What is then known of
   -- identifiers, counts and conflicts is what was known before and what these exchanges handed over.
-  pub known : new.link.honest (is_planned old.client.keys)
+  pub learns : new.link.honest (is_planned old.client.keys)
       × (IsInMemory stopped → Learnt old.client.keys old.client.batch old.link.past new.link.past
       old.client.knowns new.client.knowns made)
   -- Where it stops for want of memory, over a link that was honest for the plan's names: the exchanges
@@ -66,7 +70,7 @@ pub record CarriesOutHonestly (old : Stage) (stopped : Result Stop SaveFault) (m
       new.client.knowns made
   -- Over a link that was honest for the plan's names nothing that was asked, sent or handed over is
   -- taken back, however it stops.
-  pub grown : Grown old.link.past new.link.past
+  pub takes_nothing_back : TakesNothingBack old.link.past new.link.past
   -- Over a link that was honest for the plan's names the run is ended once, right after its last
   -- exchange, unless memory ran out or a text was not saved.
   pub ended : IsWhole stopped
@@ -100,16 +104,14 @@ pub record CarriesOut (most : ℕ) (old : Stage) (stopped : Result Stop SaveFaul
       → CarriesOutHonestly old stopped made new
   -- Over any link the plan stays, and how many keys a message may ask about. No identifier or count is
   -- taken back.
-  pub kept : Keeps old.client new.client
+  pub forgets_nothing : Keeps old.client new.client
   -- A keeper that keeps what it is given does so still. It saved one text for each exchange, in order,
   -- and no other. The last exchange has none where its text was not saved, and may have none where
   -- memory ran out. Each is the progress text of what was known at a moment; no moment, and not the
   -- end, takes back an identifier or a count. `AreSaved` says what each text says over an honest link,
   -- and what it says where all was good at the start.
   pub saved : old.keeper.keeps → new.keeper.keeps
-      × AreSaved old.client.keys old.client.batch (IsGood old.client old.link)
-      (old.link.honest (is_planned old.client.keys)) (moment old.client old.link)
-      (moment new.client new.link) stopped made old.keeper.saved new.keeper.saved
+      × AreSavedBetween (situation old) (situation new) stopped made
   -- The keeper's count of refusals never falls.
   pub counted : old.keeper.refusals ≤ new.keeper.refusals
   -- It answers that a text could not be written only where the keeper's count of refusals has risen, or
@@ -117,7 +119,7 @@ pub record CarriesOut (most : ℕ) (old : Stage) (stopped : Result Stop SaveFaul
   pub output : stopped ≡ Err faults.Output → HasRisen old.keeper.refusals new.keeper.refusals
   -- `AllFinished`: every key is finished. `Limit`: some key is worked on. `Conflict`: no key is worked
   -- on, and one is in conflict.
-  pub stands : IfOk stopped (λ stop. Stands stop new.client.keys new.client.knowns)
+  pub stops_for_its_reason : IfOk stopped (λ stop. IsBorneOut stop new.client.keys new.client.knowns)
   -- It stops with `Limit` only after exactly `most` exchanges, or where patience has given up.
   pub limit : stopped ≡ Ok stops.Limit → (made ≡ most) ⊎ IsTrue new.is_tired
   -- Where patience gives up in the call, fewer than `most` exchanges were made. It stops with `Limit`

@@ -8,7 +8,7 @@ use Rattle.kmip_protocol.specs.Moves.{Delivered}
 use Rattle.kmip_protocol.specs.Needs.{chains_and_looks}
 use Rattle.kmip_protocol.specs.Past.{Names, is_planned}
 use Rattle.kmip_protocol.specs.Seen.{Seen}
-use Rattle.kmip_runs.specs.Driving.{AsksOne, Grown, IsComplete, IsGood, IsSettling, IsUntouched, Keeps, KeepsFurther, Learnt, LearntUntil, Nearer, Stands, WentOn, need}
+use Rattle.kmip_runs.specs.Driving.{AsksOne, IsBorneOut, IsComplete, IsGood, IsSettling, IsUntouched, Keeps, KeepsFurther, Learnt, LearntUntil, Nearer, TakesNothingBack, WentOn, need}
 use Rattle.kmip_runs.specs.Losing.{ArePaid, IsEnough, left_for}
 use Rattle.kmip_runs.specs.Turning.{IsTurned}
 use Rattle.kmip_runs.specs.declared.stop.Stop.{Stop}
@@ -20,7 +20,7 @@ pub record DrivesWell (old : Seen) (client : ClientState) (most : ℕ) (driven :
   pub good : IsGood next new
   -- Where all was good before, the object of each planned name keeps its identifier and never goes back,
   -- and a past that was an image of the plan machine still is.
-  pub goes : WentOn client.keys old.past new.past
+  pub onward : WentOn client.keys old.past new.past
   -- Where all was good, with no premise of calm, and unless memory ran out: the exchanges that were made
   -- and those that may be left are at most those that might be left before, and what the disturbed ones
   -- cost. Such sums of several calls in a row add up.
@@ -45,7 +45,7 @@ pub record DrivesHonestly (old : Seen) (client : ClientState) (most : ℕ) (driv
   -- that is counted sent one message about keys of the plan, each once, and no more of them than the client
   -- asks about at once. Nothing else was asked, sent or handed over. What is known of identifiers, counts
   -- and conflicts is what was known before and what these exchanges handed over.
-  pub known : new.honest (is_planned client.keys)
+  pub learns : new.honest (is_planned client.keys)
       × (driven.0 ≢ stops.NoMemory → Learnt client.keys client.batch old.past new.past client.knowns
       next.knowns driven.1)
   -- Where memory ran out over such a link, so it is of the exchanges that are counted, but nothing was
@@ -57,7 +57,7 @@ pub record DrivesHonestly (old : Seen) (client : ClientState) (most : ℕ) (driv
   pub few : length new.past.sent ≤ length old.past.sent + most
   -- Where the link is honest for the plan's names, nothing that was asked, sent or handed over is taken
   -- back.
-  pub grown : Grown old.past new.past
+  pub takes_nothing_back : TakesNothingBack old.past new.past
 
 -- What driving promises where the link is calm and the client ready (`IsSettling`).
 pub record DrivesCalmly (old : Seen) (client : ClientState) (most : ℕ) (driven : Stop × ℕ) (new : Seen) (next : ClientState) : Type 0 where
@@ -90,10 +90,10 @@ pub record Drives (old : Seen) (client : ClientState) (most : ℕ) (driven : Sto
       new.past
   -- Over any link the plan stays, and how many keys are asked about at once, and no identifier or count
   -- that was known is taken back.
-  pub kept : Keeps client next
+  pub forgets_nothing : Keeps client next
   -- It stops with `AllFinished` only where every key is finished, and with `Limit` only where one is worked
   -- on. It stops with `Conflict` only where none is worked on and one is in conflict.
-  pub stands : Stands driven.0 next.keys next.knowns
+  pub stops_for_its_reason : IsBorneOut driven.0 next.keys next.knowns
   -- With `Limit` it has made exactly `most` exchanges.
   pub limit : driven.0 ≡ stops.Limit → driven.1 ≡ most
   -- It makes at most `most` exchanges.

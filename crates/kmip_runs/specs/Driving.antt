@@ -21,7 +21,7 @@ use Rattle.kmip_client.specs.declared.clash.Clash.{Clash}
 use Rattle.kmip_client.specs.declared.knowledge.Knowledge.{Knowledge}
 use Rattle.kmip_client.specs.declared.verdict.Verdict.TheVariants.{Finished, Conflict}
 use Rattle.kmip_protocol.specs.Machine.{IsMirrored}
-use Rattle.kmip_protocol.specs.Past.{Past, Names, is_planned}
+use Rattle.kmip_protocol.specs.Past.{Past, is_planned}
 use Rattle.kmip_protocol.specs.Seen.{Seen}
 use Rattle.kmip_protocol.specs.Sound.{Sound}
 use Rattle.kmip_client.specs.Known.{facts, known_after}
@@ -116,7 +116,7 @@ pub record Learnt (keys : List Key) (most : ℕ) (old new : Past) (knowns nexts 
   pub known_is : facts nexts ≡ facts (known_after keys knowns answers)
 
 -- Nothing that was asked, sent or handed over is taken back. Own (law).
-pub record Grown (old new : Past) : Type 0 where
+pub record TakesNothingBack (old new : Past) : Type 0 where
   pub requests : (more : List Request) × (new.requests ≡ old.requests ++ more)
   pub sent : (more : List (List ℕ)) × (new.sent ≡ old.sent ++ more)
   pub handed : (more : List (Option (List ℕ))) × (new.handed ≡ old.handed ++ more)
@@ -168,8 +168,8 @@ AreFinished keys knowns = (place : ℕ) → place < length keys → verdict_at k
 
 -- how the keys stand where a run stops for this reason: with `AllFinished` each is finished, with `Limit` one
 -- is worked on, and with `Conflict` none is worked on and one is in conflict
-abbrev pub Stands : Stop → List Key → List Knowledge → Type 0
-Stands stops.AllFinished keys knowns = AreFinished keys knowns
-Stands stops.Limit keys knowns = SomeWorks keys knowns
-Stands stops.Conflict keys knowns = NoneWorks keys knowns × SomeClash keys knowns
-Stands stops.NoMemory keys knowns = ⊤
+abbrev pub IsBorneOut : Stop → List Key → List Knowledge → Type 0
+IsBorneOut stops.AllFinished keys knowns = AreFinished keys knowns
+IsBorneOut stops.Limit keys knowns = SomeWorks keys knowns
+IsBorneOut stops.Conflict keys knowns = NoneWorks keys knowns × SomeClash keys knowns
+IsBorneOut stops.NoMemory keys knowns = ⊤

@@ -1,7 +1,7 @@
 -- What the headline says of a campaign: over which links, and which steps are reported. Open this file first.
 -- What is then promised is `Safe`, in the file Headline of kmip_protocol.
 -- Source: own (view).
-use Rattle.std.specs.Prelude.{ℕ, List, [], ◌∷◌, ◌++◌, ◌+◌, map, take, flat_map}
+use Rattle.std.specs.Prelude.{ℕ, List, [], ◌∷◌, ◌++◌, map, take, flat_map}
 use Rattle.kmip_plan.specs.Chains.{chain}
 use Rattle.kmip_plan.specs.declared.key.Key.{Key}
 use Rattle.kmip_progress.specs.declared.known.Known.{Known}

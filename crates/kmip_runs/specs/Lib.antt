@@ -46,6 +46,8 @@ pub mod Refusals
 pub mod Waits
 -- private: what the parts of a run keep
 pub mod PrivateCarried
+-- private: what a turn promises, and the exchange of its message
+pub mod PrivateTurns
 -- private: when a run gets on by an exchange
 pub mod PrivateSights
 -- private: what only the clauses of private functions cite

@@ -11,11 +11,11 @@ use Rattle.kmip_protocol.specs.Seen.{Seen}
 use Rattle.kmip_protocol.specs.Sound.{Opening}
 use Rattle.kmip_runs.specs.Campaign.{CalmLink, HasNoConflict, IsEnd, Settles, saves}
 use Rattle.kmip_runs.specs.Headline.{GoodLink, reported}
-use Rattle.kmip_runs.specs.Campaigns.{AreInTurn, CalmStart, GoodStart, IsTrueFor, last_plan}
+use Rattle.kmip_runs.specs.Campaigns.{AreInTurn, GoodStart, IsTrueFor, last_plan, premises_of}
 use Rattle.kmip_runs.specs.Driving.{WentOn}
 use Rattle.kmip_runs.specs.Ending.{AreEnded}
 use Rattle.kmip_runs.specs.Losing.{AllOutlast}
-use Rattle.kmip_runs.specs.Remembering.{AreKnown}
+use Rattle.kmip_runs.specs.Remembering.{AreKnown, notes_of}
 use Rattle.kmip_runs.specs.TurnedRuns.{AreTurnedFrom}
 use Rattle.kmip_runs.specs.declared.campaign_end.CampaignEnd.{CampaignEnd}
 use Rattle.kmip_runs.specs.declared.run.Run.{Run}
@@ -40,7 +40,7 @@ pub record RunsWell (old : Seen) (keys : List Key) (runs : List Run) (end : Camp
   pub true_saved : All (TrueProgress new.past.objects keys) end.saved.items
   -- Over a good link the object of each planned name keeps its identifier and never goes back, and a past
   -- that was an image of the plan machine still is.
-  pub goes : WentOn keys old.past new.past
+  pub onward : WentOn keys old.past new.past
   -- Over a good link, unless memory ran out, each run finishes every key if it may make enough exchanges,
   -- whatever it began with. Enough are the plan's bound, one for each key, and what the disturbed ones of
   -- its own exchanges cost. A disturbed exchange costs one, two for each request that it sent, and one for
@@ -68,7 +68,7 @@ pub record MakesCampaign (old : Seen) (keys : List Key) (runs : List Run) (end :
   -- run began with and what its exchanges handed over. Nothing else was asked, sent or handed over until
   -- the last end, and later only where memory ran out: then the next run sent no more messages than its
   -- limit.
-  pub known : AreKnown keys runs end.runs.items end.saved.items (old.honest (is_planned keys))
+  pub known : AreKnown keys runs (notes_of end) (old.honest (is_planned keys))
       (end.fault ≡ None) old.past new.past
   -- Client by client: each run begins with a client that knows nothing, with that of the run before, or
   -- with one that goes on from a save. The turns of the run, one for each exchange that its end counts,
@@ -112,7 +112,7 @@ pub record PlansRunWell (old : Seen) (plans : List (List Key)) (end : CampaignEn
   pub true_saved : All (IsTrueFor new.past.objects (last_plan plans)) end.saved.items
   -- Where the start is good, the object of each name of the last plan keeps its identifier and never goes
   -- back, and a past that was an image of that plan's machine still is.
-  pub goes : WentOn (last_plan plans) old.past new.past
+  pub onward : WentOn (last_plan plans) old.past new.past
 
 -- The lists of runs were made in turn over a link, each on its plan: what that makes of the link, and what is
 -- noted of it. `follows` is that the link after it is what calls made of the link before.
@@ -125,8 +125,8 @@ pub record MakesCampaigns (old : Seen) (plans : List (List Key)) (runs : List (L
   -- may make as many exchanges as its plan's bound finishes every key of the plan within it. The runs on
   -- each plan begin where those before them ended. Only where memory ran out are runs missing: then the
   -- runs on the last plan that was begun lack an end, or a further plan was not begun.
-  pub in_turn : AreInTurn plans runs end.runs.items end.saved.items
-      (old.honest (is_planned (last_plan plans))) (CalmStart plans old) (end.fault ≡ None) old.past new.past
+  pub in_turn : AreInTurn plans runs (notes_of end) (premises_of plans old) (end.fault ≡ None)
+      old.past new.past
   -- Where the link is honest for the names of the last plan, the runs that have ends are those that were
   -- ended over it, each right after its last exchange, and no other run was.
   pub ended : old.honest (is_planned (last_plan plans))

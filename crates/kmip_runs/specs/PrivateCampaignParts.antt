@@ -1,6 +1,6 @@
 -- Private: what the parts of a campaign keep.
 -- Source: own (view).
-use Rattle.std.specs.Prelude.{◌≡◌, ◌≢◌, ◌≤◌, ◌<◌, ℕ, ◌+◌, List, [], ◌∷◌, ◌++◌, filter, length, map, Option, Some, None, string_bytes, take, if◌then◌else◌, vec_capacity, vec_len}
+use Rattle.std.specs.Prelude.{◌≡◌, ◌≢◌, ◌≤◌, ◌<◌, ℕ, ◌+◌, List, [], ◌∷◌, ◌++◌, filter, length, map, Ok, OnErr, OnOk, Option, Result, Some, None, string_bytes, take, if◌then◌else◌, vec_capacity, vec_len}
 use Rattle.std.specs.List.{All, AllZip}
 use Rattle.kmip_objects.specs.Objects.{Object}
 use Rattle.kmip_plan.specs.Laws.{KeysAreFound}
@@ -17,13 +17,17 @@ use Rattle.kmip_client.specs.Shapes.{IsKept}
 use Rattle.kmip_client.specs.Verdicts.{AreWithin, counts_of, verdicts_of}
 use Rattle.kmip_client.specs.declared.knowledge.Knowledge.{Knowledge}
 use Rattle.kmip_protocol.specs.Laws.{DeliveriesKeepSound, DeliveriesKeepTheImage, ObjectsGoOnward, OpeningIsMirrored, SoundIsSafe}
-use Rattle.kmip_protocol.specs.Past.{Past, Names, is_planned}
+use Rattle.kmip_protocol.specs.Past.{Names, is_planned}
 use Rattle.kmip_protocol.specs.Seen.{Seen}
 use Rattle.kmip_protocol.specs.SettlingLaws.{SoundIsReady}
 use Rattle.kmip_runs.specs.Campaign.{CalmLink, HasNoConflict, IsEnd, Settles, saves}
 use Rattle.kmip_runs.specs.Headline.{GoodLink}
-use Rattle.kmip_runs.specs.Driving.{Grown, IsGood, KeepsFurther, Learnt, WentOn}
-use Rattle.kmip_runs.specs.Remembering.{AreKnownFrom, Shows, saved_after, start_knowns}
+use Rattle.kmip_runs.specs.Driving.{IsGood, KeepsFurther, Learnt, TakesNothingBack, WentOn}
+use Rattle.kmip_runs.specs.Losing.{AllOutlast}
+use Rattle.kmip_runs.specs.Private.{EndsJoin, HasOutlasted, RanTurned}
+use Rattle.kmip_runs.specs.Remembering.{AreKnownFrom, Notes, Shows, saved_after, start_knowns}
+use Rattle.kmip_runs.specs.TurnedRuns.{AreTurnedFrom, begin_client}
+use Rattle.kmip_ttlv.specs.declared.no_memory.NoMemory.{NoMemory}
 use Rattle.kmip_runs.specs.Reporting.{report_text}
 use Rattle.kmip_runs.specs.declared.campaign_end.CampaignEnd.{CampaignEnd}
 use Rattle.kmip_runs.specs.declared.run.Run.{Run}
@@ -117,19 +121,20 @@ pub record AreSame (old new : CampaignEnd) : Type 0 where
 abbrev pub begins_with : List Key → List (List Known) → Run → ClientState → CampaignEnd → List Knowledge
 begins_with keys carried run a old = start_knowns keys run.start a.knowns (carried ++ old.saved.items)
 
--- What is seen at a moment in a campaign: of the link, and what is noted so far.
+-- What is seen at a moment in a campaign: of the client, of the link, and what is noted so far.
 pub record CampaignStage : Type 1 where
+  pub client : ClientState
   pub link : Seen
   pub end : CampaignEnd
 
 -- The run was made and has ended: nothing of what it began with is taken back, and over an honest link its
 -- answers taught the rest.
-pub record HasRun (keys : List Key) (carried : List (List Known)) (run : Run) (a b : ClientState) (old new : CampaignStage) : Type 0 where
+pub record HasRun (keys : List Key) (carried : List (List Known)) (run : Run) (old new : CampaignStage) : Type 0 where
   pub driven : Stop × ℕ
-  pub ended : HasEnded keys run b.knowns driven old.end new.end
-  pub kept : AllZip IsKept (begins_with keys carried run a old.end) b.knowns
+  pub ended : HasEnded keys run new.client.knowns driven old.end new.end
+  pub forgets_nothing : AllZip IsKept (begins_with keys carried run old.client old.end) new.client.knowns
   pub learnt : old.link.honest (is_planned keys) → new.link.honest (is_planned keys)
-      × Learnt keys run.batch old.link.past new.link.past (begins_with keys carried run a old.end) b.knowns driven.1
+      × Learnt keys run.batch old.link.past new.link.past (begins_with keys carried run old.client old.end) new.client.knowns driven.1
 
 -- the run that was noted last finished all keys within the plan's bound, if it might make as many exchanges
 pub record HasSettled (keys : List Key) (run : Run) (old new : List RunEnd) : Type 0 where
@@ -140,19 +145,86 @@ pub record HasSettled (keys : List Key) (run : Run) (old new : List RunEnd) : Ty
 -- the run was broken off, and nothing is noted of it
 pub record IsBroken (keys : List Key) (run : Run) (x y : Seen) (old new : CampaignEnd) : Type 0 where
   pub same : AreSame old new
-  pub grown : x.honest (is_planned keys) → Grown x.past y.past
+  pub takes_nothing_back : x.honest (is_planned keys) → TakesNothingBack x.past y.past
   pub few : x.honest (is_planned keys) → length y.past.sent ≤ length x.past.sent + run.limit
 
+-- What a run promises where all was good before it, and what was carried over is true.
+pub record RunsOneWell (keys : List Key) (run : Run) (old : CampaignStage) (result : Result (Unit {0}) NoMemory) (new : CampaignStage) : Type 0 where
+  -- All is good after it, and what is noted by then is true.
+  pub standing : Standing keys new.client new.link new.end.runs.items new.end.saved.items
+  -- The objects have gone onward, and an image of the plan machine is one still.
+  pub onward : WentOn keys old.link.past new.link.past
+  -- What holds for a plan that prolongs this one is kept.
+  pub further : KeepsFurther keys (result ≡ Ok tt) old.link new.link
+  -- Over a calm link it finishes every key if it may make as many exchanges as the plan's bound.
+  pub settles : CalmLink keys old.link → OnOk result (HasSettled keys run old.end.runs.items new.end.runs.items × CalmLink keys new.link)
+  -- It finishes every key if its limit is enough.
+  pub outlasts : OnOk result (HasOutlasted keys run old.end.runs.items new.end.runs.items old.link.disturbances new.link.disturbances)
+
+-- A run was made, and noted, where this was carried over from earlier plans. `follows` is that the link after
+-- it is what calls made of the link before.
+pub record RunsOne (keys : List Key) (carried : List (List Known)) (run : Run) (old : CampaignStage) (result : Result (Unit {0}) NoMemory) (new : CampaignStage) (follows : Type 0) : Type 0 where
+  -- The client is one of the plan.
+  pub keys_stay : new.client.keys ≡ keys
+  -- What is saved by then suits the plan.
+  pub suits : All (Suits keys) new.end.saved.items
+  -- Where all was good before, and what was carried over is true, this holds.
+  pub well : Standing keys old.client old.link old.end.runs.items old.end.saved.items → All (TrueProgress old.link.past.objects keys) carried
+      → RunsOneWell keys run old result new
+  -- A link that is honest for some names is so after it.
+  pub honest : (names : Names) → old.link.honest names → new.link.honest names
+  -- Unless memory ran out it has its end, which says what was learnt.
+  pub ran : OnOk result (HasRun keys carried run old new)
+  -- Unless memory ran out its turns made the client that it leaves.
+  pub turned : OnOk result (RanTurned keys (begin_client keys run old.client (carried ++ old.end.saved.items)) new.client (old.link.honest (is_planned keys))
+      old.link.past new.link.past old.end.runs.items new.end.runs.items)
+  -- Where memory ran out nothing is noted of it.
+  pub broken : OnErr result (IsBroken keys run old.link new.link old.end new.end)
+  -- It was ended over an honest link, right after its last exchange, or not at all.
+  pub ended : old.link.honest (is_planned keys) → EndsJoin old.end.runs.items new.end.runs.items (result ≡ Ok tt)
+      (length old.link.past.sent) (length new.link.past.sent) old.link.ended new.link.ended
+  -- Unless memory ran out, the link after it is what calls made of the link before.
+  pub followed : OnOk result follows
+
+-- What runs in turn promise over a good link, where what was carried over is true.
+pub record HasRunWell (keys : List Key) (runs : List Run) (notes : Notes) (whole : Type 0) (old new : Seen) : Type 0 where
+  -- The link is good still, and what is noted is true.
+  pub campaigned : Campaigned keys old new notes.ends notes.saved
+  -- What holds for a plan that prolongs this one is kept.
+  pub further : KeepsFurther keys whole old new
+  -- Each run finishes every key if its limit is enough.
+  pub outlasts : whole → AllOutlast keys runs notes.ends old.disturbances new.disturbances
+
 -- The runs of a plan were made in turn, with what was carried over from earlier plans: what stands after
--- them, and what their ends say.
-pub record HasRunAll (keys : List Key) (carried : List (List Known)) (runs : List Run) (end : CampaignEnd) (old new : Seen) : Type 0 where
-  pub suits : All (Suits keys) end.saved.items
-  pub honest_still : (names : Names) → old.honest names → new.honest names
-  pub stands : GoodLink keys old → All (TrueProgress old.past.objects keys) carried
-      → Campaigned keys old new end.runs.items end.saved.items × KeepsFurther keys (end.fault ≡ None) old new
-  pub order : AllZip (IsEnd keys) (take (length end.runs.items) runs) end.runs.items
-  pub complete : end.fault ≡ None → AllZip (IsEnd keys) runs end.runs.items × (length end.saved.items ≡ length (filter saves runs))
-  pub fewer : end.fault ≢ None → length end.runs.items < length runs
-  pub known : AreKnownFrom keys carried runs end.runs.items end.saved.items (old.honest (is_planned keys)) (end.fault ≡ None) old.past new.past
-  pub settles : CalmLink keys old → All (TrueProgress old.past.objects keys) carried → end.fault ≡ None
-      → AllZip (Settles keys) runs end.runs.items × CalmLink keys new
+-- them, and what their ends say. `whole` is that memory did not run out.
+pub record HasRunAll (keys : List Key) (carried : List (List Known)) (runs : List Run) (notes : Notes) (whole : Type 0) (old new : Seen) : Type 0 where
+  -- What is saved suits the plan.
+  pub suits : All (Suits keys) notes.saved
+  -- A link that is honest for some names is so after them.
+  pub stays_honest : (names : Names) → old.honest names → new.honest names
+  -- Over a good link, where what was carried over is true, this holds.
+  pub well : GoodLink keys old → All (TrueProgress old.past.objects keys) carried → HasRunWell keys runs notes whole old new
+  -- The ends are those of the first runs, in order.
+  pub order : AllZip (IsEnd keys) (take (length notes.ends) runs) notes.ends
+  -- Unless memory ran out, each run has its end, and as much was saved as the runs say.
+  pub complete : whole → AllZip (IsEnd keys) runs notes.ends × (length notes.saved ≡ length (filter saves runs))
+  -- Where memory ran out, some run has no end.
+  pub fewer : (whole → ⊥) → length notes.ends < length runs
+  -- What is known at each end is what its run began with, and what was heard.
+  pub known : AreKnownFrom keys carried runs notes (old.honest (is_planned keys)) whole old.past new.past
+  -- Over a calm link each run finishes every key if it may make as many exchanges as the plan's bound.
+  pub settles : CalmLink keys old → All (TrueProgress old.past.objects keys) carried → whole
+      → AllZip (Settles keys) runs notes.ends × CalmLink keys new
+
+-- The runs of a plan were made in turn: all that is promised of them. `follows` is that the link after them is
+-- what calls made of the link before.
+pub record MakesRuns (keys : List Key) (carried : List (List Known)) (runs : List Run) (notes : Notes) (whole : Type 0) (old new : Seen) (follows : Type 0) : Type 0 where
+  -- What stands after them, and what their ends say.
+  pub all : HasRunAll keys carried runs notes whole old new
+  -- Each end shows what the turns of its run made of the client that it began with.
+  pub turned : AreTurnedFrom keys carried runs notes.ends (old.honest (is_planned keys)) whole old.past new.past
+  -- The runs that have ends are those that were ended over an honest link, and no other was.
+  pub ended : old.honest (is_planned keys)
+      → EndsJoin [] notes.ends whole (length old.past.sent) (length new.past.sent) old.ended new.ended
+  -- Unless memory ran out, the link after them is what calls made of the link before.
+  pub followed : whole → follows

@@ -13,11 +13,29 @@ use Rattle.kmip_client.specs.Shapes.{IsKept}
 use Rattle.kmip_client.specs.Verdicts.{counts_of, verdicts_of}
 use Rattle.kmip_client.specs.declared.knowledge.Knowledge.{Knowledge}
 use Rattle.kmip_protocol.specs.Past.{Past}
-use Rattle.kmip_runs.specs.Driving.{Grown, IsQuestion}
+use Rattle.kmip_runs.specs.Driving.{IsQuestion, TakesNothingBack}
+use Rattle.kmip_runs.specs.declared.campaign_end.CampaignEnd.{CampaignEnd}
 use Rattle.kmip_runs.specs.declared.run.Run.{Run}
 use Rattle.kmip_runs.specs.declared.run_end.RunEnd.{RunEnd}
 use Rattle.kmip_runs.specs.declared.start.Start.{Start}
 use Rattle.kmip_runs.specs.declared.start.Start.TheVariants.{Fresh, Same, Saved}
+
+-- what runs noted: their ends, and what was saved
+pub record Notes : Type 0 where
+  pub ends : List RunEnd
+  pub saved : List (List Known)
+
+-- the ends that were noted
+abbrev pub noted_ends : Notes → List RunEnd
+noted_ends notes = notes.ends
+
+-- what was saved, as it was noted
+abbrev pub noted_saves : Notes → List (List Known)
+noted_saves notes = notes.saved
+
+-- what a campaign noted
+abbrev pub notes_of : CampaignEnd → Notes
+notes_of end = record { ends = end.runs.items; saved = end.saved.items }
 
 -- the saved progress of a number, from 1; none where there is no such one
 abbrev pub saved_numbered : ℕ → List (List Known) → Option (List Known)
@@ -104,17 +122,17 @@ limit_at runs place = option_map_or (λ run. run.limit) (slice_get runs place) 0
 -- is saved where its run says so, after what was carried over. Over an honest link it is what was heard until
 -- the last end. Nothing was asked later unless the next run was broken off, and that sent no more messages
 -- than its limit.
-pub record AreKnownFrom (keys : List Key) (carried : List (List Known)) (runs : List Run) (ends : List RunEnd) (saved : List (List Known)) (honest whole : Type 0) (old new : Past) : Type 0 where
+pub record AreKnownFrom (keys : List Key) (carried : List (List Known)) (runs : List Run) (notes : Notes) (honest whole : Type 0) (old new : Past) : Type 0 where
   pub known : List (List Knowledge)
-  pub shown : AllZip (Shows keys) known ends
-  pub kept : AllZip (AllZip IsKept) (starts keys carried runs known) known
-  pub saved_are : carried ++ saved ≡ saved_from carried runs known
+  pub shown : AllZip (Shows keys) known notes.ends
+  pub forgets_nothing : AllZip (AllZip IsKept) (starts keys carried runs known) known
+  pub saved_are : carried ++ notes.saved ≡ saved_from carried runs known
   pub until : Past
-  pub heard : honest → AreHeard keys runs (starts keys carried runs known) known ends old until
-  pub grown : honest → Grown until new
+  pub heard : honest → AreHeard keys runs (starts keys carried runs known) known notes.ends old until
+  pub takes_nothing_back : honest → TakesNothingBack until new
   pub few_more : honest → length new.sent ≤ length until.sent + limit_at runs (length known)
   pub no_more : whole → until ≡ new
 
 -- `AreKnownFrom` where nothing was carried over from an earlier plan
-abbrev pub AreKnown : List Key → List Run → List RunEnd → List (List Known) → Type 0 → Type 0 → Past → Past → Type 0
-AreKnown keys runs ends saved honest whole old new = AreKnownFrom keys [] runs ends saved honest whole old new
+abbrev pub AreKnown : List Key → List Run → Notes → Type 0 → Type 0 → Past → Past → Type 0
+AreKnown keys runs notes honest whole old new = AreKnownFrom keys [] runs notes honest whole old new

@@ -9,9 +9,10 @@ use Rattle.kmip_client.specs.Held.{Held}
 use Rattle.kmip_client.specs.Saving.{known_of}
 use Rattle.kmip_client.specs.Shapes.{IsKept}
 use Rattle.kmip_client.specs.declared.knowledge.Knowledge.{Knowledge}
-use Rattle.kmip_protocol.specs.Past.{Past}
+use Rattle.kmip_protocol.specs.Past.{Past, is_planned}
 use Rattle.kmip_protocol.specs.Seen.{Seen}
-use Rattle.kmip_runs.specs.Driving.{Learnt}
+use Rattle.kmip_runs.specs.Driving.{IsGood, Learnt}
+use Rattle.kmip_runs.specs.Keeping.{Kept}
 use Rattle.kmip_runs.specs.declared.stop.Stop.{Stop}
 use Rattle.kmip_runs.specs.declared.stop.Stop.TheVariants as stops
 use Rattle.kmip_runs.specs.declared.save_fault.SaveFault.{SaveFault}
@@ -25,6 +26,34 @@ pub record Moment : Type 0 where
 abbrev pub moment : ClientState → Seen → Moment
 moment c link = record { knowns = c.knowns; past = link.past }
 
+-- A moment, and the texts that were saved by then.
+pub record Snapshot : Type 0 where
+  pub moment : Moment
+  pub saved : List (List ℕ)
+
+-- The snapshot of these.
+abbrev pub snapshot : Moment → List (List ℕ) → Snapshot
+snapshot moment saved = record { moment = moment; saved = saved }
+
+-- What may be premised of the moment at which a run begins: that all was good, and that the link was honest.
+pub record Grounds : Type 1 where
+  pub good : Type 0
+  pub honest : Type 0
+
+-- What is seen of a run at a moment: of its client, its link and its keeper.
+pub record Situation : Type 1 where
+  pub client : ClientState
+  pub link : Seen
+  pub keeper : Kept
+
+-- What may be premised where a run begins so.
+abbrev pub grounds_in : Situation → Grounds
+grounds_in begun = record { good = IsGood begun.client begun.link; honest = begun.link.honest (is_planned begun.client.keys) }
+
+-- What is known in a situation, what has happened by then, and what was saved.
+abbrev pub snapshot_in : Situation → Snapshot
+snapshot_in now = snapshot (moment now.client now.link) now.keeper.saved
+
 -- The progress text of what is known at a moment.
 abbrev pub text_at : List Key → Moment → List ℕ
 text_at keys moment = progress_text keys (map known_of moment.knowns)
@@ -36,10 +65,10 @@ last_moment before (moment ∷ moments) = last_moment moment moments
 
 -- Each moment is one exchange later than the one before it, and what is new was taught by what that
 -- exchange handed over.
-abbrev pub AreInTurn : List Key → ℕ → Moment → List Moment → Type 0
-AreInTurn keys most before [] = ⊤
-AreInTurn keys most before (moment ∷ moments) =
-    Learnt keys most before.past moment.past before.knowns moment.knowns 1 × AreInTurn keys most moment moments
+abbrev pub AreTaughtInTurn : List Key → ℕ → Moment → List Moment → Type 0
+AreTaughtInTurn keys most before [] = ⊤
+AreTaughtInTurn keys most before (moment ∷ moments) =
+    Learnt keys most before.past moment.past before.knowns moment.knowns 1 × AreTaughtInTurn keys most moment moments
 
 -- No moment takes back an identifier or a count that was known before.
 abbrev pub AreKept : List Knowledge → List Moment → Type 0
@@ -68,23 +97,28 @@ AreUnsaved (Ok stops.Conflict) count = count ≡ 0
 AreUnsaved (Ok stops.NoMemory) count = count ≤ 1
 AreUnsaved (Err fault) count = count ≡ 1
 
--- Which texts were saved between two moments, `old` before and `new` after: for each exchange one, of
--- what was then known. The last exchange may have none, as `AreUnsaved` says. No moment, and not the end,
--- takes back an identifier or a count.
+-- Which texts were saved from one snapshot to the other: for each exchange one, of what was then known. The
+-- last exchange may have none, as `AreUnsaved` says. No moment, and not the end, takes back an identifier or a
+-- count.
 -- Over an honest link each moment is one exchange later than the one before, with what that exchange
 -- taught. Unless memory ran out, the end has what the exchanges without a text taught beyond the last
 -- moment. Where all was saved, the text of what is known at the end is that of the last moment, or of the
 -- start where there is none.
 -- Where all was good at the start, what each text says is true of the objects at the end.
-pub record AreSaved (keys : List Key) (most : ℕ) (good honest : Type 0) (begun ended : Moment) (result : Result Stop SaveFault) (exchanges : ℕ) (old new : List (List ℕ)) : Type 0 where
+pub record AreSaved (keys : List Key) (most : ℕ) (grounds : Grounds) (old new : Snapshot) (result : Result Stop SaveFault) (exchanges : ℕ) : Type 0 where
   pub moments : List Moment
-  pub texts_are : new ≡ old ++ map (text_at keys) moments
+  pub texts_are : new.saved ≡ old.saved ++ map (text_at keys) moments
   pub unsaved : ℕ
   pub are_unsaved : AreUnsaved result unsaved
   pub as_many : length moments + unsaved ≡ exchanges
-  pub kept : AreKept begun.knowns (moments ++ ended ∷ [])
-  pub taught : honest → AreInTurn keys most begun moments
-  pub rest : honest → IsInMemory result
-      → Learnt keys most (last_moment begun moments).past ended.past (last_moment begun moments).knowns ended.knowns unsaved
-  pub true_of : good → All (λ (moment : Moment). Held ended.past.objects keys moment.knowns) moments
-  pub last_is : honest → IsWhole result → text_at keys ended ≡ text_at keys (last_moment begun moments)
+  pub forgets_nothing : AreKept old.moment.knowns (moments ++ new.moment ∷ [])
+  pub taught : grounds.honest → AreTaughtInTurn keys most old.moment moments
+  pub rest : grounds.honest → IsInMemory result
+      → Learnt keys most (last_moment old.moment moments).past new.moment.past (last_moment old.moment moments).knowns new.moment.knowns unsaved
+  pub true_of : grounds.good → All (λ (moment : Moment). Held new.moment.past.objects keys moment.knowns) moments
+  pub last_is : grounds.honest → IsWhole result → text_at keys new.moment ≡ text_at keys (last_moment old.moment moments)
+
+-- `AreSaved` from one situation of a run to another, of its own plan.
+abbrev pub AreSavedBetween : Situation → Situation → Result Stop SaveFault → ℕ → Type 0
+AreSavedBetween old new result exchanges =
+    AreSaved old.client.keys old.client.batch (grounds_in old) (snapshot_in old) (snapshot_in new) result exchanges

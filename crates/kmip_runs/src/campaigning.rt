@@ -1,25 +1,15 @@
 //! Runs in turn over one link, each from nothing, from the run before it or from a saved progress.
-ghost use Rattle.std.specs.Prelude.{◌≡◌, ◌≢◌, ◌<◌, ◌⊎◌, List, [], ◌++◌, length, filter, take, Some, None, Ok, IfOk, OnErr, OnOk, IfSome, option_map, IsTrue};
-ghost use Rattle.std.specs.List.{All, AllZip, Contains};
+ghost use Rattle.std.specs.Prelude.{◌≡◌, ◌<◌, ◌⊎◌, List, [], ◌++◌, Some, None, Ok, IfOk, OnOk, IfSome, option_map, IsTrue};
+ghost use Rattle.std.specs.List.{All, Contains};
 ghost use Rattle.kmip_objects.specs.Objects.{Object};
 ghost use Rattle.kmip_messages.specs.Members.{may_have};
 ghost use Rattle.kmip_client.specs.Held.{Held, TrueProgress};
 ghost use Rattle.kmip_progress.specs.Suiting.{Suits};
-ghost use Rattle.kmip_protocol.specs.Machine.{IsMirrored};
-ghost use Rattle.kmip_protocol.specs.Past.{Names, is_planned};
-ghost use Rattle.kmip_protocol.specs.Headline.{Safe};
-ghost use Rattle.kmip_protocol.specs.Sound.{Opening};
-ghost use Rattle.kmip_runs.specs.Campaign.{CalmLink, HasNoConflict, IsEnd, MayBatch, Settles, saves};
-ghost use Rattle.kmip_runs.specs.Headline.{GoodLink, reported};
-ghost use Rattle.kmip_runs.specs.PrivateCampaignParts.{CampaignLaws, Campaigned, HasRun, HasRunAll, HasSettled, IsBroken, Standing};
-ghost use Rattle.kmip_runs.specs.Driving.{KeepsFurther, WentOn};
-ghost use Rattle.kmip_runs.specs.Ending.{AreEnded};
-ghost use Rattle.kmip_runs.specs.Private.{EndsJoin};
-ghost use Rattle.kmip_runs.specs.Losing.{AllOutlast};
-ghost use Rattle.kmip_runs.specs.Private.{HasOutlasted};
-ghost use Rattle.kmip_runs.specs.Remembering.{AreKnown, AreKnownFrom, resumed, saved_numbered, start_knowns};
-ghost use Rattle.kmip_runs.specs.TurnedRuns.{AreTurnedFrom, begin_client, resumed_client};
-ghost use Rattle.kmip_runs.specs.Private.{RanTurned};
+ghost use Rattle.kmip_runs.specs.Campaign.{MayBatch};
+ghost use Rattle.kmip_runs.specs.Headline.{GoodLink};
+ghost use Rattle.kmip_runs.specs.PrivateCampaignParts.{CampaignLaws, MakesRuns, RunsOne};
+ghost use Rattle.kmip_runs.specs.Remembering.{notes_of, resumed, saved_numbered, start_knowns};
+ghost use Rattle.kmip_runs.specs.TurnedRuns.{begin_client, resumed_client};
 ghost use Rattle.kmip_runs.specs.MakesCampaigns.{MakesCampaign};
 
 use crate::campaign_end::CampaignEnd;
@@ -90,21 +80,8 @@ pub(crate) fn run_all<L: Link>(
 ) -> CampaignEnd
     requires carried { All (Suits plan.now) carried.now }
     requires batches { MayBatch runs.now }
-    ensures all { HasRunAll plan.now carried.now runs.now result
-        (L.seen link.old) (L.seen link.new) }
-    ensures outlasts { GoodLink plan.now (L.seen link.old)
-        → All (TrueProgress (L.seen link.old).past.objects plan.now) carried.now → result.fault
-        ≡ None
-        → AllOutlast plan.now runs.now result.runs.items (L.seen link.old).disturbances
-        (L.seen link.new).disturbances }
-    ensures ended { (L.seen link.old).honest (is_planned plan.now) → EndsJoin [] result.runs.items
-        (result.fault ≡ None) (length (L.seen link.old).past.sent)
-        (length (L.seen link.new).past.sent)
-        (L.seen link.old).ended (L.seen link.new).ended }
-    ensures followed { result.fault ≡ None → L.follows link.old link.new }
-    ensures turned { AreTurnedFrom plan.now carried.now runs.now result.runs.items
-        ((L.seen link.old).honest (is_planned plan.now)) (result.fault ≡ None)
-        (L.seen link.old).past (L.seen link.new).past }
+    ensures { MakesRuns plan.now carried.now runs.now (notes_of result) (result.fault ≡ None)
+        (L.seen link.old) (L.seen link.new) (L.follows link.old link.new) }
 {
     let mut end = CampaignEnd {
         runs: Vec::new(alloc),
@@ -132,37 +109,8 @@ fn run_each<L: Link>(
     requires none_saved { end.old.saved.items ≡ [] }
     requires carried { All (Suits plan.now) carried.now }
     requires batches { MayBatch runs.now }
-    ensures suits { All (Suits plan.now) end.new.saved.items }
-    ensures stands { GoodLink plan.now (L.seen link.old)
-        → All (TrueProgress (L.seen link.old).past.objects plan.now) carried.now
-        → Campaigned plan.now (L.seen link.old) (L.seen link.new) end.new.runs.items
-        end.new.saved.items
-        × KeepsFurther plan.now (result ≡ Ok tt) (L.seen link.old) (L.seen link.new) }
-    ensures honest { (names : Names) → (L.seen link.old).honest names
-        → (L.seen link.new).honest names }
-    ensures order { AllZip (IsEnd plan.now) (take (length end.new.runs.items) runs.now)
-        end.new.runs.items }
-    ensures complete { OnOk result (AllZip (IsEnd plan.now) runs.now end.new.runs.items
-        × (length end.new.saved.items ≡ length (filter saves runs.now))) }
-    ensures known { AreKnownFrom plan.now carried.now runs.now end.new.runs.items
-        end.new.saved.items ((L.seen link.old).honest (is_planned plan.now)) (result ≡ Ok tt)
-        (L.seen link.old).past (L.seen link.new).past }
-    ensures turned { AreTurnedFrom plan.now carried.now runs.now end.new.runs.items
-        ((L.seen link.old).honest (is_planned plan.now)) (result ≡ Ok tt)
-        (L.seen link.old).past (L.seen link.new).past }
-    ensures settles { CalmLink plan.now (L.seen link.old)
-        → All (TrueProgress (L.seen link.old).past.objects plan.now) carried.now
-        → OnOk result (AllZip (Settles plan.now) runs.now end.new.runs.items
-        × CalmLink plan.now (L.seen link.new)) }
-    ensures outlasts { GoodLink plan.now (L.seen link.old)
-        → All (TrueProgress (L.seen link.old).past.objects plan.now) carried.now
-        → OnOk result (AllOutlast plan.now runs.now end.new.runs.items
-        (L.seen link.old).disturbances (L.seen link.new).disturbances) }
-    ensures fewer { OnErr result (length end.new.runs.items < length runs.now) }
-    ensures ended { (L.seen link.old).honest (is_planned plan.now) → EndsJoin [] end.new.runs.items
-        (result ≡ Ok tt) (length (L.seen link.old).past.sent) (length (L.seen link.new).past.sent)
-        (L.seen link.old).ended (L.seen link.new).ended }
-    ensures followed { OnOk result (L.follows link.old link.new) }
+    ensures { MakesRuns plan.now carried.now runs.now (notes_of end.new) (result ≡ Ok tt)
+        (L.seen link.old) (L.seen link.new) (L.follows link.old link.new) }
 {
     laws_of_runs();
     plan.keys();
@@ -193,44 +141,10 @@ fn one_run<'p, L: Link>(
     requires carried { All (Suits plan.now) carried.now }
     requires batch { IsTrue (may_have run.batch) }
     requires suits { All (Suits plan.now) end.old.saved.items }
-    ensures keys { client.new.keys ≡ plan.now }
-    ensures suits { All (Suits plan.now) end.new.saved.items }
-    ensures stands { Standing plan.now client.old (L.seen link.old) end.old.runs.items
-        end.old.saved.items
-        → All (TrueProgress (L.seen link.old).past.objects plan.now) carried.now
-        → Standing plan.now client.new (L.seen link.new) end.new.runs.items
-        end.new.saved.items × WentOn plan.now (L.seen link.old).past (L.seen link.new).past }
-    ensures honest { (names : Names) → (L.seen link.old).honest names
-        → (L.seen link.new).honest names }
-    ensures further { Standing plan.now client.old (L.seen link.old) end.old.runs.items
-        end.old.saved.items
-        → All (TrueProgress (L.seen link.old).past.objects plan.now) carried.now
-        → KeepsFurther plan.now (result ≡ Ok tt) (L.seen link.old) (L.seen link.new) }
-    ensures ran { OnOk result (HasRun plan.now carried.now run client.old client.new
-        (record { link = L.seen link.old; end = end.old })
-        (record { link = L.seen link.new; end = end.new })) }
-    ensures turned { OnOk result (RanTurned plan.now
-        (begin_client plan.now run client.old (carried.now ++ end.old.saved.items)) client.new
-        ((L.seen link.old).honest (is_planned plan.now)) (L.seen link.old).past
-        (L.seen link.new).past
-        end.old.runs.items end.new.runs.items) }
-    ensures broken { OnErr result (IsBroken plan.now run (L.seen link.old) (L.seen link.new)
-        end.old end.new) }
-    ensures settles { Standing plan.now client.old (L.seen link.old) end.old.runs.items
-        end.old.saved.items
-        → All (TrueProgress (L.seen link.old).past.objects plan.now) carried.now
-        → CalmLink plan.now (L.seen link.old)
-        → OnOk result (HasSettled plan.now run end.old.runs.items end.new.runs.items
-        × CalmLink plan.now (L.seen link.new)) }
-    ensures outlasts { Standing plan.now client.old (L.seen link.old) end.old.runs.items
-        end.old.saved.items
-        → All (TrueProgress (L.seen link.old).past.objects plan.now) carried.now
-        → OnOk result (HasOutlasted plan.now run end.old.runs.items end.new.runs.items
-        (L.seen link.old).disturbances (L.seen link.new).disturbances) }
-    ensures ended { (L.seen link.old).honest (is_planned plan.now) → EndsJoin end.old.runs.items
-        end.new.runs.items (result ≡ Ok tt) (length (L.seen link.old).past.sent)
-        (length (L.seen link.new).past.sent) (L.seen link.old).ended (L.seen link.new).ended }
-    ensures followed { OnOk result (L.follows link.old link.new) }
+    ensures { RunsOne plan.now carried.now run
+        (record { client = client.old; link = L.seen link.old; end = end.old }) result
+        (record { client = client.new; link = L.seen link.new; end = end.new })
+        (L.follows link.old link.new) }
 {
     laws_of_runs();
     plan.keys();

@@ -1,14 +1,10 @@
 //! A plan carried out over a link, and saved after each exchange.
-ghost use Rattle.std.specs.Prelude.{◌≡◌, ◌≢◌, ◌≤◌, ◌<◌, ◌++◌, ◌∷◌, ◌⊎◌, [], length, Ok, Err, IfOk, IfErr, IsTrue, OnErr, OnOk, false};
+ghost use Rattle.std.specs.Prelude.{◌≡◌, ◌≢◌, ◌≤◌, ◌<◌, ◌++◌, ◌∷◌, [], length, Ok, Err, IfErr, IsTrue, OnErr, OnOk, false};
 ghost use Rattle.kmip_client.specs.Saving.{progress};
 ghost use Rattle.kmip_progress.specs.Texts.{progress_text};
-ghost use Rattle.kmip_protocol.specs.Past.{Names, is_planned};
 ghost use Rattle.kmip_runs.specs.CarriesOut.{CarriesOut};
-ghost use Rattle.kmip_runs.specs.Driving.{IsGood, Stands};
-ghost use Rattle.kmip_runs.specs.Losing.{ArePaid, left_for};
-ghost use Rattle.kmip_runs.specs.PrivateCarried.{Carried, CarryingLaws};
+ghost use Rattle.kmip_runs.specs.PrivateCarried.{CarryingLaws, MakesExchangesInTurn, MakesOneExchange};
 ghost use Rattle.kmip_runs.specs.Refusals.{HasRisen};
-ghost use Rattle.kmip_runs.specs.Saved.{IsInMemory, IsLeft};
 
 use crate::driving::{stop_of, turn};
 use crate::keeper::Keeper;
@@ -106,24 +102,17 @@ fn exchange_in_turn<L: Link, K: Keeper, P: Patience>(
     patience: &mut P,
     limit: usize,
 ) -> (Result<Stop, SaveFault>, usize)
-    ensures carried { Carried client.old client.new
-        (L.seen link.old) (L.seen link.new) (K.kept keeper.old) (K.kept keeper.new) result.0
-        result.1 }
-    ensures counted { (K.kept keeper.old).refusals ≤ (K.kept keeper.new).refusals }
-    ensures output { result.0 ≡ Err SaveFault.Output
-        → HasRisen (K.kept keeper.old).refusals (K.kept keeper.new).refusals }
-    ensures stands { IfOk result.0 (λ stop. Stands stop client.new.keys client.new.knowns) }
-    ensures limit { result.0 ≡ Ok Stop.Limit
-        → (result.1 ≡ limit) ⊎ IsTrue (P.has_given_up patience.new) }
-    ensures given_up { P.has_given_up patience.old ≡ false
-        → IsTrue (P.has_given_up patience.new) → IsLeft result.0 × (result.1 < limit) }
-    ensures within { result.1 ≤ limit }
-    ensures losing { IsGood client.old (L.seen link.old) → IsInMemory result.0
-        → ArePaid result.1 (left_for client.old (L.seen link.old).past)
-        (left_for client.new (L.seen link.new).past) (L.seen link.old).disturbances
-        (L.seen link.new).disturbances }
-    ensures ended { (L.seen link.old).honest (is_planned client.old.keys)
-        → (L.seen link.new).ended ≡ (L.seen link.old).ended }
+    ensures { MakesExchangesInTurn limit (record {
+      link = L.seen link.old;
+      client = client.old;
+      keeper = K.kept keeper.old;
+      is_tired = P.has_given_up patience.old;
+    }) result.0 result.1 (record {
+      link = L.seen link.new;
+      client = client.new;
+      keeper = K.kept keeper.new;
+      is_tired = P.has_given_up patience.new;
+    }) }
 {
     laws_below();
     let _plan = client.plan();
@@ -154,21 +143,15 @@ fn exchange_once<L: Link, K: Keeper>(
     link: &mut L,
     keeper: &mut K,
 ) -> (Result<Stop, SaveFault>, usize)
-    ensures carried { Carried client.old client.new
-        (L.seen link.old) (L.seen link.new) (K.kept keeper.old) (K.kept keeper.new) result.0
-        result.1 }
-    ensures counted { (K.kept keeper.old).refusals ≤ (K.kept keeper.new).refusals }
-    ensures output { result.0 ≡ Err SaveFault.Output
-        → HasRisen (K.kept keeper.old).refusals (K.kept keeper.new).refusals }
-    ensures stands { IfOk result.0 (λ stop. Stands stop client.new.keys client.new.knowns) }
-    ensures limit { result.0 ≡ Ok Stop.Limit → result.1 ≡ 1 }
-    ensures within { result.1 ≤ 1 }
-    ensures losing { IsGood client.old (L.seen link.old) → IsInMemory result.0
-        → ArePaid result.1 (left_for client.old (L.seen link.old).past)
-        (left_for client.new (L.seen link.new).past) (L.seen link.old).disturbances
-        (L.seen link.new).disturbances }
-    ensures ended { (names : Names) → (L.seen link.old).honest names
-        → (L.seen link.new).ended ≡ (L.seen link.old).ended }
+    ensures { MakesOneExchange (record {
+      client = client.old;
+      link = L.seen link.old;
+      keeper = K.kept keeper.old;
+    }) (record {
+      client = client.new;
+      link = L.seen link.new;
+      keeper = K.kept keeper.new;
+    }) result.0 result.1 }
 {
     // proof: a key that is settled is not worked on
     the_settled_are_not_worked_on();

@@ -1,25 +1,16 @@
 //! Runs of exchanges, until no key is worked on any more or as many were made as may be.
-ghost use Rattle.std.specs.Prelude.{◌≡◌, ◌≢◌, ◌≤◌, ◌<◌, ◌+◌, ℕ, List, length, filter, false, Some, None, IfOk, IfErr, IsOk, IsSome, IfSome, OnErr, OnOk, ◌++◌, option_map};
+ghost use Rattle.std.specs.Prelude.{◌≡◌, ◌≢◌, ◌<◌, ◌+◌, List, filter, false, Some, None, IfErr, IsSome, IfSome, OnErr, OnOk, option_map};
 ghost use Rattle.std.specs.List.{list_any};
 ghost use Rattle.kmip_objects.specs.Objects.{Object};
-ghost use Rattle.kmip_client.specs.Clients.{one_if, AreSettled};
 ghost use Rattle.kmip_client.specs.Held.{Held};
 ghost use Rattle.kmip_client.specs.Hearing.{hear};
-ghost use Rattle.kmip_client.specs.Justified.{JustifiedMessage};
 ghost use Rattle.kmip_client.specs.Truth.{TrueMessage};
-ghost use Rattle.kmip_plan.specs.Chains.{bound};
-ghost use Rattle.kmip_protocol.specs.Past.{Names, is_planned};
-ghost use Rattle.kmip_runs.specs.Driving.{AsksOne, IsGood, IsSettling, IsUntouched, IsComplete, KeepsFurther, need, Nearer, WentOn, Learnt, LearntUntil, Grown, Keeps, Stands};
-ghost use Rattle.kmip_runs.specs.Private.{IsBrokenOff, IsToBePut, AreParts};
-ghost use Rattle.kmip_client.specs.Known.{facts};
-ghost use Rattle.kmip_protocol.specs.Past.{Past};
+ghost use Rattle.kmip_runs.specs.Driving.{IsBorneOut, IsGood, Keeps};
+ghost use Rattle.kmip_runs.specs.Private.{IsToBePut, AreParts};
 ghost use Rattle.kmip_runs.specs.PrivateLawbook.{Lawbook};
-ghost use Rattle.kmip_runs.specs.Losing.{ArePaid, IsEnough, left_for};
-ghost use Rattle.kmip_runs.specs.Private.{IsAnswered, IsGivenUp, TakesTurn, messages_made};
-ghost use Rattle.kmip_runs.specs.Turning.{IsTurned};
-ghost use Rattle.kmip_protocol.specs.Needs.{chains_and_looks};
 ghost use Rattle.kmip_protocol.specs.Turns.{answers_part, is_unanswered, lost_each, taught, taught_by};
 ghost use Rattle.kmip_runs.specs.Drives.{Drives};
+ghost use Rattle.kmip_runs.specs.PrivateTurns.{MakesTurn, PutsQuestion};
 
 use crate::stop::Stop;
 use crate::turn_fault::TurnFault;
@@ -116,41 +107,8 @@ pub(crate) fn turn<L: Link>(
     client: &mut Client<'_>,
     link: &mut L,
 ) -> Result<bool, TurnFault>
-    ensures good { IsGood client.old (L.seen link.old)
-        → IsGood client.new (L.seen link.new) }
-    ensures goes { IsGood client.old (L.seen link.old)
-        → WentOn client.old.keys (L.seen link.old).past (L.seen link.new).past }
-    ensures known { (L.seen link.old).honest (is_planned client.old.keys)
-        → (L.seen link.new).honest (is_planned client.old.keys)
-        × IfOk result (λ asked. Learnt client.old.keys client.old.batch (L.seen link.old).past
-        (L.seen link.new).past client.old.knowns client.new.knowns (one_if asked)) }
-    ensures broken { (L.seen link.old).honest (is_planned client.old.keys) → IfErr result (λ fault.
-        (facts client.new.knowns ≡ facts client.old.knowns)
-        × IsBrokenOff client.old.keys client.old.batch (L.seen link.old).past (L.seen link.new).past
-        fault) }
-    ensures lost { IfErr result (IsGivenUp ((L.seen link.old).honest (is_planned client.old.keys))
-        client.old client.new (L.seen link.old).past (L.seen link.new).past) }
-    ensures turned { IfOk result (λ asked. TakesTurn ((L.seen link.old).honest
-        (is_planned client.old.keys))
-        asked client.old client.new (L.seen link.old).past (L.seen link.new).past) }
-    ensures grown { (L.seen link.old).honest (is_planned client.old.keys)
-        → Grown (L.seen link.old).past (L.seen link.new).past }
-    ensures kept { Keeps client.old client.new }
-    ensures none { IfOk result (λ asked. asked ≡ false
-        → AreSettled client.new.keys client.new.knowns) }
-    ensures calm { IsSettling client.old (L.seen link.old) → IfOk result (λ asked.
-        Nearer client.old client.new (L.seen link.old) (L.seen link.new) (one_if asked)) }
-    ensures losing { IsGood client.old (L.seen link.old) → IfOk result (λ asked.
-        ArePaid (one_if asked) (left_for client.old (L.seen link.old).past)
-        (left_for client.new (L.seen link.new).past) (L.seen link.old).disturbances
-        (L.seen link.new).disturbances) }
-    ensures honest { (names : Names) → (L.seen link.old).honest names
-        → (L.seen link.new).honest names }
-    ensures ended { (names : Names) → (L.seen link.old).honest names
-        → (L.seen link.new).ended ≡ (L.seen link.old).ended }
-    ensures further { IsGood client.old (L.seen link.old)
-        → KeepsFurther client.old.keys (IsOk result) (L.seen link.old) (L.seen link.new) }
-    ensures followed { OnOk result (L.follows link.old link.new) }
+    ensures { MakesTurn (L.seen link.old) client.old result (L.seen link.new) client.new
+        (L.follows link.old link.new) }
 {
     laws_below();
     let Some(question) = client.ask(alloc)? else {
@@ -171,41 +129,8 @@ fn put<L: Link>(
     question: &Question,
 ) -> Result<(), TurnFault>
     requires { IsToBePut client.old question.now }
-    ensures good { IsGood client.old (L.seen link.old)
-        → JustifiedMessage client.old.keys (L.seen link.old).past.objects question.now.bytes
-        → IsGood client.new (L.seen link.new)
-        × WentOn client.old.keys (L.seen link.old).past (L.seen link.new).past }
-    ensures known { (L.seen link.old).honest (is_planned client.old.keys)
-        → (L.seen link.new).honest (is_planned client.old.keys)
-        × OnOk result (Learnt client.old.keys client.old.batch (L.seen link.old).past
-        (L.seen link.new).past client.old.knowns client.new.knowns 1) }
-    ensures broken { (L.seen link.old).honest (is_planned client.old.keys) → IfErr result (λ fault.
-        (facts client.new.knowns ≡ facts client.old.knowns)
-        × IsBrokenOff client.old.keys client.old.batch (L.seen link.old).past (L.seen link.new).past
-        fault) }
-    ensures lost { OnErr result (client.new ≡ taught question.now None client.old) }
-    ensures sent { (L.seen link.old).honest (is_planned client.old.keys) → IfErr result (λ fault.
-        (L.seen link.new).past.sent
-        ≡ (L.seen link.old).past.sent ++ messages_made fault question.now.bytes) }
-    ensures answered { OnOk result (IsAnswered
-        ((L.seen link.old).honest (is_planned client.old.keys)) question.now client.old client.new
-        (L.seen link.old).past (L.seen link.new).past) }
-    ensures grown { (L.seen link.old).honest (is_planned client.old.keys)
-        → Grown (L.seen link.old).past (L.seen link.new).past }
-    ensures kept { Keeps client.old client.new }
-    ensures calm { IsSettling client.old (L.seen link.old) → OnOk result (
-        Nearer client.old client.new (L.seen link.old) (L.seen link.new) 1) }
-    ensures losing { IsGood client.old (L.seen link.old) → OnOk result (ArePaid 1
-        (left_for client.old (L.seen link.old).past) (left_for client.new (L.seen link.new).past)
-        (L.seen link.old).disturbances (L.seen link.new).disturbances) }
-    ensures honest { (names : Names) → (L.seen link.old).honest names
-        → (L.seen link.new).honest names }
-    ensures ended { (names : Names) → (L.seen link.old).honest names
-        → (L.seen link.new).ended ≡ (L.seen link.old).ended }
-    ensures further { IsGood client.old (L.seen link.old)
-        → JustifiedMessage client.old.keys (L.seen link.old).past.objects question.now.bytes
-        → KeepsFurther client.old.keys (IsOk result) (L.seen link.old) (L.seen link.new) }
-    ensures followed { OnOk result (L.follows link.old link.new) }
+    ensures { PutsQuestion question.now (L.seen link.old) client.old result (L.seen link.new)
+        client.new (L.follows link.old link.new) }
 {
     laws_below();
     let _plan = client.plan();
@@ -354,7 +279,7 @@ fn unless_no_memory(fault: HearFault) -> Result<(), TurnFault>
 
 /// Why a run stops that makes no further exchange.
 pub(crate) fn stop_of(client: &Client<'_>) -> Stop
-    ensures stands { Stands result client.now.keys client.now.knowns }
+    ensures stops_for_its_reason { IsBorneOut result client.now.keys client.now.knowns }
     ensures in_memory { result ≢ Stop.NoMemory }
 {
     if client.working() > 0 {

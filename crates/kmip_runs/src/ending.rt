@@ -1,12 +1,9 @@
 //! The end of a run: made while there may be no memory for it, then noted.
-ghost use Rattle.std.specs.Prelude.{◌≡◌, ◌++◌, ◌∷◌, [], List, length, map, Some, None, IfOk, IfSome, OnErr, OnOk, if◌then◌else◌};
+ghost use Rattle.std.specs.Prelude.{◌≡◌, ◌++◌, ◌∷◌, [], List, map, Some, None, IfOk, IfSome, OnOk, if◌then◌else◌};
 ghost use Rattle.kmip_client.specs.Held.{Held, TrueProgress};
 ghost use Rattle.kmip_client.specs.Saving.{known_of};
 ghost use Rattle.kmip_objects.specs.Objects.{Object};
 ghost use Rattle.kmip_progress.specs.Suiting.{Suits};
-ghost use Rattle.kmip_protocol.specs.Ending.{EndedAt};
-ghost use Rattle.kmip_protocol.specs.Moves.{Delivered};
-ghost use Rattle.kmip_protocol.specs.Past.{Names};
 ghost use Rattle.kmip_runs.specs.PrivateCampaignParts.{AreSame, HasRoom, IsEnding, IsEndOf, saved_with};
 ghost use Rattle.kmip_runs.specs.Drives.{ClosesRun};
 

@@ -1,5 +1,5 @@
 //! Who keeps the texts that are saved.
-ghost use Rattle.std.specs.Prelude.{◌≡◌, ◌≤◌, ◌++◌, ◌∷◌, [], ℕ, List, IfErr, OnErr, OnOk};
+ghost use Rattle.std.specs.Prelude.{◌≡◌, ◌≤◌, ◌++◌, ◌∷◌, [], IfErr, OnErr, OnOk};
 ghost use Rattle.kmip_runs.specs.Keeping.{Kept};
 ghost use Rattle.kmip_runs.specs.Refusals.{HasRisen};
 ghost use Rattle.kmip_runs.specs.declared.save_fault.SaveFault.TheVariants as faults;

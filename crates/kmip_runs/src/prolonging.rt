@@ -1,28 +1,12 @@
 //! Runs on plans of which each prolongs the one before, the plans in turn.
-ghost use Rattle.std.specs.Prelude.{◌≡◌, ◌≢◌, ◌≤◌, ◌++◌, ◌⊎◌, [], length, map, None, Ok, IfOk, IsOk, IfSome, OnErr, OnOk, option_map};
+ghost use Rattle.std.specs.Prelude.{◌≡◌, ◌≢◌, ◌≤◌, ◌++◌, [], length, map, None, Ok, IfOk, IfSome, OnErr, option_map};
 ghost use Rattle.std.specs.List.{All};
 ghost use Rattle.kmip_plan.specs.Prolonging.{Prolongs};
 ghost use Rattle.kmip_progress.specs.Suiting.{Suits};
-ghost use Rattle.kmip_protocol.specs.Machine.{IsMirrored};
-ghost use Rattle.kmip_protocol.specs.Past.{is_planned};
-ghost use Rattle.kmip_protocol.specs.Headline.{Safe};
-ghost use Rattle.kmip_protocol.specs.Sound.{Opening};
-ghost use Rattle.kmip_runs.specs.Headline.{GoodLink, reported};
-ghost use Rattle.kmip_runs.specs.Campaign.{HasNoConflict, MayBatch};
-ghost use Rattle.kmip_runs.specs.PrivateCampaignParts.{AreSame, CampaignLaws};
-ghost use Rattle.kmip_runs.specs.Campaigns.{
-  AreInTurn,
-  AreProlonged,
-  CalmStart,
-  GoodStart,
-  IsTrueFor,
-  carried_over,
-  last_plan,
-};
-ghost use Rattle.kmip_runs.specs.PrivateCampaignsParts.{HasRunBroken, HasRunPlans, HasRunWhole, IsReadFor, PlansLaws};
-ghost use Rattle.kmip_runs.specs.Driving.{WentOn};
-ghost use Rattle.kmip_runs.specs.Ending.{AreEnded};
-ghost use Rattle.kmip_runs.specs.Private.{EndsJoin};
+ghost use Rattle.kmip_runs.specs.Campaign.{MayBatch};
+ghost use Rattle.kmip_runs.specs.PrivateCampaignParts.{CampaignLaws};
+ghost use Rattle.kmip_runs.specs.Campaigns.{AreProlonged, GoodStart, carried_over};
+ghost use Rattle.kmip_runs.specs.PrivateCampaignsParts.{IsReadFor, MakesPart, MakesPlans, PlansLaws};
 ghost use Rattle.kmip_runs.specs.MakesCampaigns.{MakesCampaigns};
 
 use crate::campaign_end::CampaignEnd;
@@ -110,12 +94,8 @@ fn run_plans<L: Link>(
     requires as_many { length runs.now ≡ length plans.now }
     requires prolong { AreProlonged plans.now }
     requires batches { All (λ list. MayBatch list.items) runs.now }
-    ensures ran { HasRunPlans plans.now (map (λ list. list.items) runs.now)
-        (result ≡ Ok tt) (L.seen link.old) (L.seen link.new) end.new }
-    ensures ended { (L.seen link.old).honest (is_planned (last_plan plans.now))
-        → EndsJoin [] end.new.runs.items (result ≡ Ok tt) (length (L.seen link.old).past.sent)
-        (length (L.seen link.new).past.sent) (L.seen link.old).ended (L.seen link.new).ended }
-    ensures followed { OnOk result (L.follows link.old link.new) }
+    ensures { MakesPlans plans.now (map (λ list. list.items) runs.now) (result ≡ Ok tt)
+        (L.seen link.old) (L.seen link.new) end.new (L.follows link.old link.new) }
 {
     laws_below();
     plans[0].keys();
@@ -148,17 +128,14 @@ fn run_part<L: Link>(
     requires carried { All (Suits plan.now) carried.now }
     requires batches { MayBatch runs.now }
     requires prolongs { IfSome next (λ next. Prolongs next.now plan.now) }
-    ensures ran { IfOk result (λ read. HasRunWhole plan.now
-        (option_map (λ next. next.now) next.entry) carried.now runs.now
-        (record { link = L.seen link.old; end = end.old })
-        (record { link = L.seen link.new; end = end.new }) read.items) }
-    ensures broken { OnErr result ((AreSame end.old end.new × (link.new ≡ link.old))
-        ⊎ HasRunBroken plan.now (option_map (λ next. next.now) next.entry)
-        carried.now runs.now (L.seen link.old) (L.seen link.new) end.old end.new) }
-    ensures ended { (L.seen link.old).honest (is_planned plan.now) → EndsJoin end.old.runs.items
-        end.new.runs.items (IsOk result) (length (L.seen link.old).past.sent)
-        (length (L.seen link.new).past.sent) (L.seen link.old).ended (L.seen link.new).ended }
-    ensures followed { OnOk result (L.follows link.old link.new) }
+    ensures { MakesPart (record {
+      keys = plan.now;
+      next = option_map (λ next. next.now) next.entry;
+      carried = carried.now;
+      runs = runs.now;
+    }) (record { link = L.seen link.old; end = end.old }) result (λ read. read.items)
+        (record { link = L.seen link.new; end = end.new }) (link.new ≡ link.old)
+        (L.follows link.old link.new) }
 {
     end.runs.reserve(runs.len())?;
     end.saved.reserve(runs.len())?;

@@ -12,7 +12,7 @@ use Rattle.kmip_runs.specs.Headline.{reported}
 use Rattle.kmip_runs.specs.Driving.{WentOn}
 use Rattle.kmip_runs.specs.Ending.{AreEnded}
 use Rattle.kmip_runs.specs.Losing.{AllOutlast}
-use Rattle.kmip_runs.specs.Remembering.{AreKnown}
+use Rattle.kmip_runs.specs.Remembering.{AreKnown, notes_of}
 use Rattle.kmip_runs.specs.Campaigns.{AreInTurn, CalmStart, IsTrueFor, last_plan}
 use Rattle.kmip_runs.specs.declared.campaign_end.CampaignEnd.{CampaignEnd}
 use Rattle.kmip_runs.specs.declared.run.Run.{Run}
@@ -45,10 +45,10 @@ pub record IsCarriedOut (keys : List Key) (runs : List Run) (end : CampaignEnd) 
   pub no_conflict : All HasNoConflict end.runs.items
   pub sound : Sound keys (past_in after)
   pub true_saved : All (TrueProgress (past_in after).objects keys) end.saved.items
-  pub goes : WentOn keys (past_in before) (past_in after)
+  pub onward : WentOn keys (past_in before) (past_in after)
   pub order : AllZip (IsEnd keys) (take (length end.runs.items) runs) end.runs.items
   pub complete : end.fault ≡ None → AreMade keys runs end
-  pub known : AreKnown keys runs end.runs.items end.saved.items ⊤ (end.fault ≡ None) (past_in before) (past_in after)
+  pub known : AreKnown keys runs (notes_of end) ⊤ (end.fault ≡ None) (past_in before) (past_in after)
   pub settles : CalmLink keys (seen_in before) → end.fault ≡ None
       → AllZip (Settles keys) runs end.runs.items × CalmLink keys (seen_in after)
   pub outlasts : end.fault ≡ None → AllOutlast keys runs end.runs.items (disturbances_in before) (disturbances_in after)
@@ -80,7 +80,7 @@ pub record AreSimulated (plans : List (List Key)) (batch : ℕ) (words : List Wo
   pub no_conflict : All HasNoConflict end.runs.items
   pub true_saved : All (IsTrueFor (past_in link).objects (last_plan plans)) end.saved.items
   pub opening : (keys : List Key) → Opening keys (past_in (first_scene words))
-  pub in_turn : AreInTurn plans (map (in_batches batch) (lists_of (last_plan plans) words)) end.runs.items end.saved.items ⊤
-      (CalmStart plans (seen_in (first_scene words))) (end.fault ≡ None) (past_in (first_scene words)) (past_in link)
+  pub in_turn : AreInTurn plans (map (in_batches batch) (lists_of (last_plan plans) words)) (notes_of end)
+      (record { honest = ⊤; calm = CalmStart plans (seen_in (first_scene words)) }) (end.fault ≡ None) (past_in (first_scene words)) (past_in link)
   pub ended : AreEnded end.runs.items 0 [] link.ended
   pub followed : end.fault ≡ None → Follows (first_scene words) link

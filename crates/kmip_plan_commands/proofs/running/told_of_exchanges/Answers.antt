@@ -15,7 +15,7 @@ returns-in_ok-text-in-Ok g c = record {
     stands = search rules;
     within = search rules;
     refused_is = search rules;
-    text_is = rw (c.into_bytes.ensures.value, c.in_ok-text-in-Ok.ensures, c.carry_out-ended.ensures.kept.keys_stay) refl;
+    text_is = rw (c.into_bytes.ensures.value, c.in_ok-text-in-Ok.ensures, c.carry_out-ended.ensures.forgets_nothing.keys_stay) refl;
   });
   safe = search rules;
   few = search rules;

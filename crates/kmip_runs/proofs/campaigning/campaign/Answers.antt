@@ -1,10 +1,10 @@
 -- Nothing was carried over; and all that is reported was reached, so what is sound is safe.
-use Rattle.std.proofs.Common.{◌≡◌, ◌∙◌, [], None, subst, sym}
-use Rattle.std.specs.List.{All}
+use Rattle.std.proofs.Common.{◌≡◌, ◌∙◌, [], None, subst}
 use Rattle.std.proofs.lemmas.List.Elements.{All-nil}
 use Rattle.kmip_client.specs.Held.{TrueProgress}
 use Rattle.kmip_runs.specs.Headline.{reported}
 use Rattle.kmip_runs.specs.PrivateCampaignParts.{HasRunAll}
+use Rattle.kmip_runs.specs.Remembering.{notes_of}
 use Rattle.kmip_runs.specs.TurnedRuns.{AreTurnedFrom}
 use Rattle.kmip_protocol.specs.Past.{is_planned}
 use Rattle.kmip_runs.proofs.CampaignLemmas.{reported_reached}
@@ -17,7 +17,7 @@ returns g c =
     let keys = c.args.plan.now in
     let none : c.as_slice.result.now ≡ [] = c.as_slice.ensures.value ∙ c.new-carried.ensures.items in
     let all =
-    subst (λ carried. HasRunAll keys carried c.args.runs.now c.run_all.result (g.L.Link.seen c.args.link.now) (g.L.Link.seen c.run_all.new.link)) none
+    subst (λ carried. HasRunAll keys carried c.args.runs.now (notes_of c.run_all.result) (c.run_all.result.fault ≡ None) (g.L.Link.seen c.args.link.now) (g.L.Link.seen c.run_all.new.link)) none
     c.run_all.ensures.all in
     let nothing = All-nil (TrueProgress (g.L.Link.seen c.args.link.now).past.objects keys) in
     let ends = c.run_all.result.runs.items in
@@ -25,17 +25,17 @@ returns g c =
     record {
       well = λ good. record {
         safe =
-            let ran = (all.stands good nothing).0 in
+            let ran = (all.well good nothing).campaigned in
             l.safe keys (g.L.Link.seen c.run_all.new.link).past (reported keys ends saved) ran.good.sound
             (reported_reached l keys (g.L.Link.seen c.run_all.new.link).past ends saved c.keys.ensures.lawful ran.noted);
         machine =
-            let on = (all.stands good nothing).0.on in
+            let on = (all.well good nothing).campaigned.on in
             (λ opening. on.mirrored (l.opening keys (g.L.Link.seen c.args.link.now).past opening), on.mirrored);
-        no_conflict = (all.stands good nothing).0.noted.no_conflict;
-        sound = (all.stands good nothing).0.good;
-        true_saved = (all.stands good nothing).0.noted.true_saved;
-        goes = (all.stands good nothing).0.on;
-        outlasts = λ is. c.run_all.ensures.outlasts good (subst (λ carried. All (TrueProgress (g.L.Link.seen c.args.link.now).past.objects keys) carried) (sym none) nothing) is;
+        no_conflict = (all.well good nothing).campaigned.noted.no_conflict;
+        sound = (all.well good nothing).campaigned.good;
+        true_saved = (all.well good nothing).campaigned.noted.true_saved;
+        onward = (all.well good nothing).campaigned.on;
+        outlasts = (all.well good nothing).outlasts;
       };
       order = all.order;
       complete = all.complete;

@@ -1,5 +1,5 @@
 -- Begun, driven, ended over the link and noted.
-use Rattle.std.proofs.Common.{◌≡◌, ◌∙◌, ◌++◌, ◌∷◌, [], IfSome, Ok, arith, ap, refl, rules, subst, sym}
+use Rattle.std.proofs.Common.{◌≡◌, ◌∙◌, ◌++◌, ◌∷◌, [], IfSome, arith, ap, refl, rules, subst, sym}
 use Rattle.std.specs.List.{All}
 use Rattle.kmip_client.specs.Held.{TrueProgress}
 use Rattle.kmip_progress.specs.Suiting.{Suits}
@@ -20,204 +20,225 @@ use Rattle.kmip_runs.proofs.RunLemmas.{driven_further, if_ok}
 use Rattle.kmip_runs.proofs.TurnedRunLemmas.{ran_turned}
 use Rattle.kmip_runs.proofs.campaigning.one_run.Goals as goal
 
-pub returns-in_err-ending-clause-stands : goal.returns-in_err-ending-clause-stands
-returns-in_err-ending-clause-stands g c = λ standing carried.
-    stood c.laws_of_runs.ensures c.args.plan.now c.args.client.now c.begin.new.client c.drive-driven.new.client (g.L.Link.seen c.args.link.now)
-    (g.L.Link.seen c.drive-driven.new.link) c.drive-driven.result.0 c.args.end.now.runs.items c.ending_of.new.end.runs.items c.args.end.now.saved.items c.ending_of.new.end.saved.items
-    c.keys.ensures.lawful c.requires.keys c.begin.ensures.keys (c.drive-driven.ensures.kept.keys_stay ∙ c.begin.ensures.keys)
-    (λ saved. c.begin.ensures.held (g.L.Link.seen c.args.link.now).past.objects carried
-    (subst (λ ps. All (TrueProgress (g.L.Link.seen c.args.link.now).past.objects c.args.plan.now) ps) (sym c.as_slice.ensures.value) saved))
-    (λ good. (c.drive-driven.ensures.well good).good) (λ good. (c.drive-driven.ensures.well good).goes) (λ good. (c.drive-driven.ensures.well good).no_conflict)
-    (λ objects none held noted. noted_still objects c.drive-driven.new.client.keys c.args.end.now c.ending_of.new.end c.ending_of.ensures.same noted) standing
-
-pub returns-in_err-close_run-clause-stands : goal.returns-in_err-close_run-clause-stands
-returns-in_err-close_run-clause-stands g c = λ standing carried.
-    closed c.laws_of_runs.ensures c.args.plan.now c.drive-driven.new.client (g.L.Link.seen c.args.link.now) (g.L.Link.seen c.drive-driven.new.link) (g.L.Link.seen c.close_run.new.link)
-    c.ending_of.new.end.runs.items c.ending_of.new.end.saved.items c.keys.ensures.lawful (c.drive-driven.ensures.kept.keys_stay ∙ c.begin.ensures.keys) (λ names honest. (c.close_run.ensures.honestly names honest).honest)
-    (stood c.laws_of_runs.ensures c.args.plan.now c.args.client.now c.begin.new.client c.drive-driven.new.client (g.L.Link.seen c.args.link.now)
-    (g.L.Link.seen c.drive-driven.new.link) c.drive-driven.result.0 c.args.end.now.runs.items c.ending_of.new.end.runs.items c.args.end.now.saved.items c.ending_of.new.end.saved.items
-    c.keys.ensures.lawful c.requires.keys c.begin.ensures.keys (c.drive-driven.ensures.kept.keys_stay ∙ c.begin.ensures.keys)
-    (λ saved. c.begin.ensures.held (g.L.Link.seen c.args.link.now).past.objects carried
-    (subst (λ ps. All (TrueProgress (g.L.Link.seen c.args.link.now).past.objects c.args.plan.now) ps) (sym c.as_slice.ensures.value) saved))
-    (λ good. (c.drive-driven.ensures.well good).good) (λ good. (c.drive-driven.ensures.well good).goes) (λ good. (c.drive-driven.ensures.well good).no_conflict)
-    (λ objects none held noted. noted_still objects c.drive-driven.new.client.keys c.args.end.now c.ending_of.new.end c.ending_of.ensures.same noted) standing)
-
-pub returns-clause-stands : goal.returns-clause-stands
-returns-clause-stands g c = λ standing carried.
-    closed c.laws_of_runs.ensures c.args.plan.now c.drive-driven.new.client (g.L.Link.seen c.args.link.now) (g.L.Link.seen c.drive-driven.new.link) (g.L.Link.seen c.close_run.new.link)
-    c.note.new.end.runs.items c.note.new.end.saved.items c.keys.ensures.lawful (c.drive-driven.ensures.kept.keys_stay ∙ c.begin.ensures.keys) (λ names honest. (c.close_run.ensures.honestly names honest).honest)
-    (stood c.laws_of_runs.ensures c.args.plan.now c.args.client.now c.begin.new.client c.drive-driven.new.client (g.L.Link.seen c.args.link.now)
-    (g.L.Link.seen c.drive-driven.new.link) c.drive-driven.result.0 c.args.end.now.runs.items c.note.new.end.runs.items c.args.end.now.saved.items c.note.new.end.saved.items
-    c.keys.ensures.lawful c.requires.keys c.begin.ensures.keys (c.drive-driven.ensures.kept.keys_stay ∙ c.begin.ensures.keys)
-    (λ saved. c.begin.ensures.held (g.L.Link.seen c.args.link.now).past.objects carried
-    (subst (λ ps. All (TrueProgress (g.L.Link.seen c.args.link.now).past.objects c.args.plan.now) ps) (sym c.as_slice.ensures.value) saved))
-    (λ good. (c.drive-driven.ensures.well good).good) (λ good. (c.drive-driven.ensures.well good).goes) (λ good. (c.drive-driven.ensures.well good).no_conflict)
-    (λ objects none held noted. noted_ending objects c.drive-driven.new.client.keys c.args.run c.drive-driven.new.client.knowns c.drive-driven.result c.in_ok-ending.ending
-    c.args.end.now c.note.new.end c.in_ok-ending.ensures.is (c.in_ok-ending.ensures.held objects)
-    (c.note.ensures.runs ∙ ap (λ ends. ends ++ c.in_ok-ending.ending.run ∷ []) c.ending_of.ensures.same.same_runs)
-    (c.note.ensures.saved ∙ ap (λ saved. saved_with c.in_ok-ending.ending.saved saved) c.ending_of.ensures.same.same_saved) none held noted) standing)
-
-pub returns-clause-suits : goal.returns-clause-suits
-returns-clause-suits g c =
-    let P = Suits c.args.plan.now in
-    let old = subst (λ saved. All P saved) (sym c.ending_of.ensures.same.same_saved) c.requires.suits in
-    let own = subst (λ ks. IfSome c.in_ok-ending.ending.saved (Suits ks)) (c.drive-driven.ensures.kept.keys_stay ∙ c.begin.ensures.keys) c.in_ok-ending.ensures.suits in
-    subst (λ saved. All P saved) (sym c.note.ensures.saved) (all_saved P c.in_ok-ending.ending.saved c.ending_of.new.end.saved.items old own)
-
-pub returns-in_err-begin-clause-broken : goal.returns-in_err-begin-clause-broken
-returns-in_err-begin-clause-broken g c =
-    always_err c.from_residual.result
-    (record {
-      same = record { same_runs = refl; same_saved = refl };
-      grown = λ honest. grown_itself (g.L.Link.seen c.args.link.now).past;
-      few = λ honest. omega arith;
-    })
-
-pub returns-in_err-ending-clause-broken : goal.returns-in_err-ending-clause-broken
-returns-in_err-ending-clause-broken g c =
-    always_err c.from_residual-in_err-ending.result
-    (broken_off c.args.plan.now c.args.carried.now c.begin.new.client (g.L.Link.seen c.args.link.now) (g.L.Link.seen c.drive-driven.new.link) c.args.run c.args.end.now
-    c.ending_of.new.end c.begin.ensures.keys (λ honest. (c.drive-driven.ensures.honestly honest).grown) (λ honest. (c.drive-driven.ensures.honestly honest).few) c.ending_of.ensures.same)
-
-pub returns-in_err-close_run-clause-broken : goal.returns-in_err-close_run-clause-broken
-returns-in_err-close_run-clause-broken g c =
-    always_err c.from_residual-in_err-close_run.result
-    (broken_closed c.args.plan.now c.args.carried.now c.begin.new.client (g.L.Link.seen c.args.link.now) (g.L.Link.seen c.drive-driven.new.link) (g.L.Link.seen c.close_run.new.link)
-    c.args.run c.args.end.now c.ending_of.new.end c.begin.ensures.keys (λ honest. (c.drive-driven.ensures.honestly honest).grown) (λ honest. (c.drive-driven.ensures.honestly honest).few) c.drive-driven.ensures.honest
-    (λ names honest. (c.close_run.ensures.honestly names honest).honest) c.ending_of.ensures.same)
-
-pub returns-clause-ran : goal.returns-clause-ran
-returns-clause-ran g c =
-    ran_closed c.args.plan.now c.args.carried.now c.args.run c.args.client.now c.begin.new.client c.drive-driven.new.client (g.L.Link.seen c.args.link.now)
-    (g.L.Link.seen c.drive-driven.new.link) (g.L.Link.seen c.close_run.new.link) c.drive-driven.result c.args.end.now c.note.new.end c.begin.ensures.keys c.in_ok-begin.ensures.batch
-    (subst (λ ps. c.begin.new.client.knowns ≡ start_knowns c.args.plan.now c.args.run.start c.args.client.now.knowns (c.args.carried.now ++ ps)) c.as_slice.ensures.value
-    c.in_ok-begin.ensures.begun)
-    c.drive-driven.ensures.kept
-    (λ honest. let known = (c.drive-driven.ensures.honestly honest).known in (known.0, known.1 c.in_ok-ending.ensures.is.end_is.in_memory))
-    (has_ended c.drive-driven.new.client.keys c.drive-driven.new.client.knowns c.args.run c.drive-driven.result c.in_ok-ending.ending c.args.end.now c.note.new.end
-    c.in_ok-ending.ensures.is c.drive-driven.ensures.stands c.drive-driven.ensures.limit c.drive-driven.ensures.within
-    (c.note.ensures.runs ∙ ap (λ ends. ends ++ c.in_ok-ending.ending.run ∷ []) c.ending_of.ensures.same.same_runs)
-    (c.note.ensures.saved ∙ ap (λ saved. saved_with c.in_ok-ending.ending.saved saved) c.ending_of.ensures.same.same_saved)) (λ names honest. (c.close_run.ensures.honestly names honest).honest)
-
-pub returns-clause-turned : goal.returns-clause-turned
-returns-clause-turned g c =
-    ran_turned c.args.plan.now c.args.run _ c.begin.new.client c.drive-driven.new.client (g.L.Link.seen c.args.link.now) (g.L.Link.seen c.drive-driven.new.link)
-    (g.L.Link.seen c.close_run.new.link) c.drive-driven.result c.args.end.now c.note.new.end c.begin.ensures.keys
-    (subst (λ ps. c.begin.new.client ≡ begin_client c.args.plan.now c.args.run c.args.client.now (c.args.carried.now ++ ps)) c.as_slice.ensures.value
-    c.in_ok-begin.ensures.client)
-    c.drive-driven.ensures.kept c.drive-driven.ensures.honest (λ names honest. (c.close_run.ensures.honestly names honest).honest) c.in_ok-ending.ensures.is.end_is.in_memory c.drive-driven.ensures.turned
-    (has_ended c.drive-driven.new.client.keys c.drive-driven.new.client.knowns c.args.run c.drive-driven.result c.in_ok-ending.ending c.args.end.now c.note.new.end
-    c.in_ok-ending.ensures.is c.drive-driven.ensures.stands c.drive-driven.ensures.limit c.drive-driven.ensures.within
-    (c.note.ensures.runs ∙ ap (λ ends. ends ++ c.in_ok-ending.ending.run ∷ []) c.ending_of.ensures.same.same_runs)
-    (c.note.ensures.saved ∙ ap (λ saved. saved_with c.in_ok-ending.ending.saved saved) c.ending_of.ensures.same.same_saved))
-
-pub returns-clause-settles : goal.returns-clause-settles
-returns-clause-settles g c = λ standing carried calmly.
-    if_ok c.close_run.result (search rules)
-    (settled_run c.args.plan.now c.laws_of_runs.ensures c.args.run c.args.client.now c.begin.new.client c.drive-driven.new.client
-    (g.L.Link.seen c.args.link.now) (g.L.Link.seen c.drive-driven.new.link) (g.L.Link.seen c.close_run.new.link) c.drive-driven.result c.args.end.now.runs.items c.note.new.end.runs.items c.args.end.now.saved.items
-    c.close_run.result c.requires.keys c.begin.ensures.keys (c.drive-driven.ensures.kept.keys_stay ∙ c.begin.ensures.keys)
-    (λ saved. c.begin.ensures.held (g.L.Link.seen c.args.link.now).past.objects carried
-    (subst (λ ps. All (TrueProgress (g.L.Link.seen c.args.link.now).past.objects c.args.plan.now) ps) (sym c.as_slice.ensures.value) saved))
-    (λ good. (c.drive-driven.ensures.well good).good) (λ settling. (c.drive-driven.ensures.calmly settling).settles) (λ settling. (c.drive-driven.ensures.calmly settling).calm) c.in_ok-ending.ensures.is.end_is.in_memory (has_ended c.drive-driven.new.client.keys c.drive-driven.new.client.knowns c.args.run c.drive-driven.result c.in_ok-ending.ending c.args.end.now c.note.new.end
-    c.in_ok-ending.ensures.is c.drive-driven.ensures.stands c.drive-driven.ensures.limit c.drive-driven.ensures.within
-    (c.note.ensures.runs ∙ ap (λ ends. ends ++ c.in_ok-ending.ending.run ∷ []) c.ending_of.ensures.same.same_runs)
-    (c.note.ensures.saved ∙ ap (λ saved. saved_with c.in_ok-ending.ending.saved saved) c.ending_of.ensures.same.same_saved)).noted
-    c.close_run.ensures.calm standing calmly)
-
-pub returns-in_err-begin-clause-further : goal.returns-in_err-begin-clause-further
-returns-in_err-begin-clause-further g c = λ standing carried.
-    further_nowhere c.laws_of_runs.ensures.itself c.args.plan.now (g.L.Link.seen c.args.link.now) _
-
-pub returns-in_err-ending-clause-further : goal.returns-in_err-ending-clause-further
-returns-in_err-ending-clause-further g c = λ standing carried.
-    further_if c.args.plan.now (g.L.Link.seen c.args.link.now) (g.L.Link.seen c.drive-driven.new.link) _ _
-    (λ is. no_ok c.from_residual-in_err-ending.result tt c.from_residual-in_err-ending.ensures.0 is)
-    (driven_further c.args.plan.now c.args.carried.now c.args.client.now c.begin.new.client (g.L.Link.seen c.args.link.now)
-    (g.L.Link.seen c.drive-driven.new.link) c.drive-driven.result.0 c.args.end.now.runs.items c.args.end.now.saved.items c.requires.keys c.begin.ensures.keys
-    (λ saved. c.begin.ensures.held (g.L.Link.seen c.args.link.now).past.objects carried
-    (subst (λ ps. All (TrueProgress (g.L.Link.seen c.args.link.now).past.objects c.args.plan.now) ps) (sym c.as_slice.ensures.value) saved))
-    (λ good. (c.drive-driven.ensures.well good).further) standing)
-
-pub returns-in_err-close_run-clause-further : goal.returns-in_err-close_run-clause-further
-returns-in_err-close_run-clause-further g c = λ standing carried.
-    further_if c.args.plan.now (g.L.Link.seen c.args.link.now) (g.L.Link.seen c.close_run.new.link) _ _
-    (λ is. no_ok c.from_residual-in_err-close_run.result tt c.from_residual-in_err-close_run.ensures.0 is)
-    (further_then c.laws_of_runs.ensures.twice c.args.plan.now (g.L.Link.seen c.args.link.now) (g.L.Link.seen c.drive-driven.new.link) (g.L.Link.seen c.close_run.new.link) _ _
-    (λ is. c.in_ok-ending.ensures.is.end_is.in_memory)
-    (driven_further c.args.plan.now c.args.carried.now c.args.client.now c.begin.new.client (g.L.Link.seen c.args.link.now)
-    (g.L.Link.seen c.drive-driven.new.link) c.drive-driven.result.0 c.args.end.now.runs.items c.args.end.now.saved.items c.requires.keys c.begin.ensures.keys
-    (λ saved. c.begin.ensures.held (g.L.Link.seen c.args.link.now).past.objects carried
-    (subst (λ ps. All (TrueProgress (g.L.Link.seen c.args.link.now).past.objects c.args.plan.now) ps) (sym c.as_slice.ensures.value) saved))
-    (λ good. (c.drive-driven.ensures.well good).further) standing)
-    (further_closed c.laws_of_runs.ensures c.args.plan.now (g.L.Link.seen c.drive-driven.new.link) (g.L.Link.seen c.close_run.new.link) c.close_run.result
-    (λ names honest. (c.close_run.ensures.honestly names honest).honest) c.close_run.ensures.calm))
-
-pub returns-clause-further : goal.returns-clause-further
-returns-clause-further g c = λ standing carried.
-    further_if c.args.plan.now (g.L.Link.seen c.args.link.now) (g.L.Link.seen c.close_run.new.link) _ _
-    (λ is. search rules)
-    (further_then c.laws_of_runs.ensures.twice c.args.plan.now (g.L.Link.seen c.args.link.now) (g.L.Link.seen c.drive-driven.new.link) (g.L.Link.seen c.close_run.new.link) _ _
-    (λ is. c.in_ok-ending.ensures.is.end_is.in_memory)
-    (driven_further c.args.plan.now c.args.carried.now c.args.client.now c.begin.new.client (g.L.Link.seen c.args.link.now)
-    (g.L.Link.seen c.drive-driven.new.link) c.drive-driven.result.0 c.args.end.now.runs.items c.args.end.now.saved.items c.requires.keys c.begin.ensures.keys
-    (λ saved. c.begin.ensures.held (g.L.Link.seen c.args.link.now).past.objects carried
-    (subst (λ ps. All (TrueProgress (g.L.Link.seen c.args.link.now).past.objects c.args.plan.now) ps) (sym c.as_slice.ensures.value) saved))
-    (λ good. (c.drive-driven.ensures.well good).further) standing)
-    (further_closed c.laws_of_runs.ensures c.args.plan.now (g.L.Link.seen c.drive-driven.new.link) (g.L.Link.seen c.close_run.new.link) c.close_run.result
-    (λ names honest. (c.close_run.ensures.honestly names honest).honest) c.close_run.ensures.calm))
-
-pub returns-in_err-begin-clause-ended : goal.returns-in_err-begin-clause-ended
-returns-in_err-begin-clause-ended g c = λ honest.
+-- there was no memory to begin
+pub returns-in_err-begin : goal.returns-in_err-begin
+returns-in_err-begin g c =
+    let keys = c.args.plan.now in
+    let old = g.L.Link.seen c.args.link.now in
     let ends = c.args.end.now.runs.items in
-    join_none ends ends _ _ _ _ _ refl refl (λ is. refl)
+    record {
+      keys_stay = search rules;
+      suits = search rules;
+      well = λ standing holds. record {
+        standing = search rules;
+        onward = search rules;
+        further = further_nowhere c.laws_of_runs.ensures.itself keys old _;
+        settles = search rules;
+        outlasts = search rules;
+      };
+      honest = λ names honest. honest;
+      ran = search rules;
+      turned = search rules;
+      broken =
+          always_err c.from_residual.result
+          (record {
+            same = record { same_runs = refl; same_saved = refl };
+            takes_nothing_back = λ honest. grown_itself old.past;
+            few = λ honest. omega arith;
+          });
+      ended = λ honest. join_none ends ends _ _ _ _ _ refl refl (λ is. refl);
+      followed = search rules;
+    }
 
-pub returns-in_err-ending-clause-ended : goal.returns-in_err-ending-clause-ended
-returns-in_err-ending-clause-ended g c = λ honest.
-    join_none c.args.end.now.runs.items c.ending_of.new.end.runs.items _ _ _ _ _ c.ending_of.ensures.same.same_runs
-    (c.drive-driven.ensures.ended (is_planned c.args.plan.now) honest)
-    (λ is. no_ok c.from_residual-in_err-ending.result tt c.from_residual-in_err-ending.ensures.0 is)
+-- memory ran out in it, or there was none for its end
+pub returns-in_err-ending : goal.returns-in_err-ending
+returns-in_err-ending g c =
+    let keys = c.args.plan.now in
+    let carried = c.args.carried.now in
+    let client = c.args.client.now in
+    let begun = c.begin.new.client in
+    let driven = c.drive-driven.new.client in
+    let old = g.L.Link.seen c.args.link.now in
+    let mid = g.L.Link.seen c.drive-driven.new.link in
+    let end = c.args.end.now in
+    let l = c.laws_of_runs.ensures in
+    let lawful = c.keys.ensures.lawful in
+    let drives = c.drive-driven.ensures in
+    let driven_keys = drives.forgets_nothing.keys_stay ∙ c.begin.ensures.keys in
+    let begins = λ (holds : All (TrueProgress old.past.objects keys) carried) (saved : All (TrueProgress old.past.objects keys) end.saved.items).
+    c.begin.ensures.held old.past.objects holds (subst (λ ps. All (TrueProgress old.past.objects keys) ps) (sym c.as_slice.ensures.value) saved) in
+    let after = c.ending_of.new.end in
+    let result = c.from_residual-in_err-ending.result in
+    let failed = c.from_residual-in_err-ending.ensures.0 in
+    record {
+      keys_stay = driven_keys;
+      suits = search rules;
+      well = λ standing holds.
+          let all =
+          stood l keys client begun driven old mid c.drive-driven.result.0 end.runs.items after.runs.items end.saved.items after.saved.items
+          lawful c.requires.keys c.begin.ensures.keys driven_keys (begins holds)
+          (λ good. (drives.well good).good) (λ good. (drives.well good).onward) (λ good. (drives.well good).no_conflict)
+          (λ objects none held noted. noted_still objects driven.keys end after c.ending_of.ensures.same noted) standing in
+          record {
+            standing = all.0;
+            onward = all.1;
+            further =
+                further_if keys old mid _ _ (λ is. no_ok result tt failed is)
+                (driven_further keys carried client begun old mid c.drive-driven.result.0 end.runs.items end.saved.items c.requires.keys c.begin.ensures.keys
+                (begins holds) (λ good. (drives.well good).further) standing);
+            settles = search rules;
+            outlasts = search rules;
+          };
+      honest = drives.honest;
+      ran = search rules;
+      turned = search rules;
+      broken = always_err result (broken_off keys carried begun old mid c.args.run end after c.begin.ensures.keys (λ honest. (drives.honestly honest).takes_nothing_back) (λ honest. (drives.honestly honest).few) c.ending_of.ensures.same);
+      ended = λ honest.
+          join_none end.runs.items after.runs.items _ _ _ _ _ c.ending_of.ensures.same.same_runs (drives.ended (is_planned keys) honest)
+          (λ is. no_ok result tt failed is);
+      followed = search rules;
+    }
 
-pub returns-in_err-close_run-clause-ended : goal.returns-in_err-close_run-clause-ended
-returns-in_err-close_run-clause-ended g c = λ honest.
-    let names = is_planned c.args.plan.now in
-    let unended = (c.in_err-close_run.ensures.honestly names (c.drive-driven.ensures.honest names honest)).unended in
-    join_none c.args.end.now.runs.items c.ending_of.new.end.runs.items _ _ _ _ _ c.ending_of.ensures.same.same_runs
-    (unended ∙ c.drive-driven.ensures.ended names honest)
-    (λ is. no_ok c.from_residual-in_err-close_run.result tt c.from_residual-in_err-close_run.ensures.0 is)
+-- there was no memory to end it over the link
+pub returns-in_err-close_run : goal.returns-in_err-close_run
+returns-in_err-close_run g c =
+    let keys = c.args.plan.now in
+    let carried = c.args.carried.now in
+    let client = c.args.client.now in
+    let begun = c.begin.new.client in
+    let driven = c.drive-driven.new.client in
+    let old = g.L.Link.seen c.args.link.now in
+    let mid = g.L.Link.seen c.drive-driven.new.link in
+    let end = c.args.end.now in
+    let l = c.laws_of_runs.ensures in
+    let lawful = c.keys.ensures.lawful in
+    let drives = c.drive-driven.ensures in
+    let driven_keys = drives.forgets_nothing.keys_stay ∙ c.begin.ensures.keys in
+    let begins = λ (holds : All (TrueProgress old.past.objects keys) carried) (saved : All (TrueProgress old.past.objects keys) end.saved.items).
+    c.begin.ensures.held old.past.objects holds (subst (λ ps. All (TrueProgress old.past.objects keys) ps) (sym c.as_slice.ensures.value) saved) in
+    let new = g.L.Link.seen c.close_run.new.link in
+    let after = c.ending_of.new.end in
+    let result = c.from_residual-in_err-close_run.result in
+    let failed = c.from_residual-in_err-close_run.ensures.0 in
+    record {
+      keys_stay = driven_keys;
+      suits = search rules;
+      well = λ standing holds.
+          let all =
+          closed l keys driven old mid new after.runs.items after.saved.items lawful driven_keys (λ names honest. (c.close_run.ensures.honestly names honest).honest)
+          (stood l keys client begun driven old mid c.drive-driven.result.0 end.runs.items after.runs.items end.saved.items after.saved.items
+          lawful c.requires.keys c.begin.ensures.keys driven_keys (begins holds)
+          (λ good. (drives.well good).good) (λ good. (drives.well good).onward) (λ good. (drives.well good).no_conflict)
+          (λ objects none held noted. noted_still objects driven.keys end after c.ending_of.ensures.same noted) standing) in
+          record {
+            standing = all.0;
+            onward = all.1;
+            further =
+                further_if keys old new _ _ (λ is. no_ok result tt failed is)
+                (further_then l.twice keys old mid new _ _ (λ is. c.in_ok-ending.ensures.is.end_is.in_memory)
+                (driven_further keys carried client begun old mid c.drive-driven.result.0 end.runs.items end.saved.items c.requires.keys c.begin.ensures.keys
+                (begins holds) (λ good. (drives.well good).further) standing)
+                (further_closed l keys mid new c.close_run.result (λ names honest. (c.close_run.ensures.honestly names honest).honest) c.close_run.ensures.calm));
+            settles = search rules;
+            outlasts = search rules;
+          };
+      honest = λ names honest. (c.close_run.ensures.honestly names (drives.honest names honest)).honest.0;
+      ran = search rules;
+      turned = search rules;
+      broken =
+          always_err result
+          (broken_closed keys carried begun old mid new c.args.run end after c.begin.ensures.keys (λ honest. (drives.honestly honest).takes_nothing_back) (λ honest. (drives.honestly honest).few) drives.honest
+          (λ names honest. (c.close_run.ensures.honestly names honest).honest) c.ending_of.ensures.same);
+      ended = λ honest.
+          let names = is_planned keys in
+          let unended = (c.in_err-close_run.ensures.honestly names (drives.honest names honest)).unended in
+          join_none end.runs.items after.runs.items _ _ _ _ _ c.ending_of.ensures.same.same_runs (unended ∙ drives.ended names honest)
+          (λ is. no_ok result tt failed is);
+      followed = search rules;
+    }
 
--- the run was ended over the link, and then noted
-pub returns-clause-ended : goal.returns-clause-ended
-returns-clause-ended g c = λ honest.
-    let names = is_planned c.args.plan.now in
-    let driven = g.L.Link.seen c.drive-driven.new.link in
-    let known = (c.drive-driven.ensures.honestly (subst (λ ks. (g.L.Link.seen c.args.link.now).honest (is_planned ks)) (sym c.begin.ensures.keys) honest)).known in
-    let still = c.drive-driven.ensures.honest names honest in
-    join_run c.begin.new.client.keys c.drive-driven.new.client.keys c.begin.new.client.batch names c.args.run c.begin.new.client.knowns c.drive-driven.new.client.knowns
-    c.drive-driven.new.client.knowns c.drive-driven.result (g.L.Link.seen c.args.link.now).past driven.past (g.L.Link.seen c.close_run.new.link).past c.args.end.now c.note.new.end
-    _ (g.L.Link.seen c.args.link.now).ended driven.ended (g.L.Link.seen c.close_run.new.link).ended (has_ended c.drive-driven.new.client.keys c.drive-driven.new.client.knowns c.args.run c.drive-driven.result c.in_ok-ending.ending c.args.end.now c.note.new.end
-    c.in_ok-ending.ensures.is c.drive-driven.ensures.stands c.drive-driven.ensures.limit c.drive-driven.ensures.within
-    (c.note.ensures.runs ∙ ap (λ ends. ends ++ c.in_ok-ending.ending.run ∷ []) c.ending_of.ensures.same.same_runs)
-    (c.note.ensures.saved ∙ ap (λ saved. saved_with c.in_ok-ending.ending.saved saved) c.ending_of.ensures.same.same_saved))
-    (known.1 c.in_ok-ending.ensures.is.end_is.in_memory) (c.close_run.ensures.honestly names still).honest.1 (c.drive-driven.ensures.ended names honest)
-    (c.in_ok-close_run.ensures.honestly names still).ended
-
-pub returns-clause-outlasts : goal.returns-clause-outlasts
-returns-clause-outlasts g c = λ standing carried.
-    let held = standing.good.honest_for in
-    let still = c.drive-driven.ensures.honest (is_planned c.args.client.now.keys) held in
-    outlasted_run c.args.plan.now c.args.run c.args.client.now c.begin.new.client c.drive-driven.new.client
-    (g.L.Link.seen c.args.link.now) (g.L.Link.seen c.drive-driven.new.link) (g.L.Link.seen c.close_run.new.link) c.drive-driven.result c.args.end.now.runs.items c.note.new.end.runs.items c.args.end.now.saved.items
-    c.requires.keys c.begin.ensures.keys (c.drive-driven.ensures.kept.keys_stay ∙ c.begin.ensures.keys)
-    (λ saved. c.begin.ensures.held (g.L.Link.seen c.args.link.now).past.objects carried
-    (subst (λ ps. All (TrueProgress (g.L.Link.seen c.args.link.now).past.objects c.args.plan.now) ps) (sym c.as_slice.ensures.value) saved))
-    (λ good. (c.drive-driven.ensures.well good).outlasts) c.in_ok-ending.ensures.is.end_is.in_memory (has_ended c.drive-driven.new.client.keys c.drive-driven.new.client.knowns c.args.run c.drive-driven.result c.in_ok-ending.ending c.args.end.now c.note.new.end
-    c.in_ok-ending.ensures.is c.drive-driven.ensures.stands c.drive-driven.ensures.limit c.drive-driven.ensures.within
-    (c.note.ensures.runs ∙ ap (λ ends. ends ++ c.in_ok-ending.ending.run ∷ []) c.ending_of.ensures.same.same_runs)
-    (c.note.ensures.saved ∙ ap (λ saved. saved_with c.in_ok-ending.ending.saved saved) c.ending_of.ensures.same.same_saved)).noted
-    (c.close_run.ensures.honestly (is_planned c.args.client.now.keys) still).undisturbed standing
-
-pub returns-clause-followed : goal.returns-clause-followed
-returns-clause-followed g c =
-    g.met.L.Link.twice c.args.link.now c.drive-driven.new.link c.close_run.new.link (c.drive-driven.ensures.followed c.in_ok-ending.ensures.is.end_is.in_memory)
-    c.in_ok-close_run.ensures.followed
+-- it was ended over the link, and then noted
+pub returns : goal.returns
+returns g c =
+    let keys = c.args.plan.now in
+    let carried = c.args.carried.now in
+    let client = c.args.client.now in
+    let begun = c.begin.new.client in
+    let driven = c.drive-driven.new.client in
+    let old = g.L.Link.seen c.args.link.now in
+    let mid = g.L.Link.seen c.drive-driven.new.link in
+    let end = c.args.end.now in
+    let l = c.laws_of_runs.ensures in
+    let lawful = c.keys.ensures.lawful in
+    let drives = c.drive-driven.ensures in
+    let driven_keys = drives.forgets_nothing.keys_stay ∙ c.begin.ensures.keys in
+    let begins = λ (holds : All (TrueProgress old.past.objects keys) carried) (saved : All (TrueProgress old.past.objects keys) end.saved.items).
+    c.begin.ensures.held old.past.objects holds (subst (λ ps. All (TrueProgress old.past.objects keys) ps) (sym c.as_slice.ensures.value) saved) in
+    let new = g.L.Link.seen c.close_run.new.link in
+    let after = c.note.new.end in
+    let ending = c.in_ok-ending.ending in
+    let ending_is = c.in_ok-ending.ensures.is in
+    let memory = ending_is.end_is.in_memory in
+    let runs_are = c.note.ensures.runs ∙ ap (λ ends. ends ++ ending.run ∷ []) c.ending_of.ensures.same.same_runs in
+    let saved_are = c.note.ensures.saved ∙ ap (λ saved. saved_with ending.saved saved) c.ending_of.ensures.same.same_saved in
+    let ended =
+    has_ended driven.keys driven.knowns c.args.run c.drive-driven.result ending end after ending_is drives.stops_for_its_reason drives.limit drives.within
+    runs_are saved_are in
+    record {
+      keys_stay = driven_keys;
+      suits =
+          let P = Suits keys in
+          let before = subst (λ saved. All P saved) (sym c.ending_of.ensures.same.same_saved) c.requires.suits in
+          let own = subst (λ ks. IfSome ending.saved (Suits ks)) driven_keys c.in_ok-ending.ensures.suits in
+          subst (λ saved. All P saved) (sym c.note.ensures.saved) (all_saved P ending.saved c.ending_of.new.end.saved.items before own);
+      well = λ standing holds.
+          let all =
+          closed l keys driven old mid new after.runs.items after.saved.items lawful driven_keys (λ names honest. (c.close_run.ensures.honestly names honest).honest)
+          (stood l keys client begun driven old mid c.drive-driven.result.0 end.runs.items after.runs.items end.saved.items after.saved.items
+          lawful c.requires.keys c.begin.ensures.keys driven_keys (begins holds)
+          (λ good. (drives.well good).good) (λ good. (drives.well good).onward) (λ good. (drives.well good).no_conflict)
+          (λ objects none held noted. noted_ending objects driven.keys c.args.run driven.knowns c.drive-driven.result ending end after ending_is
+          (c.in_ok-ending.ensures.held objects) runs_are saved_are none held noted) standing) in
+          record {
+            standing = all.0;
+            onward = all.1;
+            further =
+                further_if keys old new _ _ (λ is. search rules)
+                (further_then l.twice keys old mid new _ _ (λ is. memory)
+                (driven_further keys carried client begun old mid c.drive-driven.result.0 end.runs.items end.saved.items c.requires.keys c.begin.ensures.keys
+                (begins holds) (λ good. (drives.well good).further) standing)
+                (further_closed l keys mid new c.close_run.result (λ names honest. (c.close_run.ensures.honestly names honest).honest) c.close_run.ensures.calm));
+            settles = λ calmly.
+                if_ok c.close_run.result (search rules)
+                (settled_run keys l c.args.run client begun driven old mid new c.drive-driven.result end.runs.items after.runs.items end.saved.items
+                c.close_run.result c.requires.keys c.begin.ensures.keys driven_keys (begins holds) (λ good. (drives.well good).good)
+                (λ settling. (drives.calmly settling).settles) (λ settling. (drives.calmly settling).calm) memory ended.noted
+                c.close_run.ensures.calm standing calmly);
+            outlasts =
+                let still = drives.honest (is_planned client.keys) standing.good.honest_for in
+                outlasted_run keys c.args.run client begun driven old mid new c.drive-driven.result end.runs.items after.runs.items end.saved.items
+                c.requires.keys c.begin.ensures.keys driven_keys (begins holds) (λ good. (drives.well good).outlasts) memory ended.noted
+                (c.close_run.ensures.honestly (is_planned client.keys) still).undisturbed standing;
+          };
+      honest = λ names honest. (c.close_run.ensures.honestly names (drives.honest names honest)).honest.0;
+      ran =
+          ran_closed keys carried c.args.run client begun driven old mid new c.drive-driven.result end after c.begin.ensures.keys
+          c.in_ok-begin.ensures.batch
+          (subst (λ ps. begun.knowns ≡ start_knowns keys c.args.run.start client.knowns (carried ++ ps)) c.as_slice.ensures.value
+          c.in_ok-begin.ensures.begun)
+          drives.forgets_nothing (λ honest. let known = (drives.honestly honest).learns in (known.0, known.1 memory)) ended (λ names honest. (c.close_run.ensures.honestly names honest).honest);
+      turned =
+          ran_turned keys c.args.run _ begun driven old mid new c.drive-driven.result end after c.begin.ensures.keys
+          (subst (λ ps. begun ≡ begin_client keys c.args.run client (carried ++ ps)) c.as_slice.ensures.value c.in_ok-begin.ensures.client)
+          drives.forgets_nothing drives.honest (λ names honest. (c.close_run.ensures.honestly names honest).honest) memory drives.turned ended;
+      broken = search rules;
+      ended = λ honest.
+          let names = is_planned keys in
+          let known = (drives.honestly (subst (λ ks. old.honest (is_planned ks)) (sym c.begin.ensures.keys) honest)).learns in
+          let still = drives.honest names honest in
+          join_run begun.keys driven.keys begun.batch names c.args.run begun.knowns driven.knowns driven.knowns c.drive-driven.result
+          old.past mid.past new.past end after _ old.ended mid.ended new.ended ended (known.1 memory)
+          (c.close_run.ensures.honestly names still).honest.1 (drives.ended names honest) (c.in_ok-close_run.ensures.honestly names still).ended;
+      followed =
+          g.met.L.Link.twice c.args.link.now c.drive-driven.new.link c.close_run.new.link (drives.followed memory) c.in_ok-close_run.ensures.followed;
+    }

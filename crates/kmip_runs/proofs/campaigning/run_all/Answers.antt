@@ -1,34 +1,42 @@
 -- No fault is noted exactly where none was met.
 use Rattle.std.proofs.Common.{[]}
+use Rattle.kmip_runs.specs.Remembering.{notes_of}
 use Rattle.kmip_runs.proofs.DriveLemmas.{further_if}
 use Rattle.kmip_runs.proofs.EndingLemmas.{join_if}
-use Rattle.kmip_runs.proofs.RunLemmas.{if_fault, if_ok, known_if, ok_of}
+use Rattle.kmip_runs.proofs.RunLemmas.{known_if, of_ok, ok_of}
 use Rattle.kmip_runs.proofs.TurnedRunLemmas.{turned_if}
 use Rattle.kmip_runs.proofs.campaigning.run_all.Goals as goal
 
 pub returns : goal.returns
 returns g c =
     let keys = c.args.plan.now in
+    let carried = c.args.carried.now in
+    let runs = c.args.runs.now in
     let end = c.run_each.new.end in
+    let old = g.L.Link.seen c.args.link.now in
+    let new = g.L.Link.seen c.run_each.new.link in
     let whole = ok_of c.run_each.result c.err-fault.result c.err-fault.ensures.value in
+    let none = of_ok c.run_each.result c.err-fault.result c.err-fault.ensures.value in
+    let made = c.run_each.ensures in
+    let all = made.all in
     record {
       all = record {
-        suits = c.run_each.ensures.suits;
-        honest_still = c.run_each.ensures.honest;
-        stands = λ good carried.
-            let stands = c.run_each.ensures.stands good carried in (
-              stands.0,
-              further_if keys (g.L.Link.seen c.args.link.now) (g.L.Link.seen c.run_each.new.link) _ _ whole stands.1,
-            );
-        order = c.run_each.ensures.order;
-        complete = λ is. if_ok c.run_each.result (whole is) c.run_each.ensures.complete;
-        fewer = λ fault. if_fault c.run_each.result c.err-fault.result c.err-fault.ensures.value fault c.run_each.ensures.fewer;
-        known = known_if keys c.args.carried.now c.args.runs.now end.runs.items end.saved.items _ _ _ (g.L.Link.seen c.args.link.now).past (g.L.Link.seen c.run_each.new.link).past whole
-            c.run_each.ensures.known;
-        settles = λ calmly carried is. if_ok c.run_each.result (whole is) (c.run_each.ensures.settles calmly carried);
+        suits = all.suits;
+        stays_honest = all.stays_honest;
+        well = λ good holds.
+            let well = all.well good holds in
+            record {
+              campaigned = well.campaigned;
+              further = further_if keys old new _ _ whole well.further;
+              outlasts = λ is. well.outlasts (whole is);
+            };
+        order = all.order;
+        complete = λ is. all.complete (whole is);
+        fewer = λ not. all.fewer (λ is. not (none is));
+        known = known_if keys carried runs (notes_of end) _ _ _ old.past new.past whole all.known;
+        settles = λ calmly holds is. all.settles calmly holds (whole is);
       };
-      outlasts = λ good carried is. if_ok c.run_each.result (whole is) (c.run_each.ensures.outlasts good carried);
-      ended = λ honest. join_if [] end.runs.items _ _ _ _ _ _ whole (c.run_each.ensures.ended honest);
-      turned = turned_if keys c.args.carried.now c.args.runs.now end.runs.items _ _ _ (g.L.Link.seen c.args.link.now).past (g.L.Link.seen c.run_each.new.link).past whole c.run_each.ensures.turned;
-      followed = λ is. if_ok c.run_each.result (whole is) c.run_each.ensures.followed;
+      turned = turned_if keys carried runs end.runs.items _ _ _ old.past new.past whole made.turned;
+      ended = λ honest. join_if [] end.runs.items _ _ _ _ _ _ whole (made.ended honest);
+      followed = λ is. made.followed (whole is);
     }

@@ -1,5 +1,5 @@
 -- Run by run.
-use Rattle.std.proofs.Common.{◌<◌, ◌+◌, ◌≡◌, [], arith, Result, Ok, Err, IsErr, OnOk, ap, filter, length, suc, rules, refl, subst, sym, take}
+use Rattle.std.proofs.Common.{◌<◌, ◌+◌, ◌≡◌, [], arith, ap, filter, length, suc, rules, refl, subst, sym, take}
 use Rattle.std.proofs.Math.Seq.{take_all}
 use Rattle.std.specs.List.{AllZip}
 use Rattle.std.specs.Prelude.{⊤}
@@ -16,60 +16,79 @@ use Rattle.kmip_runs.specs.Losing.{AllOutlast}
 use Rattle.kmip_runs.proofs.OutlastLemmas.{outlast_more, outlast_none}
 use Rattle.kmip_runs.proofs.OrderLemmas.{ends_all, ends_same}
 use Rattle.kmip_runs.proofs.RememberLemmas.{broken_known, no_ok, recalled_known, recalled_none}
-use Rattle.kmip_runs.proofs.KnownLemmas.{always_err}
 use Rattle.kmip_runs.proofs.RunLemmas.{carried_on, no_runs, ran_nothing, ran_off, running_more, running_none}
 use Rattle.kmip_runs.proofs.TurnedRunLemmas.{all_turned, more_turned, none_turned, nothing_turned}
 use Rattle.kmip_runs.proofs.campaigning.run_each.Goals as goal
 
-pub returns-in_err-client-clause-known : goal.returns-in_err-client-clause-known
-returns-in_err-client-clause-known g c =
-    let keys = c.args.plan.now in
-    let end = c.args.end.now in
-    recalled_known keys c.args.carried.now c.args.runs.now (fresh keys) (g.L.Link.seen c.args.link.now) (g.L.Link.seen c.args.link.now) end.runs.items end.saved.items _
-    (recalled_none keys c.args.carried.now c.args.runs.now (fresh keys) (g.L.Link.seen c.args.link.now) end.runs.items end.saved.items refl c.requires.no_end c.requires.none_saved)
-
 -- where there is no run nothing is made
-pub returns-then-is_empty-clause-complete : goal.returns-then-is_empty-clause-complete
-returns-then-is_empty-clause-complete g c =
-    let none = no_runs c.args.runs.now (search rules) in
-    rw (none, c.requires.no_end, c.requires.none_saved) (tt, refl)
-
-pub returns-then-is_empty-clause-known : goal.returns-then-is_empty-clause-known
-returns-then-is_empty-clause-known g c =
+pub returns-then-is_empty : goal.returns-then-is_empty
+returns-then-is_empty g c =
     let keys = c.args.plan.now in
+    let carried = c.args.carried.now in
+    let runs = c.args.runs.now in
+    let old = g.L.Link.seen c.args.link.now in
     let end = c.args.end.now in
-    recalled_known keys c.args.carried.now c.args.runs.now (fresh keys) (g.L.Link.seen c.args.link.now) (g.L.Link.seen c.args.link.now) end.runs.items end.saved.items _
-    (recalled_none keys c.args.carried.now c.args.runs.now (fresh keys) (g.L.Link.seen c.args.link.now) end.runs.items end.saved.items refl c.requires.no_end
-    c.requires.none_saved)
+    let none = no_runs runs (search rules) in
+    record {
+      all = record {
+        suits = rw c.requires.none_saved (All-nil (Suits keys));
+        stays_honest = λ names honest. honest;
+        well = λ good holds.
+            let nothing =
+            ran_nothing keys carried c.laws_of_runs.ensures old _ end.runs.items end.saved.items c.requires.no_end c.requires.none_saved good in
+            record {
+              campaigned = nothing.0;
+              further = nothing.1;
+              outlasts = λ is.
+                  subst (λ rs. AllOutlast keys rs end.runs.items old.disturbances old.disturbances) (sym none)
+                  (outlast_none keys [] end.runs.items _ _ c.requires.no_end refl);
+            };
+        order = search rules;
+        complete = λ is. rw (none, c.requires.no_end, c.requires.none_saved) (tt, refl);
+        fewer = λ not. absurd (not refl);
+        known =
+            recalled_known keys carried runs (fresh keys) old old end.runs.items end.saved.items _
+            (recalled_none keys carried runs (fresh keys) old end.runs.items end.saved.items refl c.requires.no_end c.requires.none_saved);
+        settles = λ calmly holds is. (rw (none, c.requires.no_end) tt, calmly);
+      };
+      turned = nothing_turned keys carried runs _ _ old.past end.runs.items c.requires.no_end;
+      ended = λ honest. join_none [] end.runs.items _ _ _ _ _ c.requires.no_end refl (λ is. refl);
+      followed = λ is. g.met.L.Link.itself c.args.link.now;
+    }
 
-pub returns-then-is_empty-clause-stands : goal.returns-then-is_empty-clause-stands
-returns-then-is_empty-clause-stands g c = λ good carried.
-    ran_nothing c.args.plan.now c.args.carried.now c.laws_of_runs.ensures (g.L.Link.seen c.args.link.now) _ c.args.end.now.runs.items
-    c.args.end.now.saved.items c.requires.no_end c.requires.none_saved good
-
-pub returns-then-is_empty-clause-settles : goal.returns-then-is_empty-clause-settles
-returns-then-is_empty-clause-settles g c = λ calmly holds.
-    let none = no_runs c.args.runs.now (search rules) in
-    (rw (none, c.requires.no_end) tt, calmly)
-
-pub returns-then-is_empty-clause-outlasts : goal.returns-then-is_empty-clause-outlasts
-returns-then-is_empty-clause-outlasts g c = λ good holds.
-    let none = no_runs c.args.runs.now (search rules) in
-    subst (λ rs. AllOutlast c.args.plan.now rs c.args.end.now.runs.items (g.L.Link.seen c.args.link.now).disturbances (g.L.Link.seen c.args.link.now).disturbances) (sym none)
-    (outlast_none c.args.plan.now [] c.args.end.now.runs.items _ _ c.requires.no_end refl)
-
-pub returns-then-is_empty-clause-ended : goal.returns-then-is_empty-clause-ended
-returns-then-is_empty-clause-ended g c = λ honest. join_none [] c.args.end.now.runs.items _ _ _ _ _ c.requires.no_end refl (λ is. refl)
-
-pub returns-then-is_empty-clause-turned : goal.returns-then-is_empty-clause-turned
-returns-then-is_empty-clause-turned g c =
-    nothing_turned c.args.plan.now c.args.carried.now c.args.runs.now _ _ (g.L.Link.seen c.args.link.now).past c.args.end.now.runs.items c.requires.no_end
-
-pub returns-then-is_empty-clause-suits : goal.returns-then-is_empty-clause-suits
-returns-then-is_empty-clause-suits g c = rw c.requires.none_saved (All-nil (Suits c.args.plan.now))
-
-pub returns-then-is_empty-clause-followed : goal.returns-then-is_empty-clause-followed
-returns-then-is_empty-clause-followed g c = g.met.L.Link.itself c.args.link.now
+-- there was no memory for a client
+pub returns-in_err-client : goal.returns-in_err-client
+returns-in_err-client g c =
+    let keys = c.args.plan.now in
+    let carried = c.args.carried.now in
+    let runs = c.args.runs.now in
+    let old = g.L.Link.seen c.args.link.now in
+    let end = c.args.end.now in
+    let failed = c.from_residual.ensures.0 in
+    record {
+      all = record {
+        suits = rw c.requires.none_saved (All-nil (Suits keys));
+        stays_honest = λ names honest. honest;
+        well = λ good holds.
+            let nothing =
+            ran_nothing keys carried c.laws_of_runs.ensures old _ end.runs.items end.saved.items c.requires.no_end c.requires.none_saved good in
+            record {
+              campaigned = nothing.0;
+              further = nothing.1;
+              outlasts = λ is. no_ok c.from_residual.result tt failed is;
+            };
+        order = search rules;
+        complete = λ is. no_ok c.from_residual.result tt failed is;
+        fewer = search rules;
+        known =
+            recalled_known keys carried runs (fresh keys) old old end.runs.items end.saved.items _
+            (recalled_none keys carried runs (fresh keys) old end.runs.items end.saved.items refl c.requires.no_end c.requires.none_saved);
+        settles = λ calmly holds is. no_ok c.from_residual.result tt failed is;
+      };
+      turned = nothing_turned keys carried runs _ _ old.past end.runs.items c.requires.no_end;
+      ended = λ honest. join_none [] end.runs.items _ _ _ _ _ c.requires.no_end refl (λ is. refl);
+      followed = λ is. no_ok c.from_residual.result tt failed is;
+    }
 
 pub loop-place-init : goal.loop-place-init
 loop-place-init g c = record {
@@ -83,25 +102,50 @@ loop-place-init g c = record {
       c.args.end.now.saved.items c.in_ok-client.ensures.fresh c.requires.no_end c.requires.none_saved;
 }
 
-pub returns-in_err-one_run-clause-order : goal.returns-in_err-one_run-clause-order
-returns-in_err-one_run-clause-order g c =
-    ends_same c.args.plan.now c.args.runs.now c.loop-place.place c.loop-place.end.runs.items c.one_run.new.end.runs.items c.in_err-one_run.ensures.broken.same.same_runs
-    c.loop-place.invariant.running.each
-
-pub returns-in_err-one_run-clause-fewer : goal.returns-in_err-one_run-clause-fewer
-returns-in_err-one_run-clause-fewer g c =
-    let below : c.loop-place.place < length c.args.runs.now = search rules in
-    let same = ap length c.in_err-one_run.ensures.broken.same.same_runs in
-    always_err c.from_residual-in_err-one_run.result (omega (arith, below, same, c.loop-place.invariant.running.as_many_ends))
-
-pub returns-in_err-one_run-clause-known : goal.returns-in_err-one_run-clause-known
-returns-in_err-one_run-clause-known g c =
-    let below : c.loop-place.place < length c.args.runs.now = search rules in
+-- memory ran out in a run
+pub returns-in_err-one_run : goal.returns-in_err-one_run
+returns-in_err-one_run g c =
+    let keys = c.args.plan.now in
+    let carried = c.args.carried.now in
     let runs = c.args.runs.now in
+    let old = g.L.Link.seen c.args.link.now in
+    let mid = g.L.Link.seen c.loop-place.link in
+    let new = g.L.Link.seen c.one_run.new.link in
     let before = c.loop-place.invariant.running in
-    broken_known c.args.plan.now c.args.carried.now runs c.loop-place.client (g.L.Link.seen c.args.link.now) (g.L.Link.seen c.loop-place.link) (g.L.Link.seen c.one_run.new.link) _
-    c.loop-place.end c.one_run.new.end c.loop-place.place _ (slice_get-get_or runs c.loop-place.place _ below) before.as_many_ends
-    (λ is. no_ok c.from_residual-in_err-one_run.result tt c.from_residual-in_err-one_run.ensures.0 is) before.recalled c.in_err-one_run.ensures.broken
+    let end = c.loop-place.end in
+    let after = c.one_run.new.end in
+    let result = c.from_residual-in_err-one_run.result in
+    let failed = c.from_residual-in_err-one_run.ensures.0 in
+    let below : c.loop-place.place < length runs = search rules in
+    let same = c.in_err-one_run.ensures.broken.same.same_runs in
+    record {
+      all = record {
+        suits = c.one_run.ensures.suits;
+        stays_honest = λ names honest. c.one_run.ensures.honest names (before.honest_still names honest);
+        well = λ good holds.
+            let off =
+            ran_off keys carried c.laws_of_runs.ensures c.loop-place.client c.one_run.new.client old mid new runs c.loop-place.place _ end.runs.items
+            after.runs.items end.saved.items after.saved.items c.keys.ensures.lawful c.one_run.ensures.keys_stay before
+            (λ standing holds. let well = c.one_run.ensures.well standing holds in (well.standing, well.onward))
+            (λ standing holds. further_if keys mid new _ _ (λ is. no_ok result tt failed is) (c.one_run.ensures.well standing holds).further) good holds in
+            record { campaigned = off.0; further = off.1; outlasts = λ is. no_ok result tt failed is };
+        order = ends_same keys runs c.loop-place.place end.runs.items after.runs.items same before.each;
+        complete = λ is. no_ok result tt failed is;
+        fewer = λ not. let long = ap length same in omega (arith, below, long, before.as_many_ends);
+        known =
+            broken_known keys carried runs c.loop-place.client old mid new _ end after c.loop-place.place _ (slice_get-get_or runs c.loop-place.place _ below)
+            before.as_many_ends (λ is. no_ok result tt failed is) before.recalled c.in_err-one_run.ensures.broken;
+        settles = λ calmly holds is. no_ok result tt failed is;
+      };
+      turned =
+          all_turned keys carried runs c.loop-place.client _ _ old.past mid.past new.past end.runs.items after.runs.items end.saved.items same
+          (λ is. no_ok result tt failed is) c.loop-place.invariant.turned;
+      ended = λ honest.
+          join_then [] end.runs.items after.runs.items ⊤ _ _ _ _ _ _ _ tt (c.loop-place.invariant.ended honest)
+          (join_if end.runs.items after.runs.items _ _ _ _ _ _ (λ is. no_ok result tt failed is)
+          (c.one_run.ensures.ended (before.honest_still (is_planned keys) honest)));
+      followed = λ is. no_ok result tt failed is;
+    }
 
 pub loop-place-preserved : goal.loop-place-preserved
 loop-place-preserved g c =
@@ -110,11 +154,12 @@ loop-place-preserved g c =
       running =
           running_more c.args.plan.now c.args.carried.now c.laws_of_runs.ensures c.loop-place.client c.one_run.new.client
           (g.L.Link.seen c.args.link.now) (g.L.Link.seen c.loop-place.link) (g.L.Link.seen c.one_run.new.link) c.args.runs.now c.loop-place.place _ c.loop-place.end c.one_run.new.end c.keys.ensures.lawful
-          (slice_get-get_or c.args.runs.now c.loop-place.place _ below) c.loop-place.invariant.running c.one_run.ensures.keys c.one_run.ensures.suits c.one_run.ensures.stands
+          (slice_get-get_or c.args.runs.now c.loop-place.place _ below) c.loop-place.invariant.running c.one_run.ensures.keys_stay c.one_run.ensures.suits
+          (λ standing carried. let well = c.one_run.ensures.well standing carried in (well.standing, well.onward))
           c.one_run.ensures.honest
           (λ standing carried. further_if c.args.plan.now (g.L.Link.seen c.loop-place.link) (g.L.Link.seen c.one_run.new.link) _ ⊤ (λ is. search rules)
-          (c.one_run.ensures.further standing carried)) c.in_ok-one_run.ensures.ran
-          c.in_ok-one_run.ensures.settles;
+          (c.one_run.ensures.well standing carried).further) c.in_ok-one_run.ensures.ran
+          (λ standing carried. (c.in_ok-one_run.ensures.well standing carried).settles);
       ended = λ honest.
           join_then [] c.loop-place.end.runs.items c.one_run.new.end.runs.items ⊤ ⊤ _ _ _ _ _ _ tt (c.loop-place.invariant.ended honest)
           (join_if c.loop-place.end.runs.items c.one_run.new.end.runs.items _ ⊤ _ _ _ _ (λ is. search rules)
@@ -129,7 +174,7 @@ loop-place-preserved g c =
           (λ n. AllOutlast c.args.plan.now (take n c.args.runs.now) c.one_run.new.end.runs.items (g.L.Link.seen c.args.link.now).disturbances (g.L.Link.seen c.one_run.new.link).disturbances)
           (sym e)
           (outlast_more c.args.plan.now c.args.runs.now c.loop-place.place _ c.loop-place.end.runs.items c.one_run.new.end.runs.items _ _ _
-          (slice_get-get_or c.args.runs.now c.loop-place.place _ below) (c.loop-place.invariant.outlasted good holds) (c.in_ok-one_run.ensures.outlasts standing now));
+          (slice_get-get_or c.args.runs.now c.loop-place.place _ below) (c.loop-place.invariant.outlasted good holds) (c.in_ok-one_run.ensures.well standing now).outlasts);
       followed = g.met.L.Link.twice c.args.link.now c.loop-place.link c.one_run.new.link c.loop-place.invariant.followed c.in_ok-one_run.ensures.followed;
       turned =
           more_turned c.args.plan.now c.args.carried.now c.args.runs.now c.loop-place.client c.one_run.new.client _ _ (g.L.Link.seen c.args.link.now).past
@@ -139,126 +184,38 @@ loop-place-preserved g c =
           c.in_ok-one_run.ensures.ran.ended.saved_are;
     }
 
-pub returns-clause-order : goal.returns-clause-order
-returns-clause-order g c = ends_all c.args.plan.now c.args.runs.now c.loop-place.place c.loop-place.end.runs.items c.loop-place.invariant.running.each
-
-pub returns-clause-known : goal.returns-clause-known
-returns-clause-known g c =
-    recalled_known c.args.plan.now c.args.carried.now c.args.runs.now c.loop-place.client (g.L.Link.seen c.args.link.now) (g.L.Link.seen c.loop-place.link) c.loop-place.end.runs.items
-    c.loop-place.end.saved.items _ c.loop-place.invariant.running.recalled
-
-pub returns-in_err-client-clause-stands : goal.returns-in_err-client-clause-stands
-returns-in_err-client-clause-stands g c = λ good carried.
-    ran_nothing c.args.plan.now c.args.carried.now c.laws_of_runs.ensures (g.L.Link.seen c.args.link.now) _ c.args.end.now.runs.items
-    c.args.end.now.saved.items c.requires.no_end c.requires.none_saved good
-
-pub returns-in_err-one_run-clause-stands : goal.returns-in_err-one_run-clause-stands
-returns-in_err-one_run-clause-stands g c =
-    ran_off c.args.plan.now c.args.carried.now c.laws_of_runs.ensures c.loop-place.client c.one_run.new.client (g.L.Link.seen c.args.link.now)
-    (g.L.Link.seen c.loop-place.link) (g.L.Link.seen c.one_run.new.link) c.args.runs.now c.loop-place.place _ c.loop-place.end.runs.items c.one_run.new.end.runs.items c.loop-place.end.saved.items
-    c.one_run.new.end.saved.items c.keys.ensures.lawful c.one_run.ensures.keys c.loop-place.invariant.running c.one_run.ensures.stands
-    (λ standing carried. further_if c.args.plan.now (g.L.Link.seen c.loop-place.link) (g.L.Link.seen c.one_run.new.link) _ _
-    (λ is. no_ok c.from_residual-in_err-one_run.result tt c.from_residual-in_err-one_run.ensures.0 is) (c.one_run.ensures.further standing carried))
-
-pub returns-clause-stands : goal.returns-clause-stands
-returns-clause-stands g c = λ good carried.
-    let stands = c.loop-place.invariant.running.stands good carried in (
-      campaigned c.args.plan.now c.loop-place.client (g.L.Link.seen c.args.link.now) (g.L.Link.seen c.loop-place.link) c.loop-place.end.runs.items
-          c.loop-place.end.saved.items c.loop-place.invariant.running.keys_are stands,
-      further_if c.args.plan.now (g.L.Link.seen c.args.link.now) (g.L.Link.seen c.loop-place.link) ⊤ _ (λ is. tt)
-          (c.loop-place.invariant.running.further good carried),
-    )
-
-pub returns-in_err-client-clause-ended : goal.returns-in_err-client-clause-ended
-returns-in_err-client-clause-ended g c = λ honest. join_none [] c.args.end.now.runs.items _ _ _ _ _ c.requires.no_end refl (λ is. refl)
-
-pub returns-in_err-one_run-clause-ended : goal.returns-in_err-one_run-clause-ended
-returns-in_err-one_run-clause-ended g c = λ honest.
-    join_then [] c.loop-place.end.runs.items c.one_run.new.end.runs.items ⊤ _ _ _ _ _ _ _ tt (c.loop-place.invariant.ended honest)
-    (join_if c.loop-place.end.runs.items c.one_run.new.end.runs.items _ _ _ _ _ _ (λ is. no_ok c.from_residual-in_err-one_run.result tt c.from_residual-in_err-one_run.ensures.0 is)
-    (c.one_run.ensures.ended (c.loop-place.invariant.running.honest_still (is_planned c.args.plan.now) honest)))
-
-pub returns-clause-ended : goal.returns-clause-ended
-returns-clause-ended g c = λ honest. join_if [] c.loop-place.end.runs.items ⊤ _ _ _ _ _ (λ is. tt) (c.loop-place.invariant.ended honest)
-
--- of a fault nothing is said that holds where all went well
-on_fault : {V E : Type 0} (P : Type 0) (r : Result V E) → IsErr r → OnOk r P
-on_fault P (Ok v) is = absurd cc
-on_fault P (Err fault) is = tt
-
-pub returns-in_err-client-clause-complete : goal.returns-in_err-client-clause-complete
-returns-in_err-client-clause-complete g c = on_fault _ c.from_residual.result c.from_residual.ensures.0
-
-pub returns-in_err-client-clause-settles : goal.returns-in_err-client-clause-settles
-returns-in_err-client-clause-settles g c = λ calmly holds. on_fault _ c.from_residual.result c.from_residual.ensures.0
-
-pub returns-in_err-client-clause-outlasts : goal.returns-in_err-client-clause-outlasts
-returns-in_err-client-clause-outlasts g c = λ good holds. on_fault _ c.from_residual.result c.from_residual.ensures.0
-
-pub returns-in_err-one_run-clause-complete : goal.returns-in_err-one_run-clause-complete
-returns-in_err-one_run-clause-complete g c = on_fault _ c.from_residual-in_err-one_run.result c.from_residual-in_err-one_run.ensures.0
-
-pub returns-in_err-one_run-clause-settles : goal.returns-in_err-one_run-clause-settles
-returns-in_err-one_run-clause-settles g c = λ calmly holds. on_fault _ c.from_residual-in_err-one_run.result c.from_residual-in_err-one_run.ensures.0
-
-pub returns-in_err-one_run-clause-outlasts : goal.returns-in_err-one_run-clause-outlasts
-returns-in_err-one_run-clause-outlasts g c = λ good holds. on_fault _ c.from_residual-in_err-one_run.result c.from_residual-in_err-one_run.ensures.0
-
-pub returns-in_err-client-clause-suits : goal.returns-in_err-client-clause-suits
-returns-in_err-client-clause-suits g c = rw c.requires.none_saved (All-nil (Suits c.args.plan.now))
-
-pub returns-in_err-one_run-clause-suits : goal.returns-in_err-one_run-clause-suits
-returns-in_err-one_run-clause-suits g c = c.one_run.ensures.suits
-
-pub returns-in_err-one_run-clause-honest : goal.returns-in_err-one_run-clause-honest
-returns-in_err-one_run-clause-honest g c = λ names honest. c.one_run.ensures.honest names (c.loop-place.invariant.running.honest_still names honest)
-
-pub returns-clause-suits : goal.returns-clause-suits
-returns-clause-suits g c = c.loop-place.invariant.running.suits
-
-pub returns-clause-honest : goal.returns-clause-honest
-returns-clause-honest g c = c.loop-place.invariant.running.honest_still
-
-pub returns-clause-complete : goal.returns-clause-complete
-returns-clause-complete g c =
-    let end = c.loop-place.end in
-    subst (λ rs. AllZip (IsEnd c.args.plan.now) rs end.runs.items × (length end.saved.items ≡ length (filter saves rs))) (take_all c.loop-place.place c.args.runs.now c.loop-place-test.false)
-    (c.loop-place.invariant.running.each, c.loop-place.invariant.running.as_many)
-
-pub returns-clause-settles : goal.returns-clause-settles
-returns-clause-settles g c = λ calmly holds.
-    subst (λ rs. AllZip (Settles c.args.plan.now) rs c.loop-place.end.runs.items × CalmLink c.args.plan.now (g.L.Link.seen c.loop-place.link)) (take_all c.loop-place.place c.args.runs.now c.loop-place-test.false)
-    (c.loop-place.invariant.running.settled calmly holds)
-
-pub returns-clause-outlasts : goal.returns-clause-outlasts
-returns-clause-outlasts g c = λ good holds.
-    subst (λ rs. AllOutlast c.args.plan.now rs c.loop-place.end.runs.items (g.L.Link.seen c.args.link.now).disturbances (g.L.Link.seen c.loop-place.link).disturbances) (take_all c.loop-place.place c.args.runs.now c.loop-place-test.false)
-    (c.loop-place.invariant.outlasted good holds)
-
-pub returns-in_err-client-clause-followed : goal.returns-in_err-client-clause-followed
-returns-in_err-client-clause-followed g c = on_fault _ c.from_residual.result c.from_residual.ensures.0
-
-pub returns-in_err-one_run-clause-followed : goal.returns-in_err-one_run-clause-followed
-returns-in_err-one_run-clause-followed g c = on_fault _ c.from_residual-in_err-one_run.result c.from_residual-in_err-one_run.ensures.0
-
-pub returns-clause-followed : goal.returns-clause-followed
-returns-clause-followed g c = c.loop-place.invariant.followed
-
-pub returns-in_err-client-clause-turned : goal.returns-in_err-client-clause-turned
-returns-in_err-client-clause-turned g c =
+-- all were made
+pub returns : goal.returns
+returns g c =
     let keys = c.args.plan.now in
     let carried = c.args.carried.now in
-    nothing_turned keys carried c.args.runs.now _ _ (g.L.Link.seen c.args.link.now).past c.args.end.now.runs.items c.requires.no_end
-
-pub returns-in_err-one_run-clause-turned : goal.returns-in_err-one_run-clause-turned
-returns-in_err-one_run-clause-turned g c =
-    let before = c.loop-place.end in
-    let none : c.from_residual-in_err-one_run.result ≡ Ok tt → ⊥ = λ is. no_ok c.from_residual-in_err-one_run.result tt c.from_residual-in_err-one_run.ensures.0 is in
-    all_turned c.args.plan.now c.args.carried.now c.args.runs.now c.loop-place.client _ _ (g.L.Link.seen c.args.link.now).past (g.L.Link.seen c.loop-place.link).past (g.L.Link.seen c.one_run.new.link).past
-    before.runs.items c.one_run.new.end.runs.items before.saved.items c.in_err-one_run.ensures.broken.same.same_runs (λ is. absurd (none is)) c.loop-place.invariant.turned
-
-pub returns-clause-turned : goal.returns-clause-turned
-returns-clause-turned g c =
-    let ends = c.loop-place.end.runs.items in
-    all_turned c.args.plan.now c.args.carried.now c.args.runs.now c.loop-place.client _ _ (g.L.Link.seen c.args.link.now).past (g.L.Link.seen c.loop-place.link).past (g.L.Link.seen c.loop-place.link).past ends ends
-    c.loop-place.end.saved.items refl (λ is. refl) c.loop-place.invariant.turned
+    let runs = c.args.runs.now in
+    let old = g.L.Link.seen c.args.link.now in
+    let new = g.L.Link.seen c.loop-place.link in
+    let before = c.loop-place.invariant.running in
+    let end = c.loop-place.end in
+    let all = take_all c.loop-place.place runs c.loop-place-test.false in
+    record {
+      all = record {
+        suits = before.suits;
+        stays_honest = before.honest_still;
+        well = λ good holds. record {
+          campaigned = campaigned keys c.loop-place.client old new end.runs.items end.saved.items before.keys_are (before.stands good holds);
+          further = further_if keys old new ⊤ _ (λ is. tt) (before.further good holds);
+          outlasts = λ is.
+              subst (λ rs. AllOutlast keys rs end.runs.items old.disturbances new.disturbances) all (c.loop-place.invariant.outlasted good holds);
+        };
+        order = ends_all keys runs c.loop-place.place end.runs.items before.each;
+        complete = λ is.
+            subst (λ rs. AllZip (IsEnd keys) rs end.runs.items × (length end.saved.items ≡ length (filter saves rs))) all (before.each, before.as_many);
+        fewer = λ not. absurd (not refl);
+        known = recalled_known keys carried runs c.loop-place.client old new end.runs.items end.saved.items _ before.recalled;
+        settles = λ calmly holds is.
+            subst (λ rs. AllZip (Settles keys) rs end.runs.items × CalmLink keys new) all (before.settled calmly holds);
+      };
+      turned =
+          all_turned keys carried runs c.loop-place.client _ _ old.past new.past new.past end.runs.items end.runs.items end.saved.items refl
+          (λ is. refl) c.loop-place.invariant.turned;
+      ended = λ honest. join_if [] end.runs.items ⊤ _ _ _ _ _ (λ is. tt) (c.loop-place.invariant.ended honest);
+      followed = λ is. c.loop-place.invariant.followed;
+    }

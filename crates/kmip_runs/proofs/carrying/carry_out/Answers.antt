@@ -3,7 +3,7 @@ use Rattle.std.proofs.Common.{subst, sym, rules}
 use Rattle.kmip_plan.specs.Plans.{IsLawful}
 use Rattle.kmip_protocol.specs.Past.{is_planned}
 use Rattle.kmip_runs.specs.Losing.{ArePaid, left_for}
-use Rattle.kmip_runs.specs.Saved.{IsInMemory}
+use Rattle.kmip_runs.specs.Saved.{IsInMemory, Situation}
 use Rattle.kmip_runs.proofs.CarryLemmas.{carried_closed, good_end, left_last, limit_last, memory_before, settled_end, stands_last, unless_given_up}
 use Rattle.kmip_runs.proofs.CarryEndingLemmas.{ended_once, ended_whole, one_of_both}
 use Rattle.kmip_runs.proofs.CarryLosingLemmas.{outlasted, paid_closed}
@@ -25,11 +25,15 @@ returns g c =
     let new = g.L.Link.seen close.new.link in
     let names = is_planned client.keys in
     let kept = g.K.Keeper.kept in
-    let first = done.ensures.carried in
+    let made = done.ensures.exchanges in
+    let first = made.carried in
+    let before : Situation = record { client = client; link = old; keeper = kept c.args.keeper.now } in
+    let between : Situation = record { client = next; link = mid; keeper = kept done.new.keeper } in
+    let after : Situation = record between { link = new } in
     let limit = limit_last close.result done.result.0 last end.whole end.stop end.fault in
-    let stands = stands_last next close.result done.result.0 last end.whole end.stop end.fault done.ensures.stands in
+    let stands = stands_last next close.result done.result.0 last end.whole end.stop end.fault made.stops_for_its_reason in
     let carried =
-    carried_closed laws client next old mid new (kept c.args.keeper.now) (kept done.new.keeper) done.result.0 last close.result done.result.1 lawful
+    carried_closed laws before between new done.result.0 last close.result done.result.1 lawful
     (λ names honest. (close.ensures.honestly names honest).honest) close.ensures.calm end.whole end.stop end.fault first in
     record {
       well = λ good.
@@ -38,23 +42,23 @@ returns g c =
           paid_closed laws next mid new done.result.1 (left_for client old.past) old.disturbances
           (subst IsLawful (sym first.went.keeps.keys_stay) lawful) (first.went.good good)
           (λ names honest. (close.ensures.honestly names honest).honest) (λ names honest. (close.ensures.honestly names honest).undisturbed)
-          (done.ensures.losing good (memory_before close.result done.result.0 last end.whole end.stop end.fault memory)) in
+          (made.losing good (memory_before close.result done.result.0 last end.whole end.stop end.fault memory)) in
           record {
             good = carried.went.good good;
-            goes = carried.went.goes good;
+            onward = carried.went.onward good;
             losing = paid;
             outlasts = λ patient whole enough.
                 outlasted laws client next old new last done.result.1 c.args.limit lawful good (carried.went.good good) paid stands
                 (λ is. unless_given_up _ _ _ _ done.ensures.limit patient (limit is)) whole enough;
-            no_conflict = good_end laws client next old new last done.result.1 carried.went stands good;
+            no_conflict = good_end laws before after last done.result.1 carried.went stands good;
           };
       honestly = λ honest.
-          let known = first.went.known honest in
+          let known = first.went.learns honest in
           let closed = close.ensures.honestly names known.0 in
           record {
-            known = carried.went.known honest;
+            learns = carried.went.learns honest;
             broken = carried.went.broken honest;
-            grown = carried.went.grown honest;
+            takes_nothing_back = carried.went.takes_nothing_back honest;
             ended =
                 ended_whole client.keys client.batch old.past mid.past client.knowns next.knowns close.result done.result.0 last done.result.1
                 old.ended mid.ended new.ended end.whole end.stop end.fault known.1 (done.ensures.ended honest) closed.ended;
@@ -62,11 +66,11 @@ returns g c =
                 ended_once mid.past new.past old.ended mid.ended new.ended (laws.requests names mid.past new.past closed.honest.1).sent
                 (done.ensures.ended honest) (one_of_both close.result closed.ended closed.unended);
           };
-      kept = carried.went.keeps;
-      saved = carried.kept;
+      forgets_nothing = carried.went.keeps;
+      saved = carried.saved;
       counted = search rules;
-      output = λ is. done.ensures.output (output_before close.result done.result.0 last end.whole end.stop end.fault is);
-      stands = stands;
+      output = λ is. made.output (output_before close.result done.result.0 last end.whole end.stop end.fault is);
+      stops_for_its_reason = stands;
       limit = λ is. done.ensures.limit (limit is);
       given_up = λ fresh gave.
           let left = done.ensures.given_up fresh gave in
@@ -75,7 +79,7 @@ returns g c =
       calmly = λ settling. record {
         calm = carried.went.near settling;
         settles = λ enough patient whole.
-            settled_end laws client next old new last done.result.1 c.args.limit lawful carried.went stands
+            settled_end laws before after last done.result.1 c.args.limit lawful carried.went stands
             (λ is. unless_given_up _ _ _ _ done.ensures.limit patient (limit is)) settling enough whole;
       };
     }

@@ -13,7 +13,7 @@ use Rattle.kmip_runs.proofs.carrying.exchange_in_turn.Goals.{else-made-limit-via
 pub loop-made-init : goal.loop-made-init
 loop-made-init g c = record {
   carried =
-      carried_itself c.laws_below.ensures c.args.client.now (g.L.Link.seen c.args.link.now) (g.K.Keeper.kept c.args.keeper.now);
+      carried_itself c.laws_below.ensures (record { client = c.args.client.now; link = g.L.Link.seen c.args.link.now; keeper = g.K.Keeper.kept c.args.keeper.now });
   as_many = search rules;
   patient = refl;
   counted = omega arith;
@@ -21,24 +21,46 @@ loop-made-init g c = record {
   paid = λ good. paid_none (left_for c.args.client.now (g.L.Link.seen c.args.link.now).past) (g.L.Link.seen c.args.link.now).disturbances;
 }
 
-pub returns-then-not-is_at_limit-clause-carried : goal.returns-then-not-is_at_limit-clause-carried
-returns-then-not-is_at_limit-clause-carried g c =
+pub returns-then-not-is_at_limit : goal.returns-then-not-is_at_limit
+returns-then-not-is_at_limit g c =
     let step = c.exchange_once-carried in
-    carried_then c.laws_below.ensures c.args.client.now c.loop-made.client
-    step.new.client (g.L.Link.seen c.args.link.now) (g.L.Link.seen c.loop-made.link) (g.L.Link.seen step.new.link) (g.K.Keeper.kept c.args.keeper.now) (g.K.Keeper.kept c.loop-made.keeper) (g.K.Keeper.kept step.new.keeper) step.result.0 c.loop-made.made step.result.1
-    c.plan-plan.ensures.lawful c.loop-made.invariant.carried step.ensures.carried
+    let before = c.loop-made.invariant in
+    let made = step.ensures.exchanges in
+    record {
+      exchanges = record {
+        carried =
+            carried_then c.laws_below.ensures (record { client = c.args.client.now; link = g.L.Link.seen c.args.link.now; keeper = g.K.Keeper.kept c.args.keeper.now })
+            (record { client = c.loop-made.client; link = g.L.Link.seen c.loop-made.link; keeper = g.K.Keeper.kept c.loop-made.keeper })
+            (record { client = step.new.client; link = g.L.Link.seen step.new.link; keeper = g.K.Keeper.kept step.new.keeper })
+            step.result.0 c.loop-made.made step.result.1 c.plan-plan.ensures.lawful before.carried made.carried;
+        counted = search rules;
+        output = λ is. rises_from _ _ _ before.counted (made.output is);
+        stops_for_its_reason = search rules;
+        losing = λ good memory.
+            let first = before.paid good in
+            let second = made.losing (before.carried.went.good good) memory in
+            omega (arith, first, second);
+      };
+      limit = search rules;
+      given_up = search rules;
+      within = search rules;
+      ended = λ honest.
+          step.ensures.ended (is_planned c.args.client.now.keys) (before.carried.went.learns honest).0 ∙ before.ended honest;
+    }
 
 pub loop-made-preserved : goal.loop-made-preserved
 loop-made-preserved g c =
     let step = c.exchange_once-carried in
+    let made = step.ensures.exchanges in
     let tired = g.P.Patience.has_given_up in
     let limit : step.result.0 ≡ Ok stops.Limit = search rules in
     record {
       carried =
-          carried_more c.laws_below.ensures c.args.client.now c.loop-made.client
-          step.new.client (g.L.Link.seen c.args.link.now) (g.L.Link.seen c.loop-made.link) (g.L.Link.seen step.new.link) (g.K.Keeper.kept c.args.keeper.now) (g.K.Keeper.kept c.loop-made.keeper) (g.K.Keeper.kept step.new.keeper) step.result.0 c.loop-made.made step.result.1
-          c.plan-plan.ensures.lawful c.loop-made.invariant.carried step.ensures.carried limit (step.ensures.limit limit);
-      as_many = c.tell.ensures.as_many ∙ c.loop-made.invariant.as_many ∙ ap length (sym step.ensures.carried.went.keeps.keys_stay);
+          carried_more c.laws_below.ensures (record { client = c.args.client.now; link = g.L.Link.seen c.args.link.now; keeper = g.K.Keeper.kept c.args.keeper.now })
+          (record { client = c.loop-made.client; link = g.L.Link.seen c.loop-made.link; keeper = g.K.Keeper.kept c.loop-made.keeper })
+          (record { client = step.new.client; link = g.L.Link.seen step.new.link; keeper = g.K.Keeper.kept step.new.keeper })
+          step.result.0 c.loop-made.made step.result.1 c.plan-plan.ensures.lawful c.loop-made.invariant.carried made.carried limit (step.ensures.limit limit);
+      as_many = c.tell.ensures.as_many ∙ c.loop-made.invariant.as_many ∙ ap length (sym made.carried.went.keeps.keys_stay);
       patient =
           elim c.else-made-limit.branch [
             | else-made-limit-via-then-made-limit+else-not-go_on w ↦
@@ -46,52 +68,78 @@ loop-made-preserved g c =
                 ap tired w.patience-is ∙ still ∙ c.tell.ensures.stays ∙ c.loop-made.invariant.patient
             | else-made-limit-via-else-made-limit w ↦ ap tired w.patience-is ∙ c.tell.ensures.stays ∙ c.loop-made.invariant.patient
           ];
-      counted = omega (arith, c.loop-made.invariant.counted, step.ensures.counted);
+      counted = omega (arith, c.loop-made.invariant.counted, made.counted);
       ended = λ honest.
-          let still = (c.loop-made.invariant.carried.went.known honest).0 in
+          let still = (c.loop-made.invariant.carried.went.learns honest).0 in
           step.ensures.ended (is_planned c.args.client.now.keys) still ∙ c.loop-made.invariant.ended honest;
       paid = λ good.
           let first = c.loop-made.invariant.paid good in
-          let second = step.ensures.losing (c.loop-made.invariant.carried.went.good good) (limit_in_memory step.result.0 limit) in
+          let second = made.losing (c.loop-made.invariant.carried.went.good good) (limit_in_memory step.result.0 limit) in
           let one = step.ensures.limit limit in
           omega (arith, first, second, one);
     }
 
-pub returns-in_default-clause-carried : goal.returns-in_default-clause-carried
-returns-in_default-clause-carried g c =
-    carried_unbegun c.laws_below.ensures c.args.client.now (g.L.Link.seen c.args.link.now) (g.K.Keeper.kept c.args.keeper.now)
+pub returns-in_default : goal.returns-in_default
+returns-in_default g c = record {
+  exchanges = record {
+    carried = carried_unbegun c.laws_below.ensures (record { client = c.args.client.now; link = g.L.Link.seen c.args.link.now; keeper = g.K.Keeper.kept c.args.keeper.now });
+    counted = search rules;
+    output = search rules;
+    stops_for_its_reason = search rules;
+    losing = search rules;
+  };
+  limit = search rules;
+  given_up = search rules;
+  within = search rules;
+  ended = search rules;
+}
 
-pub returns-then-not-go_on-clause-carried : goal.returns-then-not-go_on-clause-carried
-returns-then-not-go_on-clause-carried g c =
+pub returns-then-not-go_on : goal.returns-then-not-go_on
+returns-then-not-go_on g c =
     let step = c.exchange_once-carried in
+    let made = step.ensures.exchanges in
     let limit : step.result.0 ≡ Ok stops.Limit = search rules in
-    carried_more c.laws_below.ensures c.args.client.now c.loop-made.client
-    step.new.client (g.L.Link.seen c.args.link.now) (g.L.Link.seen c.loop-made.link) (g.L.Link.seen step.new.link) (g.K.Keeper.kept c.args.keeper.now) (g.K.Keeper.kept c.loop-made.keeper) (g.K.Keeper.kept step.new.keeper) step.result.0 c.loop-made.made step.result.1
-    c.plan-plan.ensures.lawful c.loop-made.invariant.carried step.ensures.carried limit (step.ensures.limit limit)
+    record {
+      exchanges = record {
+        carried =
+            carried_more c.laws_below.ensures (record { client = c.args.client.now; link = g.L.Link.seen c.args.link.now; keeper = g.K.Keeper.kept c.args.keeper.now })
+            (record { client = c.loop-made.client; link = g.L.Link.seen c.loop-made.link; keeper = g.K.Keeper.kept c.loop-made.keeper })
+            (record { client = step.new.client; link = g.L.Link.seen step.new.link; keeper = g.K.Keeper.kept step.new.keeper })
+            step.result.0 c.loop-made.made step.result.1 c.plan-plan.ensures.lawful c.loop-made.invariant.carried made.carried limit (step.ensures.limit limit);
+        counted = search rules;
+        output = search rules;
+        stops_for_its_reason = search rules;
+        losing = λ good memory.
+            let first = c.loop-made.invariant.paid good in
+            let second = made.losing (c.loop-made.invariant.carried.went.good good) (limit_in_memory step.result.0 limit) in
+            let one = step.ensures.limit limit in
+            omega (arith, first, second, one);
+      };
+      limit = search rules;
+      given_up = search rules;
+      within = search rules;
+      ended = λ honest.
+          step.ensures.ended (is_planned c.args.client.now.keys) (c.loop-made.invariant.carried.went.learns honest).0 ∙ c.loop-made.invariant.ended honest;
+    }
 
-pub returns-then-not-is_at_limit-clause-ended : goal.returns-then-not-is_at_limit-clause-ended
-returns-then-not-is_at_limit-clause-ended g c = λ honest.
-    let still = (c.loop-made.invariant.carried.went.known honest).0 in
-    c.exchange_once-carried.ensures.ended (is_planned c.args.client.now.keys) still ∙ c.loop-made.invariant.ended honest
-
-pub returns-then-not-is_at_limit-clause-losing : goal.returns-then-not-is_at_limit-clause-losing
-returns-then-not-is_at_limit-clause-losing g c = λ good memory.
-    let first = c.loop-made.invariant.paid good in
-    let second = c.exchange_once-carried.ensures.losing (c.loop-made.invariant.carried.went.good good) memory in
-    omega (arith, first, second)
-
-pub returns-clause-losing : goal.returns-clause-losing
-returns-clause-losing g c = λ good memory.
+pub returns : goal.returns
+returns g c =
     let made : c.loop-made.made ≡ c.args.limit = omega (arith, c.loop-made-test.false, c.loop-made.auto.made-end) in
-    let paid = c.loop-made.invariant.paid good in
-    omega (arith, made, paid)
-
-pub returns-then-not-is_at_limit-clause-output : goal.returns-then-not-is_at_limit-clause-output
-returns-then-not-is_at_limit-clause-output g c = λ is.
-    rises_from _ _ _ c.loop-made.invariant.counted (c.exchange_once-carried.ensures.output is)
-
-pub returns-clause-carried : goal.returns-clause-carried
-returns-clause-carried g c =
-    let made : c.loop-made.made ≡ c.args.limit = omega (arith, c.loop-made-test.false, c.loop-made.auto.made-end) in
-    carried_stop c.laws_below.ensures c.args.client.now c.loop-made.client (g.L.Link.seen c.args.link.now) (g.L.Link.seen c.loop-made.link) (g.K.Keeper.kept c.args.keeper.now) (g.K.Keeper.kept c.loop-made.keeper) c.stop_of.result c.loop-made.made
-    c.args.limit c.plan-plan.ensures.lawful c.stop_of.ensures.in_memory made c.loop-made.invariant.carried
+    record {
+      exchanges = record {
+        carried =
+            carried_stop c.laws_below.ensures (record { client = c.args.client.now; link = g.L.Link.seen c.args.link.now; keeper = g.K.Keeper.kept c.args.keeper.now })
+            (record { client = c.loop-made.client; link = g.L.Link.seen c.loop-made.link; keeper = g.K.Keeper.kept c.loop-made.keeper })
+            c.stop_of.result c.loop-made.made c.args.limit c.plan-plan.ensures.lawful c.stop_of.ensures.in_memory made c.loop-made.invariant.carried;
+        counted = search rules;
+        output = search rules;
+        stops_for_its_reason = search rules;
+        losing = λ good memory.
+            let paid = c.loop-made.invariant.paid good in
+            omega (arith, made, paid);
+      };
+      limit = search rules;
+      given_up = search rules;
+      within = search rules;
+      ended = search rules;
+    }

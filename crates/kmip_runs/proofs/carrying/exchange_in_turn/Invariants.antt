@@ -9,7 +9,8 @@ use Rattle.kmip_runs.proofs.carrying.exchange_in_turn.Given as goal
 
 abbrev pub invariant-loop-made : goal.invariant-loop-made
 invariant-loop-made g l = record {
-  carried : Carried l.fn.client l.client (g.L.Link.seen l.fn.link) (g.L.Link.seen l.link) (g.K.Keeper.kept l.fn.keeper) (g.K.Keeper.kept l.keeper) (Ok stops.Limit) l.made;
+  carried : Carried (record { client = l.fn.client; link = g.L.Link.seen l.fn.link; keeper = g.K.Keeper.kept l.fn.keeper })
+      (record { client = l.client; link = g.L.Link.seen l.link; keeper = g.K.Keeper.kept l.keeper }) (Ok stops.Limit) l.made;
   as_many : length l.sights.items.items ≡ length l.client.keys;
   patient : g.P.Patience.has_given_up l.patience ≡ g.P.Patience.has_given_up l.fn.patience;
   counted : (g.K.Keeper.kept l.fn.keeper).refusals ≤ (g.K.Keeper.kept l.keeper).refusals;

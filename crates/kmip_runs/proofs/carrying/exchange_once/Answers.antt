@@ -7,53 +7,107 @@ use Rattle.kmip_runs.proofs.CarryLemmas.{broke, carried_broken, carried_none, ca
 use Rattle.kmip_runs.proofs.WentLemmas.{stop_is}
 use Rattle.kmip_runs.proofs.carrying.exchange_once.Goals as goal
 
-pub returns-in-Ok-false-clause-carried : goal.returns-in-Ok-false-clause-carried
-returns-in-Ok-false-clause-carried g c =
+pub returns-in-Ok-false : goal.returns-in-Ok-false
+returns-in-Ok-false g c =
     let e = c.in-Ok-false.ensures in
     let client = c.args.client.now in
     let next = c.turn.new.client in
     let x = g.L.Link.seen c.args.link.now in
     let y = g.L.Link.seen c.turn.new.link in
+    let i = g.K.Keeper.kept c.args.keeper.now in
     let stop = c.stop_of.result in
-    carried_none client next x y (g.K.Keeper.kept c.args.keeper.now) stop
-    (subst (λ asked. Went client next x y (Ok stop) (one_if asked)) c.in-Ok-false.field-0-test
-    (took client next x y (Ok stop) c.in-Ok-false.field-0 (λ is. c.stop_of.ensures.in_memory (stop_is stop stops.NoMemory is)) e.good e.goes e.known e.grown
-    e.kept e.calm))
+    record {
+      exchanges = record {
+        carried =
+            carried_none (record { client = client; link = x; keeper = i }) next y stop
+            (subst (λ asked. Went (record { client = client; link = x; keeper = i }) (record { client = next; link = y; keeper = i }) (Ok stop) (one_if asked)) c.in-Ok-false.field-0-test
+            (took (record { client = client; link = x; keeper = i }) (record { client = next; link = y; keeper = i }) (Ok stop) c.in-Ok-false.field-0 _
+            (λ is. c.stop_of.ensures.in_memory (stop_is stop stops.NoMemory is)) e));
+        counted = search rules;
+        output = search rules;
+        stops_for_its_reason = search rules;
+        losing = search rules;
+      };
+      limit = search rules;
+      within = search rules;
+      ended = search rules;
+    }
 
-pub returns-in-Err-clause-carried : goal.returns-in-Err-clause-carried
-returns-in-Err-clause-carried g c =
+pub returns-in-Err : goal.returns-in-Err
+returns-in-Err g c =
     let e = c.in-Err.ensures in
     let client = c.args.client.now in
     let next = c.turn.new.client in
     let x = g.L.Link.seen c.args.link.now in
     let y = g.L.Link.seen c.turn.new.link in
+    let i = g.K.Keeper.kept c.args.keeper.now in
     let fault = c.in-Err.fault in
-    carried_broken client next x y (g.K.Keeper.kept c.args.keeper.now) fault _ (search rules)
-    (broke client next x y fault e.good e.goes (λ holds. (e.known holds).0) e.broken e.grown e.kept)
+    record {
+      exchanges = record {
+        carried =
+            carried_broken (record { client = client; link = x; keeper = i }) next y fault _ (search rules)
+            (broke (record { client = client; link = x; keeper = i }) (record { client = next; link = y; keeper = i }) fault _ e);
+        counted = search rules;
+        output = search rules;
+        stops_for_its_reason = search rules;
+        losing = search rules;
+      };
+      limit = search rules;
+      within = search rules;
+      ended = search rules;
+    }
 
-pub returns-in-Ok-clause-carried : goal.returns-in-Ok-clause-carried
-returns-in-Ok-clause-carried g c =
+pub returns-in-Ok : goal.returns-in-Ok
+returns-in-Ok g c =
     let e = c.in-Ok-true.ensures in
     let client = c.args.client.now in
     let next = c.turn.new.client in
     let x = g.L.Link.seen c.args.link.now in
     let y = g.L.Link.seen c.turn.new.link in
+    let i = g.K.Keeper.kept c.args.keeper.now in
+    let j = g.K.Keeper.kept c.save_progress.new.keeper in
     let stop = c.stop_of-in-Ok.result in
-    carried_one client next x y (g.K.Keeper.kept c.args.keeper.now) (g.K.Keeper.kept c.save_progress.new.keeper) stop c.stop_of-in-Ok.ensures.in_memory
-    (λ keeping. let so = c.in-Ok.ensures.kept keeping in (so.0, so.1))
-    (subst (λ asked. Went client next x y (Ok stop) (one_if asked)) c.in-Ok-true.field-0-test
-    (took client next x y (Ok stop) c.in-Ok-true.field-0 (λ is. c.stop_of-in-Ok.ensures.in_memory (stop_is stop stops.NoMemory is)) e.good e.goes e.known
-    e.grown e.kept e.calm))
+    record {
+      exchanges = record {
+        carried =
+            carried_one (record { client = client; link = x; keeper = i }) (record { client = next; link = y; keeper = j }) stop c.stop_of-in-Ok.ensures.in_memory
+            (λ keeping. let so = c.in-Ok.ensures.kept keeping in (so.0, so.1))
+            (subst (λ asked. Went (record { client = client; link = x; keeper = i }) (record { client = next; link = y; keeper = j }) (Ok stop) (one_if asked)) c.in-Ok-true.field-0-test
+            (took (record { client = client; link = x; keeper = i }) (record { client = next; link = y; keeper = j }) (Ok stop) c.in-Ok-true.field-0 _
+            (λ is. c.stop_of-in-Ok.ensures.in_memory (stop_is stop stops.NoMemory is)) e));
+        counted = search rules;
+        output = search rules;
+        stops_for_its_reason = search rules;
+        losing = search rules;
+      };
+      limit = search rules;
+      within = search rules;
+      ended = search rules;
+    }
 
-pub returns-in-Err-save_progress-clause-carried : goal.returns-in-Err-save_progress-clause-carried
-returns-in-Err-save_progress-clause-carried g c =
+pub returns-in-Err-save_progress : goal.returns-in-Err-save_progress
+returns-in-Err-save_progress g c =
     let e = c.in-Ok-true.ensures in
     let client = c.args.client.now in
     let next = c.turn.new.client in
     let x = g.L.Link.seen c.args.link.now in
     let y = g.L.Link.seen c.turn.new.link in
+    let i = g.K.Keeper.kept c.args.keeper.now in
+    let j = g.K.Keeper.kept c.save_progress.new.keeper in
     let fault = c.in-Err-save_progress.fault in
-    carried_not client next x y (g.K.Keeper.kept c.args.keeper.now) (g.K.Keeper.kept c.save_progress.new.keeper) fault
-    (λ keeping. let so = c.in-Err-save_progress.ensures.kept keeping in (so.0, so.2))
-    (subst (λ asked. Went client next x y (Err fault) (one_if asked)) c.in-Ok-true.field-0-test
-    (took client next x y (Err fault) c.in-Ok-true.field-0 (λ is. absurd cc) e.good e.goes e.known e.grown e.kept e.calm))
+    record {
+      exchanges = record {
+        carried =
+            carried_not (record { client = client; link = x; keeper = i }) (record { client = next; link = y; keeper = j }) fault
+            (λ keeping. let so = c.in-Err-save_progress.ensures.kept keeping in (so.0, so.2))
+            (subst (λ asked. Went (record { client = client; link = x; keeper = i }) (record { client = next; link = y; keeper = j }) (Err fault) (one_if asked)) c.in-Ok-true.field-0-test
+            (took (record { client = client; link = x; keeper = i }) (record { client = next; link = y; keeper = j }) (Err fault) c.in-Ok-true.field-0 _ (λ is. absurd cc) e));
+        counted = search rules;
+        output = search rules;
+        stops_for_its_reason = search rules;
+        losing = search rules;
+      };
+      limit = search rules;
+      within = search rules;
+      ended = search rules;
+    }

@@ -2,7 +2,7 @@
 use Rattle.std.proofs.Common.{◌≡◌, ◌≤◌, ◌<◌, ◌+◌, ℕ, ◌∙◌, refl, rules, subst, sym, arith}
 use Rattle.std.specs.Prelude.{⊤}
 use Rattle.kmip_client.specs.Clients.{ClientState, one_if}
-use Rattle.kmip_protocol.specs.Past.{Names, is_planned}
+use Rattle.kmip_protocol.specs.Past.{is_planned}
 use Rattle.kmip_protocol.specs.Seen.{Seen}
 use Rattle.kmip_runs.specs.Driving.{Keeps, Learnt, LearntUntil, Nearer, WentOn}
 use Rattle.kmip_runs.specs.Losing.{ArePaid, left_for}
@@ -48,38 +48,38 @@ loop-made-init g c = record {
 pub returns-in-Ok-false : goal.returns-in-Ok-false
 returns-in-Ok-false g c = record {
   well = λ good. record {
-    good = c.turn.ensures.good (c.loop-made.invariant.driven.good good);
-    goes =
-        went_then c.laws_below.ensures c.args.client.now.keys (g.L.Link.seen c.args.link.now).past (g.L.Link.seen c.loop-made.link).past (g.L.Link.seen c.turn.new.link).past (c.loop-made.invariant.driven.goes good)
-        (subst (λ ks. WentOn ks (g.L.Link.seen c.loop-made.link).past (g.L.Link.seen c.turn.new.link).past) c.loop-made.invariant.driven.keeps.keys_stay (c.turn.ensures.goes (c.loop-made.invariant.driven.good good)));
+    good = (c.turn.ensures.well (c.loop-made.invariant.driven.good good)).good;
+    onward =
+        went_then c.laws_below.ensures c.args.client.now.keys (g.L.Link.seen c.args.link.now).past (g.L.Link.seen c.loop-made.link).past (g.L.Link.seen c.turn.new.link).past (c.loop-made.invariant.driven.onward good)
+        (subst (λ ks. WentOn ks (g.L.Link.seen c.loop-made.link).past (g.L.Link.seen c.turn.new.link).past) c.loop-made.invariant.driven.keeps.keys_stay (c.turn.ensures.well (c.loop-made.invariant.driven.good good)).onward);
     -- a last turn that asked nothing
     losing = λ memory.
         let last =
         subst (λ asked. ArePaid (one_if asked) (left_for c.loop-made.client (g.L.Link.seen c.loop-made.link).past) (left_for c.turn.new.client (g.L.Link.seen c.turn.new.link).past)
         (g.L.Link.seen c.loop-made.link).disturbances (g.L.Link.seen c.turn.new.link).disturbances) c.in-Ok-false.field-0-test
-        (c.in-Ok-false.ensures.losing (c.loop-made.invariant.driven.good good)) in
+        (c.in-Ok-false.ensures.tries.paid (c.loop-made.invariant.driven.good good)) in
         let first = c.loop-made.invariant.paid good in
         omega (arith, first, last);
     outlasts = λ memory enough.
-        let still = c.turn.ensures.good (c.loop-made.invariant.driven.good good) in
+        let still = (c.turn.ensures.well (c.loop-made.invariant.driven.good good)).good in
         finished_stop c.turn.new.client.keys c.turn.new.client.knowns c.stop_of.result
-        (paid_end c.laws_below.ensures c.turn.new.client (g.L.Link.seen c.turn.new.link) still (c.in-Ok-false.ensures.none c.in-Ok-false.field-0-test))
-        c.stop_of.ensures.in_memory c.stop_of.ensures.stands;
+        (paid_end c.laws_below.ensures c.turn.new.client (g.L.Link.seen c.turn.new.link) still (c.in-Ok-false.ensures.settled c.in-Ok-false.field-0-test))
+        c.stop_of.ensures.in_memory c.stop_of.ensures.stops_for_its_reason;
     no_conflict =
-        good_no_conflict c.laws_below.ensures c.turn.new.client (g.L.Link.seen c.turn.new.link) c.stop_of.result (c.turn.ensures.good (c.loop-made.invariant.driven.good good)) c.stop_of.ensures.stands;
-    further = (further_last c.laws_below.ensures c.args.client.now c.loop-made.client c.turn.new.client (g.L.Link.seen c.args.link.now) (g.L.Link.seen c.loop-made.link) (g.L.Link.seen c.turn.new.link) c.loop-made.made _ c.loop-made.invariant.driven (λ good. further_if c.loop-made.client.keys (g.L.Link.seen c.loop-made.link) (g.L.Link.seen c.turn.new.link) _ _ (λ is. search rules) (c.turn.ensures.further good))) good;
+        good_no_conflict c.laws_below.ensures c.turn.new.client (g.L.Link.seen c.turn.new.link) c.stop_of.result (c.turn.ensures.well (c.loop-made.invariant.driven.good good)).good c.stop_of.ensures.stops_for_its_reason;
+    further = (further_last c.laws_below.ensures c.args.client.now c.loop-made.client c.turn.new.client (g.L.Link.seen c.args.link.now) (g.L.Link.seen c.loop-made.link) (g.L.Link.seen c.turn.new.link) c.loop-made.made _ c.loop-made.invariant.driven (λ good. further_if c.loop-made.client.keys (g.L.Link.seen c.loop-made.link) (g.L.Link.seen c.turn.new.link) _ _ (λ is. search rules) (c.turn.ensures.well good).further)) good;
   };
   honestly = λ honest. record {
-    known =
+    learns =
         let ended =
         known_end c.laws_below.ensures c.args.client.now c.loop-made.client c.turn.new.client (g.L.Link.seen c.args.link.now) (g.L.Link.seen c.loop-made.link)
         (g.L.Link.seen c.turn.new.link) c.loop-made.made c.loop-made.invariant.driven
         (λ holds.
-        let step = c.in-Ok-false.ensures.known holds in (
-          step.0,
+        let step = c.in-Ok-false.ensures.honestly holds in (
+          step.stays_honest,
           subst
               (λ asked. Learnt c.loop-made.client.keys c.loop-made.client.batch (g.L.Link.seen c.loop-made.link).past (g.L.Link.seen c.turn.new.link).past c.loop-made.client.knowns c.turn.new.client.knowns (one_if asked))
-              c.in-Ok-false.field-0-test step.1,
+              c.in-Ok-false.field-0-test step.learnt,
         )) honest in
         (ended.0, λ memory. ended.1);
     broken = λ is. absurd (c.stop_of.ensures.in_memory is);
@@ -88,18 +88,18 @@ returns-in-Ok-false g c = record {
         known_end c.laws_below.ensures c.args.client.now c.loop-made.client c.turn.new.client (g.L.Link.seen c.args.link.now) (g.L.Link.seen c.loop-made.link)
         (g.L.Link.seen c.turn.new.link) c.loop-made.made c.loop-made.invariant.driven
         (λ holds.
-        let step = c.in-Ok-false.ensures.known holds in (
-          step.0,
+        let step = c.in-Ok-false.ensures.honestly holds in (
+          step.stays_honest,
           subst
               (λ asked. Learnt c.loop-made.client.keys c.loop-made.client.batch (g.L.Link.seen c.loop-made.link).past (g.L.Link.seen c.turn.new.link).past c.loop-made.client.knowns c.turn.new.client.knowns (one_if asked))
-              c.in-Ok-false.field-0-test step.1,
+              c.in-Ok-false.field-0-test step.learnt,
         )) honest in
         let long = learnt_long c.args.client.now.keys c.args.client.now.batch (g.L.Link.seen c.args.link.now).past (g.L.Link.seen c.turn.new.link).past c.args.client.now.knowns c.turn.new.client.knowns c.loop-made.made ended.1 in
         let below : c.loop-made.made < c.args.limit = search rules in
         omega (arith, long, below);
-    grown =
-        grown_then (g.L.Link.seen c.args.link.now).past (g.L.Link.seen c.loop-made.link).past (g.L.Link.seen c.turn.new.link).past (c.loop-made.invariant.driven.grown honest)
-        (c.turn.ensures.grown (subst (λ ks. (g.L.Link.seen c.loop-made.link).honest (is_planned ks)) (sym c.loop-made.invariant.driven.keeps.keys_stay) (c.loop-made.invariant.driven.known honest).0));
+    takes_nothing_back =
+        grown_then (g.L.Link.seen c.args.link.now).past (g.L.Link.seen c.loop-made.link).past (g.L.Link.seen c.turn.new.link).past (c.loop-made.invariant.driven.takes_nothing_back honest)
+        (c.turn.ensures.honestly (subst (λ ks. (g.L.Link.seen c.loop-made.link).honest (is_planned ks)) (sym c.loop-made.invariant.driven.keeps.keys_stay) (c.loop-made.invariant.driven.learns honest).0)).takes_nothing_back;
   };
   turned =
       turned_rest _ _ c.stop_of.result c.loop-made.made c.args.client.now c.loop-made.client c.turn.new.client (g.L.Link.seen c.args.link.now).past (g.L.Link.seen c.loop-made.link).past (g.L.Link.seen c.turn.new.link).past
@@ -109,11 +109,11 @@ returns-in-Ok-false g c = record {
       (subst
       (λ asked. TakesTurn ((g.L.Link.seen c.loop-made.link).honest (is_planned c.loop-made.client.keys)) asked c.loop-made.client c.turn.new.client (g.L.Link.seen c.loop-made.link).past (g.L.Link.seen c.turn.new.link).past)
       c.in-Ok-false.field-0-test c.in-Ok-false.ensures.turned);
-  kept =
-      keeps_then c.args.client.now c.loop-made.client c.turn.new.client c.loop-made.invariant.driven.keeps c.turn.ensures.kept;
-  stands = search rules;
+  forgets_nothing =
+      keeps_then c.args.client.now c.loop-made.client c.turn.new.client c.loop-made.invariant.driven.keeps c.turn.ensures.tries.keeps;
+  stops_for_its_reason = search rules;
   limit = λ is.
-      absurd (settled_no_limit c.laws_below.ensures c.turn.new.client c.stop_of.result (c.in-Ok-false.ensures.none c.in-Ok-false.field-0-test) c.stop_of.ensures.stands is);
+      absurd (settled_no_limit c.laws_below.ensures c.turn.new.client c.stop_of.result (c.in-Ok-false.ensures.settled c.in-Ok-false.field-0-test) c.stop_of.ensures.stops_for_its_reason is);
   within = search rules;
   calmly = λ settling. record {
     settles = λ enough memory.
@@ -122,13 +122,13 @@ returns-in-Ok-false g c = record {
         let first = c.loop-made.invariant.driven.near settling in
         let last =
         subst (λ asked. Nearer c.loop-made.client c.turn.new.client (g.L.Link.seen c.loop-made.link) (g.L.Link.seen c.turn.new.link) (one_if asked)) c.in-Ok-false.field-0-test
-        (c.in-Ok-false.ensures.calm first.settling) in
+        (c.in-Ok-false.ensures.tries.nearer first.settling) in
         let end =
         nearer_end l client c.loop-made.client c.turn.new.client (g.L.Link.seen c.args.link.now) (g.L.Link.seen c.loop-made.link) (g.L.Link.seen c.turn.new.link) c.loop-made.made
         (asks_one client c.loop-made.client c.loop-made.invariant.driven.keeps) first last
-        (c.in-Ok-false.ensures.none c.in-Ok-false.field-0-test) in
+        (c.in-Ok-false.ensures.settled c.in-Ok-false.field-0-test) in
         let few = l.bounded (g.L.Link.seen c.args.link.now).past.room client.keys (g.L.Link.seen c.args.link.now).past.objects client.knowns c.plan-plan.ensures.lawful settling.ready in (
-          finished_stop c.turn.new.client.keys c.turn.new.client.knowns c.stop_of.result end.3 c.stop_of.ensures.in_memory c.stop_of.ensures.stands,
+          finished_stop c.turn.new.client.keys c.turn.new.client.knowns c.stop_of.result end.3 c.stop_of.ensures.in_memory c.stop_of.ensures.stops_for_its_reason,
           end.1,
           end.2,
           omega (arith, end.1, few),
@@ -138,7 +138,7 @@ returns-in-Ok-false g c = record {
         let first = c.loop-made.invariant.driven.near settling in
         let last =
         subst (λ asked. Nearer c.loop-made.client c.turn.new.client (g.L.Link.seen c.loop-made.link) (g.L.Link.seen c.turn.new.link) (one_if asked)) c.in-Ok-false.field-0-test
-        (c.in-Ok-false.ensures.calm first.settling) in
+        (c.in-Ok-false.ensures.tries.nearer first.settling) in
         subst (λ n. Nearer client c.turn.new.client (g.L.Link.seen c.args.link.now) (g.L.Link.seen c.turn.new.link) n) (and_none c.loop-made.made)
         (nearer_then client c.loop-made.client c.turn.new.client (g.L.Link.seen c.args.link.now) (g.L.Link.seen c.loop-made.link) (g.L.Link.seen c.turn.new.link) c.loop-made.made 0
         (asks_one client c.loop-made.client c.loop-made.invariant.driven.keeps) first last);
@@ -150,60 +150,60 @@ returns-in-Ok-false g c = record {
       let first = c.loop-made.invariant.driven.near settling in
       let last =
       subst (λ asked. Nearer c.loop-made.client c.turn.new.client (g.L.Link.seen c.loop-made.link) (g.L.Link.seen c.turn.new.link) (one_if asked)) c.in-Ok-false.field-0-test
-      (c.in-Ok-false.ensures.calm first.settling) in
+      (c.in-Ok-false.ensures.tries.nearer first.settling) in
       let end =
       nearer_end l client c.loop-made.client c.turn.new.client (g.L.Link.seen c.args.link.now) (g.L.Link.seen c.loop-made.link) (g.L.Link.seen c.turn.new.link) c.loop-made.made
       (asks_one client c.loop-made.client c.loop-made.invariant.driven.keeps) first last
-      (c.in-Ok-false.ensures.none c.in-Ok-false.field-0-test) in
+      (c.in-Ok-false.ensures.settled c.in-Ok-false.field-0-test) in
       let done =
       completed l client c.turn.new.client (g.L.Link.seen c.args.link.now) (g.L.Link.seen c.turn.new.link) c.loop-made.made c.plan-plan.ensures.lawful start end.0
-      (c.turn.ensures.kept.keys_stay ∙ c.loop-made.invariant.driven.keeps.keys_stay) end.1 end.2 end.3 in (
-        finished_stop c.turn.new.client.keys c.turn.new.client.knowns c.stop_of.result end.3 c.stop_of.ensures.in_memory c.stop_of.ensures.stands,
+      (c.turn.ensures.tries.keeps.keys_stay ∙ c.loop-made.invariant.driven.keeps.keys_stay) end.1 end.2 end.3 in (
+        finished_stop c.turn.new.client.keys c.turn.new.client.knowns c.stop_of.result end.3 c.stop_of.ensures.in_memory c.stop_of.ensures.stops_for_its_reason,
         done.0,
         done.1,
         done.2,
       );
-  honest = λ names honest. c.turn.ensures.honest names (c.loop-made.invariant.driven.honest_still names honest);
+  honest = λ names honest. c.turn.ensures.tries.honest names (c.loop-made.invariant.driven.honest_still names honest);
   ended = λ names honest.
-      c.turn.ensures.ended names (c.loop-made.invariant.driven.honest_still names honest) ∙ c.loop-made.invariant.ended names honest;
+      c.turn.ensures.tries.ended names (c.loop-made.invariant.driven.honest_still names honest) ∙ c.loop-made.invariant.ended names honest;
   followed = λ memory.
-      g.met.L.Link.twice c.args.link.now c.loop-made.link c.turn.new.link c.loop-made.invariant.followed c.in-Ok-false.ensures.followed;
+      g.met.L.Link.twice c.args.link.now c.loop-made.link c.turn.new.link c.loop-made.invariant.followed c.in-Ok-false.ensures.tries.followed;
 }
 
 pub returns-in-Err : goal.returns-in-Err
 returns-in-Err g c = record {
   well = λ good. record {
-    good = c.turn.ensures.good (c.loop-made.invariant.driven.good good);
-    goes =
-        went_then c.laws_below.ensures c.args.client.now.keys (g.L.Link.seen c.args.link.now).past (g.L.Link.seen c.loop-made.link).past (g.L.Link.seen c.turn.new.link).past (c.loop-made.invariant.driven.goes good)
-        (subst (λ ks. WentOn ks (g.L.Link.seen c.loop-made.link).past (g.L.Link.seen c.turn.new.link).past) c.loop-made.invariant.driven.keeps.keys_stay (c.turn.ensures.goes (c.loop-made.invariant.driven.good good)));
+    good = (c.turn.ensures.well (c.loop-made.invariant.driven.good good)).good;
+    onward =
+        went_then c.laws_below.ensures c.args.client.now.keys (g.L.Link.seen c.args.link.now).past (g.L.Link.seen c.loop-made.link).past (g.L.Link.seen c.turn.new.link).past (c.loop-made.invariant.driven.onward good)
+        (subst (λ ks. WentOn ks (g.L.Link.seen c.loop-made.link).past (g.L.Link.seen c.turn.new.link).past) c.loop-made.invariant.driven.keeps.keys_stay (c.turn.ensures.well (c.loop-made.invariant.driven.good good)).onward);
     losing = λ memory. absurd (memory refl);
     outlasts = λ memory enough. absurd (memory refl);
     no_conflict = search rules;
-    further = (further_last c.laws_below.ensures c.args.client.now c.loop-made.client c.turn.new.client (g.L.Link.seen c.args.link.now) (g.L.Link.seen c.loop-made.link) (g.L.Link.seen c.turn.new.link) c.loop-made.made _ c.loop-made.invariant.driven (λ good. further_if c.loop-made.client.keys (g.L.Link.seen c.loop-made.link) (g.L.Link.seen c.turn.new.link) _ _ (λ is. absurd (is refl)) (c.turn.ensures.further good))) good;
+    further = (further_last c.laws_below.ensures c.args.client.now c.loop-made.client c.turn.new.client (g.L.Link.seen c.args.link.now) (g.L.Link.seen c.loop-made.link) (g.L.Link.seen c.turn.new.link) c.loop-made.made _ c.loop-made.invariant.driven (λ good. further_if c.loop-made.client.keys (g.L.Link.seen c.loop-made.link) (g.L.Link.seen c.turn.new.link) _ _ (λ is. absurd (is refl)) (c.turn.ensures.well good).further)) good;
   };
   honestly = λ honest. record {
-    known = (c.turn.ensures.honest _ (c.loop-made.invariant.driven.honest_still _ honest), λ memory. absurd (memory refl));
+    learns = (c.turn.ensures.tries.honest _ (c.loop-made.invariant.driven.honest_still _ honest), λ memory. absurd (memory refl));
     broken = λ is.
         subst
         (λ n. LearntUntil c.args.client.now.keys c.args.client.now.batch (g.L.Link.seen c.args.link.now).past (g.L.Link.seen c.turn.new.link).past c.args.client.now.knowns
         c.turn.new.client.knowns (c.loop-made.made + n))
         (sym c.exchanges.ensures)
         (broken_end c.args.client.now c.loop-made.client c.turn.new.client (g.L.Link.seen c.args.link.now) (g.L.Link.seen c.loop-made.link) (g.L.Link.seen c.turn.new.link)
-        c.loop-made.made c.in-Err.fault c.loop-made.invariant.driven c.in-Err.ensures.broken honest);
+        c.loop-made.made c.in-Err.fault c.loop-made.invariant.driven (λ holds. (c.in-Err.ensures.honestly holds).broken) honest);
     few =
         let off =
         broken_end c.args.client.now c.loop-made.client c.turn.new.client (g.L.Link.seen c.args.link.now) (g.L.Link.seen c.loop-made.link) (g.L.Link.seen c.turn.new.link)
-        c.loop-made.made c.in-Err.fault c.loop-made.invariant.driven c.in-Err.ensures.broken honest in
+        c.loop-made.made c.in-Err.fault c.loop-made.invariant.driven (λ holds. (c.in-Err.ensures.honestly holds).broken) honest in
         let long =
         until_long c.args.client.now.keys c.args.client.now.batch (g.L.Link.seen c.args.link.now).past (g.L.Link.seen c.turn.new.link).past c.args.client.now.knowns c.turn.new.client.knowns
         (c.loop-made.made + exchanges_made c.in-Err.fault) off in
         let one = one_at_most c.in-Err.fault in
         let below : c.loop-made.made < c.args.limit = search rules in
         omega (arith, long, one, below);
-    grown =
-        grown_then (g.L.Link.seen c.args.link.now).past (g.L.Link.seen c.loop-made.link).past (g.L.Link.seen c.turn.new.link).past (c.loop-made.invariant.driven.grown honest)
-        (c.turn.ensures.grown (subst (λ ks. (g.L.Link.seen c.loop-made.link).honest (is_planned ks)) (sym c.loop-made.invariant.driven.keeps.keys_stay) (c.loop-made.invariant.driven.known honest).0));
+    takes_nothing_back =
+        grown_then (g.L.Link.seen c.args.link.now).past (g.L.Link.seen c.loop-made.link).past (g.L.Link.seen c.turn.new.link).past (c.loop-made.invariant.driven.takes_nothing_back honest)
+        (c.turn.ensures.honestly (subst (λ ks. (g.L.Link.seen c.loop-made.link).honest (is_planned ks)) (sym c.loop-made.invariant.driven.keeps.keys_stay) (c.loop-made.invariant.driven.learns honest).0)).takes_nothing_back;
   };
   turned =
       subst
@@ -213,9 +213,9 @@ returns-in-Err g c = record {
       (turned_broken _ _ c.loop-made.made c.args.client.now c.loop-made.client c.turn.new.client (g.L.Link.seen c.args.link.now).past (g.L.Link.seen c.loop-made.link).past (g.L.Link.seen c.turn.new.link).past c.in-Err.fault
       (still_honest (g.L.Link.seen c.args.link.now) (g.L.Link.seen c.loop-made.link) c.args.client.now c.loop-made.client c.loop-made.invariant.driven.keeps
       (c.loop-made.invariant.driven.honest_still (is_planned c.args.client.now.keys)))
-      c.loop-made.invariant.turned c.in-Err.ensures.lost);
-  kept = keeps_then c.args.client.now c.loop-made.client c.turn.new.client c.loop-made.invariant.driven.keeps c.turn.ensures.kept;
-  stands = search rules;
+      c.loop-made.invariant.turned c.in-Err.ensures.gives_up);
+  forgets_nothing = keeps_then c.args.client.now c.loop-made.client c.turn.new.client c.loop-made.invariant.driven.keeps c.turn.ensures.tries.keeps;
+  stops_for_its_reason = search rules;
   limit = search rules;
   within = search rules;
   calmly = λ settling. record {
@@ -223,9 +223,9 @@ returns-in-Err g c = record {
     calm = λ memory. absurd (memory refl);
   };
   finishes = λ start enough memory. absurd (memory refl);
-  honest = λ names honest. c.turn.ensures.honest names (c.loop-made.invariant.driven.honest_still names honest);
+  honest = λ names honest. c.turn.ensures.tries.honest names (c.loop-made.invariant.driven.honest_still names honest);
   ended = λ names honest.
-      c.turn.ensures.ended names (c.loop-made.invariant.driven.honest_still names honest) ∙ c.loop-made.invariant.ended names honest;
+      c.turn.ensures.tries.ended names (c.loop-made.invariant.driven.honest_still names honest) ∙ c.loop-made.invariant.ended names honest;
   followed = λ memory. absurd (memory refl);
 }
 
@@ -235,32 +235,32 @@ loop-made-preserved g c =
       driven = driven_then c.laws_below.ensures c.args.client.now c.loop-made.client c.turn.new.client (g.L.Link.seen c.args.link.now) (g.L.Link.seen c.loop-made.link)
           (g.L.Link.seen c.turn.new.link) c.loop-made.made 1 c.loop-made.invariant.driven
           (record {
-            good = c.in-Ok-true.ensures.good;
-            goes = c.in-Ok-true.ensures.goes;
-            known = λ honest.
-                let step = c.in-Ok-true.ensures.known honest in (
-                  step.0,
+            good = λ good. (c.in-Ok-true.ensures.well good).good;
+            onward = λ good. (c.in-Ok-true.ensures.well good).onward;
+            learns = λ honest.
+                let step = c.in-Ok-true.ensures.honestly honest in (
+                  step.stays_honest,
                   subst
                       (λ asked. Learnt c.loop-made.client.keys c.loop-made.client.batch (g.L.Link.seen c.loop-made.link).past (g.L.Link.seen c.turn.new.link).past c.loop-made.client.knowns c.turn.new.client.knowns (one_if asked))
-                      c.in-Ok-true.field-0-test step.1,
+                      c.in-Ok-true.field-0-test step.learnt,
                 );
-            grown = c.turn.ensures.grown;
-            keeps = c.turn.ensures.kept;
+            takes_nothing_back = λ honest. (c.turn.ensures.honestly honest).takes_nothing_back;
+            keeps = c.turn.ensures.tries.keeps;
             near = λ settling.
                 subst
                 (λ asked. Nearer c.loop-made.client c.turn.new.client (g.L.Link.seen c.loop-made.link) (g.L.Link.seen c.turn.new.link) (one_if asked))
-                c.in-Ok-true.field-0-test (c.in-Ok-true.ensures.calm settling);
-            honest_still = c.turn.ensures.honest;
+                c.in-Ok-true.field-0-test (c.in-Ok-true.ensures.tries.nearer settling);
+            honest_still = c.turn.ensures.tries.honest;
             further = λ good.
-                further_if c.loop-made.client.keys (g.L.Link.seen c.loop-made.link) (g.L.Link.seen c.turn.new.link) _ ⊤ (λ is. search rules) (c.turn.ensures.further good);
+                further_if c.loop-made.client.keys (g.L.Link.seen c.loop-made.link) (g.L.Link.seen c.turn.new.link) _ ⊤ (λ is. search rules) (c.turn.ensures.well good).further;
           });
       ended = λ names honest.
-          c.turn.ensures.ended names (c.loop-made.invariant.driven.honest_still names honest) ∙ c.loop-made.invariant.ended names honest;
+          c.turn.ensures.tries.ended names (c.loop-made.invariant.driven.honest_still names honest) ∙ c.loop-made.invariant.ended names honest;
       paid = λ good.
           paid_then c.loop-made.made 1 _ _ _ _ _ _ (c.loop-made.invariant.paid good)
           (subst (λ asked. ArePaid (one_if asked) (left_for c.loop-made.client (g.L.Link.seen c.loop-made.link).past) (left_for c.turn.new.client (g.L.Link.seen c.turn.new.link).past)
           (g.L.Link.seen c.loop-made.link).disturbances (g.L.Link.seen c.turn.new.link).disturbances) c.in-Ok-true.field-0-test
-          (c.in-Ok-true.ensures.losing (c.loop-made.invariant.driven.good good)));
+          (c.in-Ok-true.ensures.tries.paid (c.loop-made.invariant.driven.good good)));
       turned =
           turned_more _ _ c.loop-made.made c.args.client.now c.loop-made.client c.turn.new.client (g.L.Link.seen c.args.link.now).past (g.L.Link.seen c.loop-made.link).past (g.L.Link.seen c.turn.new.link).past
           (still_honest (g.L.Link.seen c.args.link.now) (g.L.Link.seen c.loop-made.link) c.args.client.now c.loop-made.client c.loop-made.invariant.driven.keeps
@@ -269,14 +269,14 @@ loop-made-preserved g c =
           (subst
           (λ asked. TakesTurn ((g.L.Link.seen c.loop-made.link).honest (is_planned c.loop-made.client.keys)) asked c.loop-made.client c.turn.new.client (g.L.Link.seen c.loop-made.link).past (g.L.Link.seen c.turn.new.link).past)
           c.in-Ok-true.field-0-test c.in-Ok-true.ensures.turned);
-      followed = g.met.L.Link.twice c.args.link.now c.loop-made.link c.turn.new.link c.loop-made.invariant.followed c.in-Ok-true.ensures.followed;
+      followed = g.met.L.Link.twice c.args.link.now c.loop-made.link c.turn.new.link c.loop-made.invariant.followed c.in-Ok-true.ensures.tries.followed;
     }
 
 pub returns : goal.returns
 returns g c = record {
   well = λ good. record {
     good = c.loop-made.invariant.driven.good good;
-    goes = c.loop-made.invariant.driven.goes good;
+    onward = c.loop-made.invariant.driven.onward good;
     losing = λ memory.
         let made = all_made c.loop-made.made c.args.limit c.loop-made-test.false c.loop-made.auto.made-end in
         let paid = c.loop-made.invariant.paid good in
@@ -289,16 +289,16 @@ returns g c = record {
         finished_stop c.loop-made.client.keys c.loop-made.client.knowns c.stop_of-2.result
         (paid_limit c.laws_below.ensures c.args.client.now c.loop-made.client (g.L.Link.seen c.args.link.now) (g.L.Link.seen c.loop-made.link) c.args.limit
         c.plan-plan.ensures.lawful good (c.loop-made.invariant.driven.good good) paid enough)
-        c.stop_of-2.ensures.in_memory c.stop_of-2.ensures.stands;
+        c.stop_of-2.ensures.in_memory c.stop_of-2.ensures.stops_for_its_reason;
     no_conflict =
-        good_no_conflict c.laws_below.ensures c.loop-made.client (g.L.Link.seen c.loop-made.link) c.stop_of-2.result (c.loop-made.invariant.driven.good good) c.stop_of-2.ensures.stands;
+        good_no_conflict c.laws_below.ensures c.loop-made.client (g.L.Link.seen c.loop-made.link) c.stop_of-2.result (c.loop-made.invariant.driven.good good) c.stop_of-2.ensures.stops_for_its_reason;
     further =
         further_if c.args.client.now.keys (g.L.Link.seen c.args.link.now) (g.L.Link.seen c.loop-made.link) ⊤ _ (λ is. tt) (c.loop-made.invariant.driven.further good);
   };
   honestly = λ honest. record {
-    known =
+    learns =
         let made = all_made c.loop-made.made c.args.limit c.loop-made-test.false c.loop-made.auto.made-end in
-        let known = c.loop-made.invariant.driven.known honest in (
+        let known = c.loop-made.invariant.driven.learns honest in (
           known.0,
           λ memory.
               subst (λ n. Learnt c.args.client.now.keys c.args.client.now.batch (g.L.Link.seen c.args.link.now).past (g.L.Link.seen c.loop-made.link).past c.args.client.now.knowns c.loop-made.client.knowns n) made
@@ -309,13 +309,13 @@ returns g c = record {
         let most : c.loop-made.made ≤ c.args.limit = search rules in
         few_made c.args.client.now c.loop-made.client (g.L.Link.seen c.args.link.now) (g.L.Link.seen c.loop-made.link) c.loop-made.made c.args.limit
         c.loop-made.invariant.driven most honest;
-    grown = c.loop-made.invariant.driven.grown honest;
+    takes_nothing_back = c.loop-made.invariant.driven.takes_nothing_back honest;
   };
   turned =
       turned_limit _ c.stop_of-2.result c.loop-made.made c.args.limit c.args.client.now c.loop-made.client (g.L.Link.seen c.args.link.now).past (g.L.Link.seen c.loop-made.link).past
       (all_made c.loop-made.made c.args.limit c.loop-made-test.false c.loop-made.auto.made-end) c.stop_of-2.ensures.in_memory c.loop-made.invariant.turned;
-  kept = c.loop-made.invariant.driven.keeps;
-  stands = search rules;
+  forgets_nothing = c.loop-made.invariant.driven.keeps;
+  stops_for_its_reason = search rules;
   limit = search rules;
   within = search rules;
   calmly = λ settling. record {
@@ -328,7 +328,7 @@ returns g c = record {
         let end =
         nearer_limit l client c.loop-made.client (g.L.Link.seen c.args.link.now) (g.L.Link.seen c.loop-made.link) c.args.limit c.plan-plan.ensures.lawful settling enough near in
         let few = l.bounded (g.L.Link.seen c.args.link.now).past.room client.keys (g.L.Link.seen c.args.link.now).past.objects client.knowns c.plan-plan.ensures.lawful settling.ready in (
-          finished_stop c.loop-made.client.keys c.loop-made.client.knowns c.stop_of-2.result end.1 c.stop_of-2.ensures.in_memory c.stop_of-2.ensures.stands,
+          finished_stop c.loop-made.client.keys c.loop-made.client.knowns c.stop_of-2.result end.1 c.stop_of-2.ensures.in_memory c.stop_of-2.ensures.stops_for_its_reason,
           omega (arith, end.0),
           λ one. end.0,
           omega (arith, end.0, few),
@@ -350,7 +350,7 @@ returns g c = record {
       let done =
       completed l client c.loop-made.client (g.L.Link.seen c.args.link.now) (g.L.Link.seen c.loop-made.link) c.args.limit c.plan-plan.ensures.lawful start near.settling
       c.loop-made.invariant.driven.keeps.keys_stay (omega (arith, end.0)) (λ one. end.0) end.1 in (
-        finished_stop c.loop-made.client.keys c.loop-made.client.knowns c.stop_of-2.result end.1 c.stop_of-2.ensures.in_memory c.stop_of-2.ensures.stands,
+        finished_stop c.loop-made.client.keys c.loop-made.client.knowns c.stop_of-2.result end.1 c.stop_of-2.ensures.in_memory c.stop_of-2.ensures.stops_for_its_reason,
         done.0,
         done.1,
         done.2,

@@ -4,9 +4,10 @@ use Rattle.std.proofs.lemmas.List.Elements.{All-append}
 use Rattle.kmip_protocol.specs.Laws.{IsReached}
 use Rattle.kmip_runs.specs.Headline.{reported, reported_by}
 use Rattle.kmip_runs.specs.Campaigns.{last_plan}
+use Rattle.kmip_runs.specs.Remembering.{notes_of}
 use Rattle.kmip_runs.proofs.EndingLemmas.{all_joined, join_if}
 use Rattle.kmip_runs.proofs.PlanLemmas.{in_turn_if}
-use Rattle.kmip_runs.proofs.RunLemmas.{if_ok, of_ok, ok_of}
+use Rattle.kmip_runs.proofs.RunLemmas.{of_ok, ok_of}
 use Rattle.kmip_runs.proofs.prolonging.campaigns.Goals as goal
 
 pub returns : goal.returns
@@ -31,12 +32,12 @@ returns g c =
         no_conflict = (all.good begun).noted.no_conflict;
         sound = (all.good begun).good;
         true_saved = (all.good begun).noted.true_saved;
-        goes = (all.good begun).went;
+        onward = (all.good begun).went;
       };
-      in_turn = in_turn_if plans (map (λ list. list.items) c.args.runs.now) end.runs.items end.saved.items _ _ _ _ old new
+      in_turn = in_turn_if plans (map (λ list. list.items) c.args.runs.now) (notes_of end) _ _ _ old new
           (ok_of c.run_plans.result c.err-fault.result c.err-fault.ensures.value) (of_ok c.run_plans.result c.err-fault.result c.err-fault.ensures.value) all.in_turn;
       ended = λ honest.
           all_joined end.runs.items _ _ _ _ _
           (join_if [] end.runs.items _ _ _ _ _ _ (ok_of c.run_plans.result c.err-fault.result c.err-fault.ensures.value) (c.run_plans.ensures.ended honest));
-      followed = λ is. if_ok c.run_plans.result (ok_of c.run_plans.result c.err-fault.result c.err-fault.ensures.value is) c.run_plans.ensures.followed;
+      followed = λ is. c.run_plans.ensures.followed (ok_of c.run_plans.result c.err-fault.result c.err-fault.ensures.value is);
     }

@@ -48,8 +48,8 @@ run_part-requires-clause-prolongs g c =
     let then : option_map (λ next. next.now) c.get-next.result ≡ slice_get plans (suc c.loop-place.place) = found ∙ ap (λ n. slice_get plans n) further in
     if_next (λ next. next.now) plans c.loop-place.place c.index-plans-place.result c.get-next.result c.requires.prolong at then
 
-pub returns-in_err-carried-clause-ran : goal.returns-in_err-carried-clause-ran
-returns-in_err-carried-clause-ran g c =
+pub returns-in_err-carried : goal.returns-in_err-carried
+returns-in_err-carried g c =
     let plans = c.args.plans.now in
     let runs = map (λ list. list.items) c.args.runs.now in
     let place = c.loop-place.place in
@@ -70,18 +70,28 @@ returns-in_err-carried-clause-ran g c =
     let now = g.L.Link.seen c.run_part.new.link in
     let keys = c.index-plans-place.result in
     let before = c.loop-place.invariant.turning in
-    elim c.in_err-carried.ensures.broken [
-      | inl left ↦
-          plans_left plans runs r l c.requires.prolong lawful start now place keys c.loop-place.end
-          c.run_part.new.end c.loop-place.carried.items _ none at
-          (subst (λ link. Turning plans runs start (g.L.Link.seen link) place c.loop-place.end c.loop-place.carried.items) (sym left.1) before) left.0
-      | inr broken ↦
-          let is = subst (λ saved. HasRunBroken keys (option_map (λ next. next.now) c.get-next.result) saved c.as_slice-list.result.now (g.L.Link.seen c.loop-place.link) now
-          c.loop-place.end c.run_part.new.end) c.as_slice.ensures.value broken in
-          run_broken plans runs r l c.requires.prolong lawful start (g.L.Link.seen c.loop-place.link) now place keys
-          (option_map (λ next. next.now) c.get-next.result) c.as_slice-list.result.now c.loop-place.end c.run_part.new.end c.loop-place.carried.items _ none
-          c.keys-in-loop-place.ensures.lawful at so next_is before is
-    ]
+    record {
+      ran =
+          elim c.in_err-carried.ensures.broken [
+            | inl left ↦
+                plans_left plans runs r l c.requires.prolong lawful start now place keys c.loop-place.end
+                c.run_part.new.end c.loop-place.carried.items _ none at
+                (subst (λ link. Turning plans runs start (g.L.Link.seen link) place c.loop-place.end c.loop-place.carried.items) (sym left.1) before) left.0
+            | inr broken ↦
+                let is = subst (λ saved. HasRunBroken keys (option_map (λ next. next.now) c.get-next.result) saved c.as_slice-list.result.now (g.L.Link.seen c.loop-place.link) now
+                c.loop-place.end c.run_part.new.end) c.as_slice.ensures.value broken in
+                run_broken plans runs r l c.requires.prolong lawful start (g.L.Link.seen c.loop-place.link) now place keys
+                (option_map (λ next. next.now) c.get-next.result) c.as_slice-list.result.now c.loop-place.end c.run_part.new.end c.loop-place.carried.items _ none
+                c.keys-in-loop-place.ensures.lawful at so next_is before is
+          ];
+      ended = λ far.
+          let among = l.names (last_plan plans) keys lawful (last_prolongs l plans place keys c.requires.prolong at) in
+          let near = ((g.L.Link.seen c.loop-place.link).fewer (is_planned (last_plan plans)) (is_planned keys) among).0
+          (before.honest_still (is_planned (last_plan plans)) far) in
+          join_then [] c.loop-place.end.runs.items c.run_part.new.end.runs.items ⊤ _ _ _ _ _ _ _ tt (c.loop-place.invariant.ended far)
+          (join_if c.loop-place.end.runs.items c.run_part.new.end.runs.items _ _ _ _ _ _ (λ is. absurd (none is)) (c.run_part.ensures.ended near));
+      followed = λ is. absurd (none is);
+    }
 
 pub loop-place-preserved : goal.loop-place-preserved
 loop-place-preserved g c =
@@ -115,35 +125,17 @@ loop-place-preserved g c =
       followed = g.met.L.Link.twice c.args.link.now c.loop-place.link c.run_part.new.link c.loop-place.invariant.followed c.in_ok-carried.ensures.followed;
     }
 
-pub returns-clause-ran : goal.returns-clause-ran
-returns-clause-ran g c =
+pub returns : goal.returns
+returns g c =
     let plans = c.args.plans.now in
     let runs = map (λ list. list.items) c.args.runs.now in
     let most = slice_get_read plans (length plans) (length plans - 1) c.index-plans-plans.result refl (omega (arith, c.requires.some)) c.index-plans-plans.is in
     let lawful = subst (λ ks. IsLawful ks) (sym (last_is plans (length plans - 1) c.index-plans-plans.result (omega (arith, c.requires.some)) most)) c.keys-2.ensures.lawful in
     let all : c.loop-place.place ≡ length plans = omega (arith, c.loop-place-test.false, c.loop-place.auto.place-end) in
-    plans_all plans runs c.laws_below.ensures.runs c.laws_below.ensures.plans c.requires.prolong lawful (g.L.Link.seen c.args.link.now) (g.L.Link.seen c.loop-place.link) c.loop-place.place c.loop-place.end c.loop-place.carried.items _ (search rules) all
-    (length-map c.args.runs.now (λ list. list.items) ∙ c.requires.as_many) c.loop-place.invariant.turning
-
-pub returns-in_err-carried-clause-ended : goal.returns-in_err-carried-clause-ended
-returns-in_err-carried-clause-ended g c = λ far.
-    let plans = c.args.plans.now in
-    let place = c.loop-place.place in
-    let keys = c.index-plans-place.result in
-    let l = c.laws_below.ensures.plans in
-    let below : place < length plans = search rules in
-    let at = slice_get_read plans (length plans) place keys refl below c.index-plans-place.is in
-    let most = slice_get_read plans (length plans) (length plans - 1) c.index-plans-plans.result refl (omega (arith, c.requires.some)) c.index-plans-plans.is in
-    let lawful = subst (λ ks. IsLawful ks) (sym (last_is plans (length plans - 1) c.index-plans-plans.result (omega (arith, c.requires.some)) most)) c.keys-2.ensures.lawful in
-    let among = l.names (last_plan plans) keys lawful (last_prolongs l plans place keys c.requires.prolong at) in
-    let near = ((g.L.Link.seen c.loop-place.link).fewer (is_planned (last_plan plans)) (is_planned keys) among).0
-    (c.loop-place.invariant.turning.honest_still (is_planned (last_plan plans)) far) in
-    join_then [] c.loop-place.end.runs.items c.run_part.new.end.runs.items ⊤ _ _ _ _ _ _ _ tt (c.loop-place.invariant.ended far)
-    (join_if c.loop-place.end.runs.items c.run_part.new.end.runs.items _ _ _ _ _ _ (λ is. no_ok c.from_residual.result tt c.from_residual.ensures.0 is)
-    (c.run_part.ensures.ended near))
-
-pub returns-clause-ended : goal.returns-clause-ended
-returns-clause-ended g c = λ far. join_if [] c.loop-place.end.runs.items ⊤ _ _ _ _ _ (λ is. tt) (c.loop-place.invariant.ended far)
-
-pub returns-clause-followed : goal.returns-clause-followed
-returns-clause-followed g c = c.loop-place.invariant.followed
+    record {
+      ran =
+          plans_all plans runs c.laws_below.ensures.runs c.laws_below.ensures.plans c.requires.prolong lawful (g.L.Link.seen c.args.link.now) (g.L.Link.seen c.loop-place.link) c.loop-place.place c.loop-place.end c.loop-place.carried.items _ (search rules) all
+          (length-map c.args.runs.now (λ list. list.items) ∙ c.requires.as_many) c.loop-place.invariant.turning;
+      ended = λ far. join_if [] c.loop-place.end.runs.items ⊤ _ _ _ _ _ (λ is. tt) (c.loop-place.invariant.ended far);
+      followed = λ is. c.loop-place.invariant.followed;
+    }

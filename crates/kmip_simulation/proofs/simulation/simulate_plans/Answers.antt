@@ -10,6 +10,7 @@ use Rattle.kmip_scripted.specs.Scenes.{Scene, past_in, seen_in}
 use Rattle.kmip_runs.specs.Campaign.{MayBatch}
 use Rattle.kmip_runs.specs.declared.run.Run.{Run}
 use Rattle.kmip_runs.specs.Campaigns.{AreInTurn, CalmStart, GoodStart, first_plan, last_plan}
+use Rattle.kmip_runs.specs.Remembering.{notes_of}
 use Rattle.kmip_simulation.specs.Simulating.{in_batches}
 use Rattle.kmip_runs.specs.Ending.{AreEnded}
 use Rattle.kmip_simulation.proofs.PlansLemmas.{second_is}
@@ -45,9 +46,9 @@ returns-clause-simulated c =
       opening = λ keys. subst (λ s. Opening keys (past_in s)) first (opening keys);
       in_turn =
           subst
-          (λ s. AreInTurn plans lists end.runs.items end.saved.items ⊤ (CalmStart plans (seen_in s)) (end.fault ≡ None) (past_in s) (past_in after)) first
+          (λ s. AreInTurn plans lists (notes_of end) (record { honest = ⊤; calm = CalmStart plans (seen_in s) }) (end.fault ≡ None) (past_in s) (past_in after)) first
           (subst
-          (λ rs. AreInTurn plans rs end.runs.items end.saved.items ⊤ (CalmStart plans (seen_in link)) (end.fault ≡ None) (past_in link) (past_in after)) runs
+          (λ rs. AreInTurn plans rs (notes_of end) (record { honest = ⊤; calm = CalmStart plans (seen_in link) }) (end.fault ≡ None) (past_in link) (past_in after)) runs
           c.campaigns-end.ensures.in_turn);
       ended = subst (λ (s : Scene). AreEnded end.runs.items (length s.sent) s.ended after.ended) first (c.campaigns-end.ensures.ended tt);
       followed = λ is. subst (λ s. Follows s after) first (c.campaigns-end.ensures.followed is);
