@@ -209,12 +209,7 @@ fn push_lines(
 }
 
 /// The line of a key.
-fn list_line(
-    alloc: Global,
-    key: &Key,
-    known: &Known,
-    verdict: Verdict,
-) -> Result<String, NoMemory>
+fn list_line(alloc: Global, key: &Key, known: &Known, verdict: Verdict) -> Result<String, NoMemory>
     ensures { IfOk result (λ line. string_bytes line ≡ list_line key.now known.now verdict) }
 {
     let name = key.attrs.name.as_str();
