@@ -58,6 +58,11 @@ class Origins:
         done = subprocess.run(words, capture_output=True, text=True)
         return done.returncode, done.stdout, re.sub(r'kept \d+ seconds? ago', 'kept a moment ago', done.stderr)
 
+    def list(self, plan=None):
+        words = [self.program, 'list', '--plan', plan or self.plan, '--progress', self.progress]
+        done = subprocess.run(words, capture_output=True, text=True)
+        return done.returncode, done.stdout, re.sub(r', \d+ seconds? ago', ', a moment ago', done.stderr)
+
     def serve(self):
         """The port of a new server."""
         words = [self.program, 'serve', '--port', '0', '--connections', '1000']
@@ -216,6 +221,45 @@ class Origins:
                    'k1: Locate was answered last: found none\n'))
         self.look('goes on elsewhere', self.run('--connect', f'127.0.0.1:{second}'), (0, FINISHED.format(3), ''))
 
+    def listings(self):
+        """What `list` tells of where a file was kept."""
+        self.begin()
+        listed = 'k1 active 2/2 finished 1\nfinished 1 of 1\n'
+        unread = f'{self.progress}: No such file or directory (os error 2)\n'
+        self.look('a listing of no file', self.list(), (1, f'cannot read {self.progress}\n', unread))
+        self.run('--loopback')
+        self.look('a listing of a rehearsal', self.list(),
+                  (0, listed, 'a rehearsal: kept by a run with --loopback, a moment ago\n'))
+        port = self.serve()
+        self.run('--connect', f'127.0.0.1:{port}', '--afresh')
+        kept = f'kept against 127.0.0.1:{port}, '
+        self.look('of a file that was kept against a server', self.list(), (0, listed, kept + 'a moment ago\n'))
+        origin = self.read('progress.origin')
+        for seconds, age in ((61, '1 minute ago'), (2 * 3600 + 5, '2 hours ago'), (3 * 86400 + 5, '3 days ago')):
+            self.write('progress.origin', re.sub(r'kept \d+', f'kept {int(time.time()) - seconds}', origin))
+            self.look(age, self.list(), (0, listed, f'{kept}{age}\n'))
+        self.write('progress.origin', re.sub(r'kept \d+', f'kept {int(time.time()) + 3600}', origin))
+        self.look('by a clock that was set back', self.list(), (0, listed, f'kept against 127.0.0.1:{port}\n'))
+        self.write('progress.origin', origin.replace(f'tcp 127.0.0.1:{port}', 'unix /run/kmip.socket'))
+        self.look('behind a socket', self.list(), (0, listed, 'kept against the socket /run/kmip.socket, a moment ago\n'))
+        self.write('other.toml', KEY.format('k1', 'AES', 128, '"encrypt", "decrypt"', 'active'))
+        told = (f'{self.progress} was kept for another plan: key "k1": the length is 128, and was 256; '
+                'an object keeps what it was made with: give the key its old attributes, or another name\n')
+        self.look('for a key with another length', self.list(os.path.join(self.folder, 'other.toml')),
+                  (1, 'progress refused: 3 OtherPlan\n', told))
+        self.write('progress.origin', 'something else\n')
+        self.look('beside an origin that is none', self.list()[:2], (1, f'cannot read {self.progress}.origin\n'))
+        os.remove(self.progress + '.origin')
+        self.look('of a file of which nothing is told', self.list(),
+                  (0, listed, f'against which server {self.progress} was kept is not known\n'))
+        os.rename(self.progress, self.progress + '.file')
+        os.symlink('progress.file', self.progress)
+        self.write('progress.file.origin', origin)
+        self.look('through a symbolic link', self.list(), (0, listed, kept + 'a moment ago\n'))
+        self.look('and nothing lies beside it', sorted(os.listdir(self.folder)),
+                  ['other.toml', 'plan.toml', 'progress', 'progress.before', 'progress.file', 'progress.file.origin',
+                   'progress.lock'])
+
     def no_room(self):
         """Where it can't be told where the file is kept, nothing is asked."""
         self.begin()
@@ -227,7 +271,7 @@ class Origins:
     def all(self):
         for case in (self.rehearsal, self.other_port, self.other_attributes, self.destroyed, self.taken_further,
                      self.unknown_origin, self.refused_progress, self.killed, self.socket_links, self.nothing_known,
-                     self.no_room):
+                     self.listings, self.no_room):
             case()
         for server in self.servers:
             server.kill()

@@ -57,6 +57,9 @@ NO_MEMORY = "no memory\n"
 # The progress of a plan whose key k1 was destroyed, as object 1.
 FINISHED = "kmip-progress 2\nk1 destroyed 1 4 31\nend 1\n"
 
+# Where it was kept, far enough back that the days since then stay the same for the whole trial.
+ORIGIN = "kmipctl origin 1\nserver tcp 192.0.2.7:5696\nkept 0\nkey k1 AES 256 0000000c\n"
+
 # What stands in each case of KMIP_GROWTHS after its call lacked memory.
 STANDING = {
     "campaign": "the first runs and saves",
@@ -441,6 +444,8 @@ def commands_of(tools):
     further = ["--then", EXAMPLES / "goes-further.toml", "--trace"]
     lost, goes_further = EXAMPLES / "lost-create.toml", EXAMPLES / "goes-further.script"
     probe = ["probe", "--name-prefix", "probe", "--loopback"]
+    finished = tools.file("list.progress", FINISHED)
+    tools.file("list.progress.origin", ORIGIN)
 
     def sim(name, plan, script, more=()):
         return Simulation(
@@ -462,6 +467,7 @@ def commands_of(tools):
         Carrying(tools, destroyed),
         Carrying(tools, destroyed, "--verbose"),
         Carrying(tools, destroyed, begun=FINISHED, shown=", all done before"),
+        Command(tools, ["list", "--plan", destroyed, "--progress", finished], shown="list"),
         Command(tools, probe, shown="probe --loopback"),
         Serving(tools, messages),
     ]

@@ -6,6 +6,7 @@ ghost use Rattle.kmip_choices.specs.declared.choice.Choice.TheVariants.{Answer, 
 ghost use Rattle.kmip_choices.specs.declared.detail.Detail.TheVariants.{Runs, Exchanges, Diagram};
 
 use crate::detail::Detail;
+use crate::list_options::ListOptions;
 use crate::probe_options::ProbeOptions;
 use crate::run_options::RunOptions;
 use crate::serve_options::ServeOptions;
@@ -44,6 +45,8 @@ pub enum Choice {
     },
     /// Carry out a plan over a network.
     Run(RunOptions),
+    /// List what a progress says of each key of its plan.
+    List(ListOptions),
     /// Look whether a server keeps what the theorem asks of it.
     Probe(ProbeOptions),
     /// Serve connections.

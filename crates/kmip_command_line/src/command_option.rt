@@ -160,6 +160,8 @@ pub(crate) const RUN_OPTIONS: [CommandOption; 13] = [
     VERBOSE_OPTION,
 ];
 
+pub(crate) const LIST_OPTIONS: [CommandOption; 2] = [PLAN_OPTION, PROGRESS_OPTION];
+
 pub(crate) const PROBE_OPTIONS: [CommandOption; 6] = [
     NAME_PREFIX_OPTION,
     CONNECT_OPTION,

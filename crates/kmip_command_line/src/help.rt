@@ -14,7 +14,7 @@ something fails, and what `run` does meanwhile. Without a command, kmipctl does 
 
 Exit status:
   0  all is done: nothing was refused, and all keys are finished; of a probed server, that it keeps
-     every rule
+     every rule; of `list`, that it was printed
   1  something was refused, failed, is not finished, or is not seen to be kept
   2  the command line is wrong";
 
@@ -234,6 +234,27 @@ fewer exchanges then. What is promised is the same. Where a reply is lost, up to
 again.
 
 With --loopback the server is one in this process with no object, which suits a first run.";
+
+pub(crate) const LIST: &str = "Lists what the progress file says of each key of a plan";
+
+pub(crate) const LIST_LONG: &str = "\
+Says from the progress file alone what is known of each key of the plan (see `check --help`). No server
+is asked, and no lock is taken: a run may go on meanwhile. A line has the name, the target, how many of
+the steps to it are known to be done, `finished` or `working`, and the key's identifier on the server:
+  database-2026 active 2/2 finished 17
+  backup-seal active 0/2 working -         no identifier is known
+  finished 1 of 2
+In an identifier a byte that is no plain character is printed as a backslash and two digits. What is in
+conflict is not kept: such a key is `working` here, and `run` says more of it.
+
+The exit status is 0 where the plan is a plan and the progress is read, also where no key is finished:
+this is a listing. A plan or a progress that is refused is told as by `run`, and nothing else is printed.
+Where there is no progress file, that is `cannot read PATH`.
+
+Standard error has against which server the file was kept, and when, by PATH.origin:
+  kept against 192.0.2.7:5696, 3 days ago
+  a rehearsal: kept by a run with --loopback, 3 days ago
+  against which server PATH was kept is not known";
 
 pub(crate) const PROBE: &str = "Looks whether a server keeps the rules that `run` rests on";
 

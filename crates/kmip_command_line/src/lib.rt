@@ -20,7 +20,7 @@ use clap::error::ErrorKind;
 use clap::{ArgMatches, Error};
 use kmip_choices::{Choice, answer_of, form_of};
 use kmip_message_commands::{CommandFault, ExitStatus};
-use local::{check_choice, sim_choice};
+use local::{check_choice, list_choice, sim_choice};
 use network::{probe_choice, run_choice, serve_options};
 use std::alloc::{AllocError, Global};
 use subcommand::program;
@@ -45,6 +45,7 @@ fn choice_of(alloc: Global, command: &str, options: &ArgMatches<'_>) -> Result<C
         "check" => Ok(check_choice(alloc, options)?),
         "sim" => Ok(sim_choice(alloc, options)?),
         "run" => run_choice(alloc, options),
+        "list" => Ok(list_choice(alloc, options)?),
         "probe" => probe_choice(alloc, options),
         "serve" => Ok(Choice::Serve(serve_options(options))),
         "answer" => Ok(answer_of(options.get_flag("stream"))),

@@ -6,6 +6,7 @@ use crate::causes::tell_cause;
 use crate::linking::{loopback, tcp_link, unix_link};
 use crate::plan_file::PlanFile;
 use crate::reading::plan_at;
+use crate::recalling::progress_file_at;
 use crate::told::standard_output;
 use crate::trouble::Trouble;
 use kmip_account::{Account, Teller, Watch};
@@ -73,12 +74,7 @@ fn locked<'a>(
     rt: &'a HostRuntime,
     path: &'a str,
 ) -> Result<(ProgressFile<'a, HostRuntime>, ProgressLock), Trouble> {
-    let file = ProgressFile::at(rt, path).map_err(|error| Trouble::at(
-        rt,
-        Cannot::Read,
-        path,
-        error,
-    ))?;
+    let file = progress_file_at(rt, path)?;
     match file.lock() {
         Ok(lock) => Ok((file, lock)),
         Err(LockFault::InUse) => {

@@ -3,6 +3,7 @@ use crate::another_server::AnotherServer;
 use crate::believing::{destroyed_key, knows_anything};
 use crate::cannot::Cannot;
 use crate::origin::{Origin, server_text};
+use crate::recalling::{judge_attributes, origin_of};
 use crate::trouble::Trouble;
 use kmip_choices::{RunOptions, Trust};
 use kmip_client::Client;
@@ -14,7 +15,6 @@ use kmip_progress::ProgressFault;
 use kmip_ttlv::NoMemory;
 use std::alloc::AllocError;
 use std::io;
-use std::io::ErrorKind;
 
 /// What a run has of its progress.
 #[derive(Drop)]
@@ -59,7 +59,7 @@ impl<'a> Kept<'a> {
                 return Ok(saved); // the run refuses it
             }
         };
-        let origin = self.origin()?;
+        let origin = origin_of(self.file, self.options.trust == Trust::Believe)?;
         self.judge(origin.as_ref(), &client)?;
         if client.working() > 0 {
             return self.begins(saved);
@@ -78,26 +78,6 @@ impl<'a> Kept<'a> {
         tell_other_plan(self.rt, path, self.text, progress_path, saved);
     }
 
-    /// Where the file was kept; none where that is not told.
-    ///
-    /// # Errors
-    /// Why what says it can't be read, but for a run that believes the file anyway.
-    fn origin(&self) -> Result<Option<Origin>, Trouble> {
-        let (rt, is_believed) = (self.rt, self.options.trust == Trust::Believe);
-        match self.file.read_origin() {
-            Ok(None) => Ok(None),
-            Ok(Some(text)) => match Origin::read(rt.alloc(), text.as_str())? {
-                None if !is_believed => Err(Trouble::NoOrigin(self.file.origin_path()?)),
-                origin => Ok(origin),
-            },
-            Err(error) if is_believed && error.kind() != ErrorKind::OutOfMemory => Ok(None),
-            Err(error) => {
-                let path = self.file.origin_path()?;
-                Err(Trouble::unread(rt, path.as_str(), MOST_PROGRESS_BYTES, error))
-            }
-        }
-    }
-
     /// Whether the file was kept against this server, unless it knows nothing, and for these attributes.
     ///
     /// # Errors
@@ -110,14 +90,7 @@ impl<'a> Kept<'a> {
         if !is_here && knows_anything(client) {
             return Err(self.another_server(origin, client)?);
         }
-        match origin.difference(self.rt.alloc(), self.plan.keys())? {
-            Some(difference) => {
-                let path = self.options.progress.as_str();
-                let path = String::from_str(self.rt.alloc(), path)?;
-                Err(Trouble::OtherAttributes(path, difference))
-            }
-            None => Ok(()),
-        }
+        judge_attributes(self.file, origin, self.plan.keys())
     }
 
     /// That the file was kept against another server.

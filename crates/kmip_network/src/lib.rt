@@ -1,9 +1,9 @@
-//! The commands `run`, `probe` and `serve` over sockets, files and standard streams.
+//! The commands `run`, `list`, `probe` and `serve` over sockets, files and standard streams.
 //!
-//! It also reads the texts of files. All is safe and total. `run_plan`, `probe_server`, `serve`,
-//! `plan_at`, `text_at`, `Trouble::tell`, `tell_output`, `standard_input` and `standard_output` have no
-//! clause, as std tells a contract nothing of the bytes of sockets, files and streams. What they call
-//! is proved over every link, keeper and writer. The stored runs, `make storm` and `make peers` try
+//! It also reads the texts of files. All is safe and total. `run_plan`, `list_progress`, `probe_server`,
+//! `serve`, `plan_at`, `text_at`, `Trouble::tell`, `tell_output`, `standard_input` and `standard_output`
+//! have no clause, as std tells a contract nothing of the bytes of sockets, files and streams. What they
+//! call is proved over every link, keeper and writer. The stored runs, `make storm` and `make peers` try
 //! them.
 //!
 //! Why no connection comes about, and what comes over one, is told or noted by a `Dial` around another
@@ -24,11 +24,13 @@ mod file_keeper;
 mod hearing;
 mod kept;
 mod linking;
+mod listing;
 mod origin;
 mod overheard;
 mod plan_file;
 mod probing;
 mod reading;
+mod recalling;
 mod remedy;
 mod saying;
 mod serving;
@@ -39,6 +41,7 @@ mod watcher;
 
 pub use file_keeper::run_plan;
 pub use kmip_plan_commands::batch_of;
+pub use listing::list_progress;
 pub use plan_file::PlanFile;
 pub use probing::probe_server;
 pub use reading::{plan_at, text_at};

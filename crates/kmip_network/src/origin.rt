@@ -95,6 +95,26 @@ impl Origin {
         server_text(alloc, self.server.as_str())
     }
 
+    /// Against which server and when the progress was kept, as `kept against 192.0.2.7:5696, 3 days ago`.
+    /// What a run with `--loopback` kept is a rehearsal.
+    ///
+    /// # Errors
+    /// Where there is no memory, or no clock.
+    pub(crate) fn kept_text(&self, rt: &HostRuntime) -> io::Result<String> {
+        let alloc = rt.alloc();
+        let mut text = if self.server.as_str() == LOOPBACK {
+            String::from_str(alloc, "a rehearsal: kept by a run with --loopback")?
+        } else {
+            let server = self.server_text(alloc)?;
+            format!(in alloc; "kept against {server}")?
+        };
+        if let Some(age) = self.age_text(rt)? {
+            text.push_str(", ")?;
+            text.push_str(age.as_str())?;
+        }
+        Ok(text)
+    }
+
     /// The first key with other attributes than the progress was kept for, as `key 3 "b": the length is
     /// 128, and was 256`. Keys that only the plan has are none.
     ///

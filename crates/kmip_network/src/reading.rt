@@ -27,10 +27,17 @@ pub fn plan_at(rt: &HostRuntime, path: &str) -> Result<PlanFile, Trouble> {
 /// # Errors
 /// Why it has none, or one that is too long.
 pub fn text_at(rt: &HostRuntime, path: &str) -> Result<String, Trouble> {
-    text_of(rt, path, MOST_FILE_BYTES).map_err(|error| Trouble::unread(
-        rt,
-        path,
-        MOST_FILE_BYTES,
-        error,
-    ))
+    text_within(rt, path, MOST_FILE_BYTES)
+}
+
+/// The text of the file at this path, which may have so many bytes.
+///
+/// # Errors
+/// Why it has none, or one that is too long.
+pub(crate) fn text_within(
+    rt: &HostRuntime,
+    path: &str,
+    most_bytes: u64,
+) -> Result<String, Trouble> {
+    text_of(rt, path, most_bytes).map_err(|error| Trouble::unread(rt, path, most_bytes, error))
 }

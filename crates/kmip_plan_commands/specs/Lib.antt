@@ -12,5 +12,7 @@ pub mod RunText
 pub mod Course
 -- the line that says how far a run is
 pub mod ProgressLineText
+-- what `list` writes for a plan and a progress
+pub mod Listing
 -- private: what only the clauses of private functions cite
 pub mod Private

@@ -1,4 +1,4 @@
-//! The commands over a plan: `check`, `sim` and `run`.
+//! The commands over a plan: `check`, `sim`, `run` and `list`.
 //!
 //! The command `check`: what a plan asks for, and whether it prolongs an earlier one.
 //!
@@ -13,6 +13,9 @@
 //! program ends. `sim_bytes` does the same work in memory, where nothing but memory can fail.
 //!
 //! The command `run`: carries out a plan, saves its progress, and reports on it.
+//!
+//! The command `list`: what a progress says of each key of its plan. `list`, `run_list` and `list_bytes`
+//! stand to each other as those of `check`.
 #![tactic(auto)]
 
 mod batch;
@@ -20,6 +23,7 @@ mod beginning;
 mod checking;
 mod checking_after;
 mod line;
+mod listing;
 mod run_input;
 mod running;
 mod sim_input;
@@ -33,6 +37,7 @@ pub use checking::{check, check_bytes, push_refusal, run_check};
 pub use checking_after::{check_after, check_after_bytes, run_check_after};
 pub use kmip_choices::Detail;
 pub use line::progress_line;
+pub use listing::{list, list_bytes, run_list};
 pub use run_input::RunInput;
 pub use running::{run, run_bytes, run_plan, run_run};
 pub use sim_input::SimInput;

@@ -10,8 +10,8 @@ use kmip_message_commands::{
     finished, run_answer, run_answer_stream, run_show, show_bytes, show_lines,
 };
 use kmip_plan_commands::{
-    SimInput, batch_of, check, check_after, check_after_bytes, check_bytes, run_check,
-    run_check_after, run_sim, sim, sim_bytes,
+    SimInput, batch_of, check, check_after, check_after_bytes, check_bytes, list, list_bytes,
+    run_check, run_check_after, run_list, run_sim, sim, sim_bytes,
 };
 use std::alloc::Global;
 use std::fs;
@@ -33,6 +33,7 @@ pub(crate) enum Command {
     Show(Form),
     Check(String),
     CheckAfter { plan: String, earlier: String },
+    List { plan: String, progress: String },
     Simulate(Simulated),
 }
 
@@ -73,6 +74,10 @@ fn command_for(rt: &HostRuntime, choice: &Choice, input: &str) -> Result<Command
         Choice::CheckAfter { plan, earlier } => Ok(Command::CheckAfter {
             plan: file_text(rt, plan.as_str(), input)?,
             earlier: file_text(rt, earlier.as_str(), input)?,
+        }),
+        Choice::List(options) => Ok(Command::List {
+            plan: file_text(rt, options.plan.as_str(), input)?,
+            progress: file_text(rt, options.progress.as_str(), input)?,
         }),
         Choice::Simulate {
             plan,
@@ -134,6 +139,9 @@ impl Command {
             Command::CheckAfter { plan, earlier } => {
                 run_check_after(alloc, plan.as_str(), earlier.as_str(), writer)
             }
+            Command::List { plan, progress } => {
+                run_list(alloc, plan.as_str(), progress.as_str(), writer)
+            }
             Command::Simulate(case) => {
                 let input = SimInput {
                     detail: case.detail,
@@ -159,6 +167,9 @@ impl Command {
             Command::Check(plan) => check(alloc, plan.as_str(), writer),
             Command::CheckAfter { plan, earlier } => {
                 check_after(alloc, plan.as_str(), earlier.as_str(), writer)
+            }
+            Command::List { plan, progress } => {
+                list(alloc, plan.as_str(), progress.as_str(), writer)
             }
             Command::Simulate(case) => {
                 let input = SimInput {
@@ -189,6 +200,9 @@ impl Command {
                 earlier.as_str(),
                 output,
             )?),
+            Command::List { plan, progress } => {
+                Ok(list_bytes(alloc, plan.as_str(), progress.as_str(), output)?)
+            }
             Command::Simulate(case) => {
                 let input = SimInput {
                     detail: case.detail,

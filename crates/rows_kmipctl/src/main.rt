@@ -10,7 +10,7 @@
 //!     taken kmipctl WORDS  a command line, in which `PORT` is a port that is taken meanwhile
 //!     serve kmipctl WORDS  the command `serve`: what it writes, with `PORT` in the place of its port
 //!     ? kmipctl WORDS      the same, of which no more is done than to say what it asks for
-//!     < kmipctl WORDS      the same of `answer`, `show`, `check` and `sim`, whose input are the lines
+//!     < kmipctl WORDS      the same of `answer`, `show`, `check`, `list` and `sim`, whose input are the lines
 //!                          behind it, up to a line `end`, and a file `-` too. It is carried out as the
 //!                          program does it, over a reader and a writer, and in memory: what the first
 //!                          tells is printed, and what another tells only where that is something else

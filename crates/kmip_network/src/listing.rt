@@ -1,0 +1,73 @@
+//! The command `list`, over files.
+
+use crate::plan_file::PlanFile;
+use crate::reading::{plan_at, text_within};
+use crate::recalling::{judge_attributes, origin_of, progress_file_at};
+use crate::told::standard_output;
+use crate::trouble::Trouble;
+use kmip_choices::ListOptions;
+use kmip_explaining::tell_other_plan;
+use kmip_files::{MOST_PROGRESS_BYTES, ProgressFile};
+use kmip_message_commands::ExitStatus;
+use kmip_plan_commands::run_list;
+use kmip_progress::{Progress, ProgressFault};
+use kmip_ttlv::NoMemory;
+use std::io::BufWriter;
+
+/// The command `list`: the plan is read first, then the progress, and then what says where that was
+/// kept. No lock is taken, as the file is whole at any instant. Where the progress is listed, standard
+/// error has against which server it was kept, and when.
+///
+/// # Errors
+/// What ends it before anything is printed.
+pub fn list_progress(rt: &HostRuntime, options: &ListOptions) -> Result<ExitStatus, Trouble> {
+    let plan = plan_at(rt, options.plan.as_str())?;
+    let path = options.progress.as_str();
+    let file = progress_file_at(rt, path)?;
+    let saved = text_within(rt, path, MOST_PROGRESS_BYTES)?;
+    let line = origin_line(&file, &plan, saved.as_str())?;
+    let mut writer = BufWriter::new(rt.alloc(), standard_output(rt))?;
+    let status = run_list(rt.alloc(), plan.text.as_str(), saved.as_str(), &mut writer);
+    if status == ExitStatus::Refused {
+        let plan_path = options.plan.as_str();
+        tell_other_plan(rt, plan_path, plan.text.as_str(), path, saved.as_str());
+    }
+    if status == ExitStatus::Done {
+        let _ = rt.eprintln(line.as_str());
+    }
+    Ok(status)
+}
+
+/// The line that says against which server and when a progress was kept; empty where the progress is
+/// refused.
+///
+/// # Errors
+/// Why what says it can't be read, and where the progress was kept for other attributes.
+fn origin_line(
+    file: &ProgressFile<'_, HostRuntime>,
+    plan: &PlanFile,
+    saved: &str,
+) -> Result<String, Trouble> {
+    let alloc = file.system().alloc();
+    match Progress::read_text(alloc, &plan.plan, saved) {
+        Ok(_) => told_origin(file, plan),
+        Err(ProgressFault::NoMemory) => Err(Trouble::from(NoMemory)),
+        Err(_) => Ok(String::new(alloc)),
+    }
+}
+
+/// The line of a progress that is one of this plan.
+fn told_origin(file: &ProgressFile<'_, HostRuntime>, plan: &PlanFile) -> Result<String, Trouble> {
+    let rt = file.system();
+    match origin_of(file, false)? {
+        Some(origin) => {
+            judge_attributes(file, &origin, plan.plan.keys())?;
+            Ok(origin.kept_text(rt)?)
+        }
+        None => {
+            let path = file.given_path();
+            let line = format!(in rt.alloc(); "against which server {path} was kept is not known")?;
+            Ok(line)
+        }
+    }
+}

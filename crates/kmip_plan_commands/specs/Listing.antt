@@ -1,0 +1,66 @@
+-- What `list` writes for what was read of a plan and of a progress.
+-- Source: own (text): what the program prints.
+use Rattle.std.specs.Prelude.{ℕ, ◌-◌, Bool, true, false, List, [], ◌∷◌, ◌++◌, length, take, codes, Option, Some, None, Result, Ok, Err}
+use Rattle.kmip_ttlv.specs.Showing.{plain_text}
+use Rattle.kmip_plan.specs.declared.plan_fault.PlanFault.{PlanFault}
+use Rattle.kmip_plan.specs.declared.key.Key.{Key}
+use Rattle.kmip_progress.specs.Reading.{read_text}
+use Rattle.kmip_progress.specs.declared.progress_fault.ProgressFault.{ProgressFault}
+use Rattle.kmip_progress.specs.declared.known.Known.{Known}
+use Rattle.kmip_client.specs.Saving.{resume}
+use Rattle.kmip_client.specs.Verdicts.{verdicts_of}
+use Rattle.kmip_client.specs.declared.verdict.Verdict.{Verdict}
+use Rattle.kmip_runs.specs.Reporting.{report_line, sum_line}
+use Rattle.kmip_plan_commands.specs.Checking.{plan_refusal_text}
+use Rattle.kmip_plan_commands.specs.RunText.{progress_refusal_text}
+
+-- An identifier in plain characters, so that a server's own words forge no line; a hyphen where none is
+-- known.
+abbrev pub identifier_text : Option (List ℕ) → List ℕ
+identifier_text None = codes "-"
+identifier_text (Some identifier) = plain_text identifier
+
+-- A line without its line feed.
+abbrev pub without_end : List ℕ → List ℕ
+without_end line = take (length line - 1) line
+
+-- The line of a key: that of the report of `run`, and behind it the key's identifier.
+unfoldable pub list_line : Key → Known → Verdict → List ℕ
+list_line key known verdict =
+    without_end (report_line key known.done verdict) ++ codes " " ++ identifier_text known.identifier ++ codes "\n"
+
+-- The lines of the keys, in the order of the plan.
+abbrev pub list_lines : List Key → List Known → List Verdict → List ℕ
+list_lines [] saved verdicts = []
+list_lines (key ∷ keys) [] verdicts = []
+list_lines (key ∷ keys) (known ∷ saved) [] = []
+list_lines (key ∷ keys) (known ∷ saved) (verdict ∷ verdicts) = list_line key known verdict ++ list_lines keys saved verdicts
+
+-- The lines of the keys by these verdicts, and the last line of the report.
+abbrev pub list_text_by : List Verdict → List Key → List Known → List ℕ
+list_text_by verdicts keys saved = list_lines keys saved verdicts ++ sum_line keys verdicts
+
+-- The listing of a progress. The verdicts are those of a run that begins with it.
+abbrev pub list_text : List Key → List Known → List ℕ
+list_text keys saved = list_text_by (verdicts_of keys (resume keys saved).knowns) keys saved
+
+-- What is written for a plan, by what was read of the progress: the listing, or the line of the fault.
+abbrev pub progress_listing : List Key → Result (List Known) ProgressFault → List ℕ
+progress_listing keys (Ok saved) = list_text keys saved
+progress_listing keys (Err fault) = progress_refusal_text fault
+
+-- What `list` writes for what was read of a plan, and the text of a progress. Where the plan is refused,
+-- the progress is not read.
+abbrev pub listing : Result (List Key) PlanFault → List ℕ → List ℕ
+listing (Ok keys) progress = progress_listing keys (read_text keys progress)
+listing (Err fault) progress = plan_refusal_text fault
+
+-- Whether no progress was read.
+abbrev pub is_progress_refused : Result (List Known) ProgressFault → Bool
+is_progress_refused (Ok saved) = false
+is_progress_refused (Err fault) = true
+
+-- Whether no plan was read, or no progress of it.
+abbrev pub is_listing_refused : Result (List Key) PlanFault → List ℕ → Bool
+is_listing_refused (Ok keys) progress = is_progress_refused (read_text keys progress)
+is_listing_refused (Err fault) progress = true
