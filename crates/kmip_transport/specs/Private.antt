@@ -1,6 +1,6 @@
 -- Private: definitions that only clauses of private functions cite.
 -- Source: own (view): parts of the public definitions of this crate.
-use Rattle.std.specs.Prelude.{ℕ, ◌+◌, List, Bool, true, false, [], Option, Some, None, Result, Ok, Err, ◌≡◌, ◌<◌, ◌++◌, length, IfErr, IsOk, OnErr, ℤ, IfSome}
+use Rattle.std.specs.Prelude.{ℕ, List, Bool, true, false, [], Option, Some, None, Result, Ok, Err, ◌≡◌, ◌<◌, ◌++◌, length, IfErr, IsOk, OnErr, ℤ, IfSome}
 use Rattle.kmip_protocol.specs.declared.link_fault.LinkFault.{LinkFault}
 use Rattle.kmip_protocol.specs.declared.link_fault.LinkFault.TheVariants as faults
 use Rattle.std.specs.Io.KnownBytes.{Consumes, IsAtEnd, Appends}
