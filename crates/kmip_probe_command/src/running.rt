@@ -1,5 +1,5 @@
 //! The command `probe`: whether a server keeps what the theorem asks of it.
-ghost use Rattle.std.specs.Prelude.{◌≡◌, ◌≢◌, ◌≤◌, ◌+◌, ◌++◌, [], length, false, true, Some, IfErr, IfOk, OnErr, IsTrue};
+ghost use Rattle.std.specs.Prelude.{◌≡◌, ◌≢◌, ◌≤◌, ◌+◌, ◌++◌, length, false, true, Some, IfErr, IfOk, OnErr, IsTrue};
 ghost use Rattle.std.specs.Io.KnownBytes.{Appends};
 ghost use Rattle.kmip_message_commands.specs.Private.{Fails};
 ghost use Rattle.kmip_message_commands.specs.Printing.{IfFailed, IfWhole, UnlessOutput, fault_line};
@@ -64,39 +64,8 @@ pub fn run_probe<L: Link, W: Write>(
         × Appends (W.contents writer.old) (W.contents writer.new)
         (making_text prefix.now ++ kept_text)) }
 {
-    let ended = write_probe(alloc, prefix, link, writer);
+    let ended = probe_to(alloc, prefix, link, writer);
     finished(ended, writer)
-}
-
-/// Probes, and writes what came of it. Says whether the prefix was refused, or a premise is not seen to
-/// be kept. Each line is written once the answers that decide it have come.
-///
-/// # Errors
-///
-/// `Output` where the writer fails, and `NoMemory`: then the first lines of what is told of the answers
-/// that have come are written.
-fn write_probe<L: Link, W: Write>(
-    alloc: Global,
-    prefix: &str,
-    link: &mut L,
-    writer: &mut W,
-) -> Result<bool, CommandFault>
-    ensures text { IsTrue (is_prefix prefix.now) → IfOk result
-        (λ r. WritesProbe prefix.now (L.seen link.old) (L.seen link.new) r
-        (W.contents writer.old) (W.contents writer.new)) }
-    ensures unfit { is_prefix prefix.now ≡ false → (link.new ≡ link.old) × IfOk result
-        (λ r. (r ≡ true) × Appends (W.contents writer.old) (W.contents writer.new) unfit_text) }
-    ensures broken { IfErr result (λ fault. UnlessOutput fault (TellsSome prefix.now []
-        (W.contents writer.old) (W.contents writer.new))) }
-    ensures no_input { IfErr result (λ fault. fault ≢ CommandFault.Input) }
-    ensures few { (names : Names) → (L.seen link.old).honest names
-        → length (L.seen link.new).past.sent ≤ length (L.seen link.old).past.sent + QUESTIONS }
-    ensures kept { IsTrue (is_prefix prefix.now) → (names : Names) → (L.seen link.old).calm names
-        → IsUnprobed prefix.now (L.seen link.old).past → IfOk result (λ r. (r ≡ false)
-        × Appends (W.contents writer.old) (W.contents writer.new)
-        (making_text prefix.now ++ kept_text)) }
-{
-    probe_to(alloc, prefix, link, writer)
 }
 
 /// Probes in memory: appends what `run_probe` writes to `output`. Says whether the prefix was refused,

@@ -121,11 +121,18 @@ frame_is_no_io None end some ended = absurd cc
 frame_is_no_io (Some fault) end some ended = λ io. let both : ends.Frame fault ≡ ends.Io = sym ended ∙ io in absurd cc
 
 -- what ends by another fault does not end by Io
+-- a framer that is at fault says why
+pub frame_has_fault : {M : Type 0} (bytes : M → List ℕ) (fault : LinkFault) (held new : List ℕ) (x y : Option (List ℕ))
+    → Receives bytes (Err fault) held new x y → fault ≡ faults.Frame → IsSome (fault_in new)
+frame_has_fault bytes faults.Io held new x y received is = absurd cc
+frame_has_fault bytes faults.Frame held new x y received is = subst (λ b. IsSome (fault_in b)) (sym received.answered.1) received.answered.0.0
+frame_has_fault bytes faults.NoMemory held new x y received is = absurd cc
+
 pub failed_is_no_io : {M : Type 0} (bytes : M → List ℕ) (fault : LinkFault) (end : StreamEnd) (held new : List ℕ) (x y : Option (List ℕ))
     → Receives bytes (Err fault) held new x y → failed {M = M} fault ≢ failed faults.Io → EndsBy fault (fault_in new) end → end ≢ ends.Io
 failed_is_no_io bytes faults.Io end held new x y received no_io ended = absurd (no_io refl)
 failed_is_no_io bytes faults.Frame end held new x y received no_io ended =
-    frame_is_no_io (fault_in new) end (subst (λ b. IsSome (fault_in b)) (sym received.answered.1) received.answered.0.0) ended
+    frame_is_no_io (fault_in new) end (frame_has_fault bytes faults.Frame held new x y received refl) ended
 failed_is_no_io bytes faults.NoMemory end held new x y received no_io ended = λ io. let both : ends.NoMemory ≡ ends.Io = sym ended ∙ io in absurd cc
 
 -- a message was received, and there was no memory to serve it

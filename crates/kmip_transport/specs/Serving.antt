@@ -6,7 +6,6 @@ use Rattle.std.specs.List.{AllByRecursion}
 use Rattle.kmip_messages.specs.Items.{parts_in, stops_in}
 use Rattle.kmip_frames.specs.Framing.{fault_in}
 use Rattle.kmip_frames.specs.Streams.{IsMessage, BeginsWithNoMessage, Stream, joined}
-use Rattle.kmip_protocol.specs.declared.link_fault.LinkFault.TheVariants as faults
 use Rattle.kmip_server.specs.Batching.{batch_reply, stock_after_batch, AreBegun}
 use Rattle.kmip_server.specs.declared.effect.Effect.{Effect}
 use Rattle.kmip_store.specs.Stock.{Stock}

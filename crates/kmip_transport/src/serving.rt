@@ -1,8 +1,8 @@
 //! A stream of messages, answered by a server.
-ghost use Rattle.std.specs.Prelude.{◌≡◌, ◌≢◌, [], Ok, Some, IfSome, IfNone, IfOk, IfErr, OnErr};
+ghost use Rattle.std.specs.Prelude.{◌≡◌, ◌≢◌, [], Ok, Some, IsSome, IfSome, IfNone, IfOk};
 ghost use Rattle.kmip_frames.specs.Framing.{fault_in};
 ghost use Rattle.kmip_transport.specs.Serving.{Serves, ServesAll, BreaksOff};
-ghost use Rattle.kmip_transport.specs.Private.{ServesOne, LosesReply, EndsBy};
+ghost use Rattle.kmip_transport.specs.Private.{ServesOne, FailsAtReply, EndsBy};
 
 use crate::gathered::Gathered;
 use crate::in_memory::InMemory;
@@ -96,10 +96,9 @@ fn serve_in_turn<S: Records, R: Source, W: Sink>(
     ensures served { IfOk result (λ end. Serves now end server.old server.new
         (R.remaining reader.old) (R.remaining reader.new)
         (W.contents writer.old) (W.contents writer.new)) }
-    ensures lost { OnErr result (LosesReply now W.IsWhole server.old server.new
+    ensures failed { FailsAtReply now W.IsWhole W.fault result server.old server.new
         (R.remaining reader.old) (R.remaining reader.new)
-        (W.contents writer.old) (W.contents writer.new)) }
-    ensures refused { IfErr result (λ fault. fault ≡ W.fault) }
+        (W.contents writer.old) (W.contents writer.new) }
     ensures sure { R.IsSure → result ≢ Ok StreamEnd.Io }
 {
     sizes();
@@ -137,10 +136,9 @@ fn serve_message<S: Records, R: Source, W: Sink>(
     ensures ended { IfOk result (λ ended. IfSome ended (λ end. Serves now end server.old server.new
         (R.remaining reader.old) (R.remaining reader.new)
         (W.contents writer.old) (W.contents writer.new))) }
-    ensures lost { OnErr result (LosesReply now W.IsWhole server.old server.new
+    ensures failed { FailsAtReply now W.IsWhole W.fault result server.old server.new
         (R.remaining reader.old) (R.remaining reader.new)
-        (W.contents writer.old) (W.contents writer.new)) }
-    ensures refused { IfErr result (λ fault. fault ≡ W.fault) }
+        (W.contents writer.old) (W.contents writer.new) }
     ensures sure { R.IsSure → result ≢ Ok (Some StreamEnd.Io) }
 {
     sizes();
@@ -158,8 +156,9 @@ fn serve_message<S: Records, R: Source, W: Sink>(
     }
 }
 
-/// How a stream ends of which no message could be received.
+/// How a stream ends of which no message could be received. A framer that is at fault says why.
 fn end_by(fault: LinkFault, framer: &Framer) -> StreamEnd
+    requires { fault ≡ LinkFault.Frame → IsSome (fault_in framer.now) }
     ensures { EndsBy fault (fault_in framer.now) result }
 {
     match fault {
@@ -167,7 +166,7 @@ fn end_by(fault: LinkFault, framer: &Framer) -> StreamEnd
         LinkFault::NoMemory => StreamEnd::NoMemory,
         LinkFault::Frame => match framer.fault() {
             Some(fault) => StreamEnd::Frame(fault),
-            None => StreamEnd::Io,
+            None => unreachable!(),
         },
     }
 }

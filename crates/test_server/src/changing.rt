@@ -57,16 +57,31 @@ const THIRD: [Wanted; 3] = [K1, K2, Wanted("3", "", KeyState::PreActive)];
 /// the server then has.
 struct Effect(usize, usize, u8, u8, &'static [Wanted]);
 
-/// A message, the single changes of it after which the rows are others than `BEFORE`, and how many
-/// leave a lawful Locate or Get Attributes.
-struct Table(&'static str, &'static [Effect], usize);
+/// The first and the last of the places of a padding.
+type Padding = (usize, usize);
+
+/// The padding of a message about an identifier.
+const PADDING: [Padding; 5] = [(36, 39), (52, 55), (68, 71), (92, 95), (113, 119)];
+
+/// A message, the padding whose bytes say nothing, and the rows after it where one of these is another.
+/// Then the further single changes of it after which the rows are others than `BEFORE`, and how many leave
+/// a lawful Locate or Get Attributes.
+struct Table(
+    &'static str,
+    &'static [Padding],
+    &'static [Wanted],
+    &'static [Effect],
+    usize,
+);
 
 /// Requests about a name.
 const OF_NAMES: [Table; 2] = [
     // All that is padding or passed over, each mask, and each other name that may be asked for.
-    Table(LOCATE_K1, &[], 12_432),
+    Table(LOCATE_K1, &[], &BEFORE, &[], 12_432),
     Table(
         CREATE_K1,
+        &[],
+        &BEFORE,
         &[
             // The name: `k` alone, and each other visible character; `k2` is used.
             Effect(159, 159, 1, 1, &THIRD),
@@ -83,13 +98,9 @@ const OF_NAMES: [Table; 2] = [
 const OF_IDENTIFIERS: [Table; 2] = [
     Table(
         ACTIVATE_1,
+        &PADDING,
+        &FIRST_ACTIVE,
         &[
-            // Padding.
-            Effect(36, 39, 0, 255, &FIRST_ACTIVE),
-            Effect(52, 55, 0, 255, &FIRST_ACTIVE),
-            Effect(68, 71, 0, 255, &FIRST_ACTIVE),
-            Effect(92, 95, 0, 255, &FIRST_ACTIVE),
-            Effect(113, 119, 0, 255, &FIRST_ACTIVE),
             // The operation, and the identifier.
             Effect(91, 91, 0x14, 0x14, &FIRST_DESTROYED),
             Effect(112, 112, 0x32, 0x32, &SECOND_ACTIVE),
@@ -99,12 +110,9 @@ const OF_IDENTIFIERS: [Table; 2] = [
     ),
     Table(
         DESTROY_1,
+        &PADDING,
+        &FIRST_DESTROYED,
         &[
-            Effect(36, 39, 0, 255, &FIRST_DESTROYED),
-            Effect(52, 55, 0, 255, &FIRST_DESTROYED),
-            Effect(68, 71, 0, 255, &FIRST_DESTROYED),
-            Effect(92, 95, 0, 255, &FIRST_DESTROYED),
-            Effect(113, 119, 0, 255, &FIRST_DESTROYED),
             Effect(91, 91, 0x12, 0x12, &FIRST_ACTIVE),
             Effect(112, 112, 0x32, 0x32, &SECOND_DESTROYED),
         ],
@@ -190,7 +198,18 @@ fn are_rows(records: &ListStore, wanted: &[Wanted], stream: &[u8], message: &[u8
 }
 
 /// The rows where this byte was put at this place.
-fn rows_after(effects: &[Effect], place: usize, value: u8) -> Option<&'static [Wanted]> {
+fn rows_after(table: &Table, place: usize, value: u8) -> Option<&'static [Wanted]> {
+    let Table(_, padding, rows, effects, _) = table;
+    for (first, last) in *padding {
+        if (*first..=*last).contains(&place) {
+            return Some(*rows);
+        }
+    }
+    effect_rows(effects, place, value)
+}
+
+/// The rows of the effect that this byte has at this place.
+fn effect_rows(effects: &[Effect], place: usize, value: u8) -> Option<&'static [Wanted]> {
     for Effect(first, last, least, greatest, rows) in effects {
         if (*first..=*last).contains(&place) && (*least..=*greatest).contains(&value) {
             return Some(*rows);
@@ -227,13 +246,12 @@ fn try_values(
 ) -> Result<usize, Fail>
     requires { place < length bytes.now }
 {
-    let Table(_, effects, _) = table;
     let mut told = 0_usize;
     for value in 0..=255 {
         if value == bytes[place] {
             continue;
         }
-        let rows = rows_after(effects, place, value);
+        let rows = rows_after(table, place, value);
         let message = changed(alloc, bytes, place, value)?;
         match try_message(rt, alloc, server, message.as_slice(), rows, stream)? {
             Saying::Refused => {}
@@ -279,7 +297,7 @@ fn try_tables(rt: &impl Abort, alloc: Global, tables: &[Table]) -> Result<(), Fa
 
 /// Answers the message of a table with each byte at each place.
 fn try_table(rt: &impl Abort, alloc: Global, table: &Table, stream: &[u8]) -> Result<(), Fail> {
-    let Table(text, _, wanted) = table;
+    let Table(text, _, _, _, wanted) = table;
     let bytes = hex::decode(alloc, *text)?;
     let mut told = 0_usize;
     for place in 0..bytes.len() {

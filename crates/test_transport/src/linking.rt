@@ -170,15 +170,25 @@ fn connects_anew_behind_a_lost_reply(rt: HostRuntime) -> Result<(), Fail> {
     lose_reply(&rt, &listener, &mut link)
 }
 
-/// Exchanges with a peer that closes the stream behind each reply.
+/// A listener, and a link to it over which this reply came. The peer has closed the stream behind it.
+fn closed_behind_a_reply(
+    rt: &(impl Abort + AllocGlobal),
+    host: &HostRuntime,
+    reply: &[u8],
+) -> Result<(<HostRuntime as Net>::Listener, TcpLink<HostRuntime>), Fail> {
+    let (listener, mut link) = listening(host, Duration::from_secs(10))?;
+    answer_and_close(&listener, &mut link, reply)?;
+    assert_receives(rt, &mut link, Ok(Some(reply)), true, 0, "first");
+    Ok((listener, link))
+}
+
+/// Finds the stream closed, and exchanges with a peer that closes the stream behind each reply.
 fn close_behind_replies(
     rt: &(impl Abort + AllocGlobal),
     listener: &<HostRuntime as Net>::Listener,
     link: &mut TcpLink<HostRuntime>,
     reply: &[u8],
 ) -> Result<(), Fail> {
-    answer_and_close(listener, link, reply)?;
-    assert_receives(rt, link, Ok(Some(reply)), true, 0, "first");
     link.send(b"request")?;
     assert_receives(rt, link, Ok(None), false, 0, "second");
     for case in ["third", "fourth", "fifth"] {
@@ -191,7 +201,7 @@ fn close_behind_replies(
 #[test]
 fn holds_no_stream_once_a_held_one_was_closed(rt: HostRuntime) -> Result<(), Fail> {
     let reply = hex::decode(rt.alloc(), LOCATE_K1_NONE)?;
-    let (listener, mut link) = listening(&rt, Duration::from_secs(10))?;
+    let (listener, mut link) = closed_behind_a_reply(&rt, &rt, reply.as_slice())?;
     close_behind_replies(&rt, &listener, &mut link, reply.as_slice())
 }
 
@@ -287,15 +297,11 @@ fn sends_once_where_the_reply_is_lost(rt: HostRuntime) {
     assert_drips(&rt, b"", 200, Ok(None), "no reply");
 }
 
-/// A reply comes, and the stream is open until the run ends.
-fn end_behind_a_reply(
+/// The stream is open until the run ends.
+fn end_run(
     rt: &(impl Abort + AllocGlobal),
-    listener: &<HostRuntime as Net>::Listener,
     link: &mut TcpLink<HostRuntime>,
-    reply: &[u8],
-) -> Result<(), Fail> {
-    answer_and_close(listener, link, reply)?;
-    assert_receives(rt, link, Ok(Some(reply)), true, 0, "a reply");
+) -> Result<(), LinkFault> {
     link.end_run(rt.alloc())?;
     assert_link(rt, link, false, 0, "the end of the run");
     Ok(())
@@ -304,6 +310,7 @@ fn end_behind_a_reply(
 #[test]
 fn closes_at_the_end_of_a_run(rt: HostRuntime) -> Result<(), Fail> {
     let reply = hex::decode(rt.alloc(), LOCATE_K1_NONE)?;
-    let (listener, mut link) = listening(&rt, Duration::from_secs(10))?;
-    end_behind_a_reply(&rt, &listener, &mut link, reply.as_slice())
+    let (_listener, mut link) = closed_behind_a_reply(&rt, &rt, reply.as_slice())?;
+    end_run(&rt, &mut link)?;
+    Ok(())
 }
