@@ -62,7 +62,7 @@ made_of looked known shown is so =
 
 not_both : (part : Part) (phase : Phase) (clash refused : Bool) → (tells phase || clash) ≡ true → (is_in part phase && not clash && not refused) ≡ true → ⊥
 not_both part phase true refused told asked =
-    let open : not true ≡ true = (and_parts (is_in part phase) (not true) (and_parts (is_in part phase && not true) (not refused) asked).0).1 in
+    let unclashed : not true ≡ true = (and_parts (is_in part phase) (not true) (and_parts (is_in part phase && not true) (not refused) asked).0).1 in
     absurd cc
 not_both part phases.Look false refused told asked = absurd cc
 not_both part phases.Check false refused told asked = absurd cc

@@ -57,9 +57,11 @@ pub returns-then-not-is_any_asked-clause-calmly : goal.returns-then-not-is_any_a
 returns-then-not-is_any_asked-clause-calmly g c = λ names calm.
     let (before, tried) = c.loop-tried.invariant.calm names calm in
     let idle : list_any (is_asked c.args.part) c.loop-tried.lookeds.items ≡ false =
-    ap (list_any (is_asked c.args.part)) (sym c.as_slice.ensures.value) ∙ sym c.is_any_asked.ensures ∙ c.if-not-is_any_asked.true in
-    (before, tried_idle c.args.part c.loop-tried.tried c.args.keys.now c.args.lookeds.now.items c.loop-tried.lookeds.items (g.L.Link.seen c.args.link.now).past
-    (g.L.Link.seen c.loop-tried.link).past idle tried)
+    ap (list_any (is_asked c.args.part)) (sym c.as_slice.ensures.value) ∙ sym c.is_any_asked.ensures ∙ c.if-not-is_any_asked.true in (
+      before,
+      tried_idle c.args.part c.loop-tried.tried c.args.keys.now c.args.lookeds.now.items c.loop-tried.lookeds.items (g.L.Link.seen c.args.link.now).past
+          (g.L.Link.seen c.loop-tried.link).past idle tried,
+    )
 
 pub returns-in_err-ask_once-clause-honestly : goal.returns-in_err-ask_once-clause-honestly
 returns-in_err-ask_once-clause-honestly g c = λ names honest.
@@ -90,6 +92,8 @@ returns-clause-honestly g c = λ names honest.
 
 pub returns-clause-calmly : goal.returns-clause-calmly
 returns-clause-calmly g c = λ names calm.
-    let (before, tried) = c.loop-tried.invariant.calm names calm in
-    (before, tried_all c.args.part c.loop-tried.tried c.args.keys.now c.args.lookeds.now.items c.loop-tried.lookeds.items (g.L.Link.seen c.args.link.now).past
-    (g.L.Link.seen c.loop-tried.link).past (omega (arith, c.loop-tried-test.false)) tried)
+    let (before, tried) = c.loop-tried.invariant.calm names calm in (
+      before,
+      tried_all c.args.part c.loop-tried.tried c.args.keys.now c.args.lookeds.now.items c.loop-tried.lookeds.items (g.L.Link.seen c.args.link.now).past
+          (g.L.Link.seen c.loop-tried.link).past (omega (arith, c.loop-tried-test.false)) tried,
+    )
