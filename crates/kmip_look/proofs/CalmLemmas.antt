@@ -1,7 +1,8 @@
 -- Over a calm link each question has its answer, and each key is told.
-use Rattle.std.proofs.Common.{◌≡◌, ◌≤◌, ℕ, ◌+◌, Bool, true, false, ◌&&◌, ◌||◌, ◌==◌, not, ⊤, List, [], ◌∷◌, ◌++◌, length, map, option_to_list, Option, Some, None, Result, Ok, Err, refl, sym, ap, subst, ◌∙◌, inl, inr, ◌⊎◌, arith, eq-eqb, if◌then◌else◌}
+use Rattle.std.proofs.Common.{◌≡◌, ◌≤◌, ℕ, ◌+◌, Bool, true, false, ◌&&◌, ◌||◌, ◌==◌, not, List, [], ◌∷◌, ◌++◌, length, map, option_to_list, Option, Some, None, Result, Ok, Err, refl, sym, ap, subst, ◌∙◌, inl, inr, ◌⊎◌, arith, eq-eqb, if◌then◌else◌}
 use Rattle.std.specs.Prelude.{nat_eq}
 use Rattle.std.specs.Cmp.Lexicographic.{pointwise}
+use Rattle.std.specs.Bool.{⊤}
 use Rattle.std.proofs.lemmas.Bool.{and_from, and_parts, cases_Bool}
 use Rattle.std.proofs.lemmas.List.{append_cancel_left}
 use Rattle.std.proofs.lemmas.List.Elements.{All-cons, All-contains, All-contains_itself, All-filter, All-head, All-nil, All-tail, All-weaker, Contains-append_right, filter_passes}
@@ -194,7 +195,7 @@ requested part mark objects all (key ∷ keys) (looked ∷ lookeds) before among
 
 -- ---- one object alone
 
-head_or : Object → List Object → Object
+abbrev head_or : Object → List Object → Object
 head_or other [] = other
 head_or other (o ∷ objects) = o
 
@@ -206,9 +207,6 @@ only_is_one objects key other uid own names (o, alone, is) (p, single, has) =
     has ∙ ap (λ (x : Object). x.uid) same ∙ sym is where
       only_head : (p o : Object) → p ∷ [] ≡ o ∷ [] → p ≡ o
       only_head p o is = ap (head_or p) is
-
-name_test : List ℕ → Object → Bool
-name_test name o = pointwise nat_eq name o.attrs.name
 
 -- it is one of the objects, and has the name
 only_there : (name : List ℕ) (objects : List Object) (o : Object) → all_named name objects ≡ o ∷ [] → Contains objects o × (o.attrs.name ≡ name)

@@ -1,13 +1,15 @@
 -- What a message, a part, a group and a whole look do to the past.
-use Rattle.std.proofs.Common.{◌≡◌, ◌≤◌, ◌<◌, ℕ, ◌+◌, ◌*◌, Bool, true, false, ◌||◌, not, nat_le, if◌then◌else◌, ⊤, List, [], ◌∷◌, ◌++◌, length, map, Option, Some, None, Result, Ok, Err, IfOk, OnOk, refl, sym, ap, subst, ◌∙◌, inl, inr, ◌⊎◌, arith, eq-eqb, ◌==◌, append-nil, append_assoc}
-use Rattle.std.proofs.lemmas.Bool.{cases_Bool, eqb-true, le-leb}
-use Rattle.std.proofs.lemmas.List.{length-append}
+use Rattle.std.proofs.Common.{◌≡◌, ◌≤◌, ◌<◌, ℕ, zero, suc, min, take, drop, ◌+◌, ◌*◌, Bool, true, false, ◌||◌, not, nat_le, if◌then◌else◌, List, [], ◌∷◌, ◌++◌, length, map, Option, Some, None, Result, Ok, Err, IfOk, OnOk, refl, sym, ap, subst, ◌∙◌, inl, inr, ◌⊎◌, arith, eq-eqb, ◌==◌, append-nil, append_assoc}
+use Rattle.std.specs.Bool.{⊤}
+use Rattle.std.proofs.lemmas.Bool.{and_from, and_parts, cases_Bool, eqb-true, le-leb, leb-true}
+use Rattle.std.proofs.lemmas.List.{length-append, take-append-drop}
 use Rattle.std.proofs.lemmas.List.Elements.{All-append, All-cons, All-contains, All-contains_itself, All-head, All-nil, All-tail, All-weaker, Contains-append_left, Contains-append_right}
 use Rattle.std.specs.List.{All, AllZip, Contains, list_any}
 use Rattle.kmip_objects.specs.Objects.{Object, DistinctUids}
 use Rattle.kmip_batch_items.specs.BatchItems.{answer_fits}
 use Rattle.kmip_batch_items.specs.declared.reply.Reply.{Reply}
 use Rattle.kmip_batch_items.specs.declared.request.Request.{Request}
+use Rattle.kmip_messages.specs.Members.{may_have}
 use Rattle.kmip_messages.specs.Items.{parts_in, replies_in, requests_in, stops_in}
 use Rattle.kmip_plan.specs.declared.key.Key.{Key}
 use Rattle.kmip_client.specs.Knowledge.{fresh_knowledge}
@@ -597,3 +599,24 @@ some_left n (x ∷ xs) is same = omega arith
 pub none_left : {A : Type 0} (n : ℕ) (xs : List A) → (n == 0) ≡ true → n ≡ length xs → xs ≡ []
 none_left n [] is same = refl
 none_left n (x ∷ xs) is same = let zero = eqb-true n 0 is in absurd (omega (arith, zero, same))
+
+pub one_left : (n : ℕ) → false ≡ (n == 0) → 1 ≤ n
+one_left zero is = absurd cc
+one_left (suc n) is = omega arith
+
+pub joined : {A : Type 0} (n : ℕ) (xs front back : List A) → front ≡ take n xs → back ≡ drop n xs → front ++ back ≡ xs
+joined n xs front back is so = ap (λ ys. ys ++ back) is ∙ ap (λ zs. take n xs ++ zs) so ∙ take-append-drop n xs
+
+-- how many keys a group has
+pub group_size : (batch left n size : ℕ) → may_have batch ≡ true → false ≡ (left == 0) → n ≡ min batch left → size ≡ n → (may_have size ≡ true) × (1 ≤ size)
+group_size batch left n size many some is same =
+    let low : 1 ≤ batch = leb-true 1 batch (and_parts (nat_le 1 batch) (nat_le batch 8) many).0 in
+    let high : batch ≤ 8 = leb-true batch 8 (and_parts (nat_le 1 batch) (nat_le batch 8) many).1 in
+    let there : 1 ≤ left = one_left left some in
+    let within : 1 ≤ size = omega (arith, low, there, is, same) in
+    let under : size ≤ 8 = omega (arith, high, is, same) in
+    (and_from (nat_le 1 size) (nat_le size 8) (le-leb 1 size within) (le-leb size 8 under), within)
+
+pub none_there : {A : Type 0} (xs : List A) → true ≡ (length xs == 0) → xs ≡ []
+none_there [] is = refl
+none_there (x ∷ xs) is = let zero = eqb-true (length (x ∷ xs)) 0 (sym is) in absurd (omega (arith, zero))
