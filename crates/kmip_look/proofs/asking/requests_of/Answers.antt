@@ -8,7 +8,7 @@ pub loop-place-preserved : goal.loop-place-preserved
 loop-place-preserved c = elim c.if-is_asked.branch [
   | then-is_asked+in_ok-request_of+in_ok-push w ↦
       one_asked c.args.part c.args.mark.now c.args.keys.now c.args.lookeds.now c.loop-place.place c.index-keys-place.result c.index-lookeds-place.result
-      c.loop-place.requests.items c.if-is_asked.requests.items w.in_ok-request_of.field-0 c.loop-place-test.true c.requires c.index-keys-place.is
+      c.loop-place.requests.items c.if-is_asked.requests.items _ c.loop-place-test.true c.requires c.index-keys-place.is
       c.index-lookeds-place.is (sym c.is_asked.ensures ∙ w.if-is_asked.true) w.in_ok-request_of.ensures
       (ap (λ r. r.items) w.requests-is ∙ w.in_ok-push.ensures.items) c.loop-place.invariant
   | else-is_asked w ↦
