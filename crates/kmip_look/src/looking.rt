@@ -54,7 +54,7 @@ pub fn look<L: Link, P: Pause>(
     // The mark has at most 16 bytes.
     requires mark { length mark.now ≤ 16 }
     // It looks at each key of the plan, and what it says of them was so.
-    ensures looks { Looks (λ v. v.items) plan.now mark.now (L.seen link.old) result
+    ensures { Looks (λ v. v.items) plan.now mark.now (L.seen link.old) result
         (L.seen link.new) }
 {
     look_each(alloc, plan.keys(), link, mark, batch, pause)
@@ -75,7 +75,7 @@ fn look_each<L: Link, P: Pause>(
     requires batch { IsTrue (may_have batch) }
     requires mark { length mark.now ≤ 16 }
     requires fit { AreFit keys.now }
-    ensures looks { Looks (λ v. v.items) keys.now mark.now (L.seen link.old) result
+    ensures { Looks (λ v. v.items) keys.now mark.now (L.seen link.old) result
         (L.seen link.new) }
 {
     let mut lookeds = Vec::with_capacity(alloc, keys.len())?;
