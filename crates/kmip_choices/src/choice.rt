@@ -6,6 +6,7 @@ ghost use Rattle.kmip_choices.specs.declared.choice.Choice.TheVariants.{Answer, 
 ghost use Rattle.kmip_choices.specs.declared.detail.Detail.TheVariants.{Runs, Exchanges, Diagram};
 
 use crate::detail::Detail;
+use crate::look_options::LookOptions;
 use crate::probe_options::ProbeOptions;
 use crate::run_options::RunOptions;
 use crate::serve_options::ServeOptions;
@@ -44,6 +45,8 @@ pub enum Choice {
     },
     /// Carry out a plan over a network.
     Run(RunOptions),
+    /// Look how each key of a plan stands on a server.
+    Look(LookOptions),
     /// Look whether a server keeps what the theorem asks of it.
     Probe(ProbeOptions),
     /// Serve connections.

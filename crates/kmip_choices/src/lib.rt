@@ -5,6 +5,7 @@
 
 mod choice;
 mod detail;
+mod look_options;
 mod peer;
 mod probe_options;
 mod run_options;
@@ -13,6 +14,7 @@ mod trust;
 
 pub use choice::{Choice, answer_of, check_of, detail_of, form_of, simulation_of};
 pub use detail::Detail;
+pub use look_options::LookOptions;
 pub use peer::Peer;
 pub use probe_options::ProbeOptions;
 pub use run_options::RunOptions;
