@@ -14,6 +14,6 @@ use Rattle.kmip_look_command.specs.Writing.{TellsLooked}
 -- by the fault of its printer, which then holds what it held if it takes all or nothing.
 pub record PrintsLook (before : Seen) (keys : List Key) (mark : List ℕ) (after : Seen) (ended : Result Bool CommandFault) (own_fault : CommandFault) (Whole : Type 0) (old new : Option (List ℕ)) : Type 0 where
   pub looked : Result (List Looked) NoMemory
-  pub looks : Looks before keys mark looked after
+  pub looks : Looks (λ lookeds. lookeds) keys mark before looked after
   pub whole : IfOk ended (TellsLooked keys looked old new)
   pub broken : IfErr ended (λ fault. Fails fault own_fault Whole old new)

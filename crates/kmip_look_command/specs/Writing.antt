@@ -22,7 +22,7 @@ pub record WritesLook (before : Seen) (keys : List Key) (mark : List ℕ) (after
   -- What was seen of each key, or want of memory.
   pub looked : Result (List Looked) NoMemory
   -- It was seen by one look over the link, which `Looks` says all about. That holds however it ends.
-  pub looks : Looks before keys mark looked after
+  pub looks : Looks (λ lookeds. lookeds) keys mark before looked after
   -- It never ends with `Usage`. Where it ends with `Done` or `Refused`, exactly the text of what was seen
   -- is written; `Done` where each key is finished, and else `Refused`.
   pub whole : IfWhole status (TellsLooked keys looked old new)
@@ -37,7 +37,7 @@ pub record AppendsLook (before : Seen) (keys : List Key) (mark : List ℕ) (afte
   -- What was seen of each key, or want of memory.
   pub looked : Result (List Looked) NoMemory
   -- It was seen by one look over the link, which `Looks` says all about. That holds however it ends.
-  pub looks : Looks before keys mark looked after
+  pub looks : Looks (λ lookeds. lookeds) keys mark before looked after
   -- Exactly the text of what was seen is appended. The result is false where each key is finished.
   pub whole : IfOk ended (TellsLooked keys looked (Some old) (Some new))
   -- At want of memory nothing is appended.

@@ -114,10 +114,10 @@ fn push_working(
 {
     match phase {
         Phase::Look | Phase::Check => push_untold(alloc, looked.why, text),
-        Phase::Make => push_to_do(key, 0, "none to do:", text),
+        Phase::Make => push_none(key, text),
         Phase::Go => {
-            push_state(alloc, told_state(&looked.shown), text)?;
-            push_to_do(key, looked.known.done, " to do:", text)
+            push_told(alloc, &looked.shown, " to do:", text)?;
+            push_steps(key, looked.known.done, text)
         }
     }
 }
@@ -131,13 +131,13 @@ fn push_untold(alloc: Global, why: Why, text: &mut Vec<u8>) -> Result<(), NoMemo
     push_why(alloc, why, text)
 }
 
-/// Appends some words, and the steps of a key behind this many that are done.
-fn push_to_do(key: &Key, done: usize, words: &str, text: &mut Vec<u8>) -> Result<(), NoMemory>
+/// Appends that no object has the name of a key, and all its steps.
+fn push_none(key: &Key, text: &mut Vec<u8>) -> Result<(), NoMemory>
     ensures { OnOk result (text.new.items ≡ text.old.items
-        ++ (words.now ++ steps_text (drop done (chain key.now.target)))) }
+        ++ (codes "none to do:" ++ steps_text (chain key.now.target))) }
 {
-    text.extend_from_slice(words.as_bytes())?;
-    push_steps(key, done, text)
+    text.extend_from_slice(b"none to do:")?;
+    push_steps(key, 0, text)
 }
 
 /// Appends the steps of a key behind this many that are done, a space before each.

@@ -1,5 +1,6 @@
 -- Each step is one more.
 use Rattle.std.proofs.Common.{sym, ap, ◌∙◌, arith}
+use Rattle.kmip_plan.specs.Chains.{chain}
 use Rattle.kmip_look_command.proofs.LineLemmas.{steps_next, steps_over, steps_past}
 use Rattle.kmip_look_command.proofs.line.push_steps.Goals as goal
 use Rattle.kmip_look_command.proofs.line.push_steps.Goals.{in-Some+in_ok-push_step, in_default}
@@ -11,4 +12,5 @@ loop-place-preserved c = elim c.match-chain.branch [
 ]
 
 pub returns : goal.returns
-returns c = steps_over _ _ _ _ (omega (arith, c.loop-place-test.false, c.chain_length.ensures.steps)) c.loop-place.invariant
+returns c =
+    steps_over (chain c.args.key.now.target) c.loop-place.place _ _ (omega (arith, c.loop-place-test.false, c.chain_length.ensures.steps)) c.loop-place.invariant
