@@ -7,6 +7,7 @@ ghost use Rattle.kmip_choices.specs.declared.detail.Detail.TheVariants.{Runs, Ex
 
 use crate::detail::Detail;
 use crate::list_options::ListOptions;
+use crate::look_options::LookOptions;
 use crate::probe_options::ProbeOptions;
 use crate::run_options::RunOptions;
 use crate::serve_options::ServeOptions;
@@ -47,6 +48,8 @@ pub enum Choice {
     Run(RunOptions),
     /// List what a progress says of each key of its plan.
     List(ListOptions),
+    /// Look how each key of a plan stands on a server.
+    Look(LookOptions),
     /// Look whether a server keeps what the theorem asks of it.
     Probe(ProbeOptions),
     /// Serve connections.

@@ -6,6 +6,7 @@
 mod choice;
 mod detail;
 mod list_options;
+mod look_options;
 mod peer;
 mod probe_options;
 mod run_options;
@@ -15,6 +16,7 @@ mod trust;
 pub use choice::{Choice, answer_of, check_of, detail_of, form_of, simulation_of};
 pub use detail::Detail;
 pub use list_options::ListOptions;
+pub use look_options::LookOptions;
 pub use peer::Peer;
 pub use probe_options::ProbeOptions;
 pub use run_options::RunOptions;

@@ -297,6 +297,42 @@ refuse what was asked. The reasons may say why. The exit status is 0 only where 
 With --verbose standard error has a line for each message that is sent. With --loopback the server is
 one in this process, which keeps all rules.";
 
+pub(crate) const LOOK: &str =
+    "Looks how each key of a plan stands on a server, and changes nothing";
+
+pub(crate) const LOOK_LONG: &str = "\
+Asks a server how each key of the plan in a file (see `check --help`) stands now: by its name, and then
+by the identifier of its object. It asks nothing that changes anything, and keeps no file. Repeat it at
+any time, also while a run is at work.
+
+It prints a line a key: its name, its target, the identifier of its object (- where none is known), and
+how it stands. The last line counts the keys that stand at their targets:
+  k1 active 17 Active finished
+  k2 revoked 18 Active to do: Revoke              a run takes these steps
+  k3 active - none to do: Create Activate         no object has the name
+  k4 created 22 PreActive conflict attributes: AES 128 0000000c
+  finished 1 of 4
+What else may stand there:
+  conflict attributes: ..    the object is not what the plan wants. It is shown by its type (where that is
+                             not 2, a symmetric key), algorithm, length in bits and usage mask
+  conflict state             its state does not lead to the target
+  conflict two-objects       the server has two objects of that name
+  not told: no reply         no answer came, to four messages in turn
+  not told: refused, reason 12 (Permission Denied)
+  not told: unreadable reply
+  not told: not asked        it gave up before
+The exit status is 0 only where each key is finished.
+
+A message asks about up to B keys (--batch). Where an answer does not come (--timeout) it waits, longer
+each time, and asks again. Where none came for some time (--give-up) nothing more is asked. A reply to
+another look, or to a run, is not taken: each look marks its questions anew.
+
+The plan is checked first; a fault is printed as by `check`. With --verbose standard error has a line for
+each message that is sent. With --loopback the server is one in this process with no object.";
+
+pub(crate) const LOOK_GIVE_UP: &str =
+    "After how many seconds without an answer nothing more is asked: 0 to 86400, 0 for never";
+
 pub(crate) const NAME_PREFIX: &str =
     "What its two names begin with: 1 to 62 printable ASCII characters, no space";
 

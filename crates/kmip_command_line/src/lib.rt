@@ -11,6 +11,7 @@ mod absent;
 mod command_option;
 mod help;
 mod local;
+mod looking;
 mod network;
 mod subcommand;
 mod value;
@@ -21,6 +22,7 @@ use clap::{ArgMatches, Error};
 use kmip_choices::{Choice, answer_of, form_of};
 use kmip_message_commands::{CommandFault, ExitStatus};
 use local::{check_choice, list_choice, sim_choice};
+use looking::look_choice;
 use network::{probe_choice, run_choice, serve_options};
 use std::alloc::{AllocError, Global};
 use subcommand::program;
@@ -47,6 +49,7 @@ fn choice_of(alloc: Global, command: &str, options: &ArgMatches<'_>) -> Result<C
         "run" => run_choice(alloc, options),
         "list" => Ok(list_choice(alloc, options)?),
         "probe" => probe_choice(alloc, options),
+        "look" => look_choice(alloc, options),
         "serve" => Ok(Choice::Serve(serve_options(options))),
         "answer" => Ok(answer_of(options.get_flag("stream"))),
         _unknown => Err(unknown_command(alloc)?),

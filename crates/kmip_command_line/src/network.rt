@@ -27,7 +27,7 @@ pub(crate) fn probe_choice(alloc: Global, options: &ArgMatches<'_>) -> Result<Ch
 }
 
 /// The usage fault of a command of which a value is wrong, under the words that the command is called by.
-fn wrong_value(
+pub(crate) fn wrong_value(
     alloc: Global,
     command: &Subcommand,
     called: &str,
@@ -71,7 +71,7 @@ fn trust_of(options: &ArgMatches<'_>) -> Trust {
 }
 
 /// Where the server is, by the one of three words that is there; none where the address is none.
-fn peer_of(alloc: Global, options: &ArgMatches<'_>) -> Result<Option<Peer>, AllocError> {
+pub(crate) fn peer_of(alloc: Global, options: &ArgMatches<'_>) -> Result<Option<Peer>, AllocError> {
     if let Some(path) = options.get_str("socket") {
         let path = String::from_str(alloc, path)?;
         return Ok(Some(Peer::Unix(path)));

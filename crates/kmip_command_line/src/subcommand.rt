@@ -1,12 +1,12 @@
 //! The commands, for the parser of command lines.
 
 use crate::command_option::{
-    ANSWER_OPTIONS, CHECK_OPTIONS, CommandOption, LIST_OPTIONS, PROBE_OPTIONS, RUN_OPTIONS,
-    SERVE_OPTIONS, SHOW_OPTIONS, SIM_OPTIONS, arg_of,
+    ANSWER_OPTIONS, CHECK_OPTIONS, CommandOption, LIST_OPTIONS, LOOK_OPTIONS, PROBE_OPTIONS,
+    RUN_OPTIONS, SERVE_OPTIONS, SHOW_OPTIONS, SIM_OPTIONS, arg_of,
 };
 use crate::help::{
-    ABOUT, AFTER_HELP, ANSWER, ANSWER_LONG, CHECK, CHECK_LONG, LIST, LIST_LONG, PROBE, PROBE_LONG,
-    RUN, RUN_LONG, SERVE, SERVE_LONG, SHOW, SHOW_LONG, SIM, SIM_LONG,
+    ABOUT, AFTER_HELP, ANSWER, ANSWER_LONG, CHECK, CHECK_LONG, LIST, LIST_LONG, LOOK, LOOK_LONG,
+    PROBE, PROBE_LONG, RUN, RUN_LONG, SERVE, SERVE_LONG, SHOW, SHOW_LONG, SIM, SIM_LONG,
 };
 use clap::{ArgGroup, Command};
 use std::alloc::{AllocError, Global};
@@ -91,6 +91,15 @@ pub(crate) const PROBE_COMMAND: Subcommand = Subcommand {
     keeps_progress: false,
 };
 
+pub(crate) const LOOK_COMMAND: Subcommand = Subcommand {
+    name: "look",
+    about: LOOK,
+    long_about: LOOK_LONG,
+    options: &LOOK_OPTIONS,
+    asks_a_server: true,
+    keeps_progress: false,
+};
+
 const SERVE_COMMAND: Subcommand = Subcommand {
     name: "serve",
     about: SERVE,
@@ -101,11 +110,12 @@ const SERVE_COMMAND: Subcommand = Subcommand {
 };
 
 /// The commands, in the order in which a person needs them.
-const COMMANDS: [Subcommand; 8] = [
+const COMMANDS: [Subcommand; 9] = [
     CHECK_COMMAND,
     SIM_COMMAND,
     PROBE_COMMAND,
     RUN_COMMAND,
+    LOOK_COMMAND,
     LIST_COMMAND,
     SERVE_COMMAND,
     ANSWER_COMMAND,

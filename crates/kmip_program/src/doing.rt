@@ -4,8 +4,8 @@ use kmip_choices::{Choice, Detail};
 use kmip_explaining::{tell_prolonging, tell_refusal};
 use kmip_message_commands::{ExitStatus, Form, run_answer, run_answer_stream, run_show};
 use kmip_network::{
-    Trouble, batch_of, list_progress, plan_at, probe_server, run_plan, serve, standard_input,
-    standard_output, text_at,
+    Trouble, batch_of, list_progress, look_at_server, plan_at, probe_server, run_plan, serve,
+    standard_input, standard_output, text_at,
 };
 use kmip_plan_commands::{SimInput, check_after_bytes, run_check, run_check_after, run_sim};
 use kmip_ttlv::NoMemory;
@@ -35,6 +35,7 @@ pub(crate) fn execute(rt: &HostRuntime, choice: Choice) -> Result<ExitStatus, Tr
         Choice::Run(options) => run_plan(rt, &options),
         Choice::List(options) => list_progress(rt, &options),
         Choice::Probe(options) => probe_server(rt, &options),
+        Choice::Look(options) => look_at_server(rt, &options),
         Choice::Serve(options) => Ok(serve(rt, &options, &mut io::writer(rt))?),
     }
 }

@@ -87,7 +87,7 @@ impl<'a> Display for WrongAddress<'a> {
     }
 }
 
-/// What stands after `--connect` in a command line of `run` or `probe`.
+/// What stands after `--connect` in a command line of `run`, `probe` or `look`.
 fn connect_value(words: &[String]) -> Option<&str> {
     if !asks_a_server(words) {
         return None;
@@ -109,7 +109,7 @@ fn connect_value(words: &[String]) -> Option<&str> {
 /// Whether the command is one that asks a server.
 fn asks_a_server(words: &[String]) -> bool {
     match words.get(1) {
-        Some(command) => matches!(command.as_str(), "run" | "probe"),
+        Some(command) => matches!(command.as_str(), "run" | "probe" | "look"),
         None => false,
     }
 }

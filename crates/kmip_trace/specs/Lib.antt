@@ -5,3 +5,5 @@ pub mod Names
 pub mod Questions
 -- What came back for them.
 pub mod Answers
+-- The names of the reasons for which a server refuses.
+pub mod Reasons

@@ -6,8 +6,10 @@ mod answering;
 mod asking;
 mod names;
 mod outcomes;
+mod reasons;
 
 pub use answering::push_answer;
 pub use asking::{push_question, push_requests, requests_in};
-pub use names::state_word;
+pub use names::{state_of, state_word};
 pub use outcomes::push_outcome;
+pub use reasons::reason_name;

@@ -44,8 +44,8 @@ pub fn state_word(state: KeyState) -> &'static str
     }
 }
 
-/// The state of a number, where a state has it.
-pub(crate) fn state_of(number: u32) -> Option<KeyState>
+/// The state of a number, 1 to 6; none where no state has it. Takes no memory.
+pub fn state_of(number: u32) -> Option<KeyState>
     ensures { result ≡ state_of number }
 {
     state_in(all_states(), number).copied()

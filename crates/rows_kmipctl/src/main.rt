@@ -19,6 +19,7 @@
 //!                          hexadecimal: what is told of each exchange
 //!     probe WORDS          a probe over a link in memory
 //!     runs of PLAN         runs over such a link: the lines behind it, up to a line `end`, say which
+//!     look of PLAN         a look over such a link: the lines behind it, up to a line `end`, say what is there
 //!
 //! The way in which a command is carried out is told by
 //!

@@ -7,7 +7,7 @@ use crate::wording::tell_exchanges;
 use kmip_command_line::chosen;
 use kmip_message_commands::ExitStatus;
 use kmip_program::run_words;
-use rows_links::{hold_runs, take_probe};
+use rows_links::{hold_look, hold_runs, take_probe};
 use std::test::Fail;
 use std::{fs, io};
 use test_support::Transcript;
@@ -21,6 +21,7 @@ impl Transcript for Commands {
             || line.starts_with("file ")
             || line.starts_with("< ")
             || line.starts_with("runs of ")
+            || line.starts_with("look of ")
     }
 
     fn take_line(rt: &HostRuntime, line: &str) -> Result<(), Fail> {
@@ -31,6 +32,9 @@ impl Transcript for Commands {
     fn take_block(rt: &HostRuntime, head: &str, lines: &str) -> Result<(), Fail> {
         if head.starts_with("runs of ") {
             return hold_runs(rt, head, lines);
+        }
+        if head.starts_with("look of ") {
+            return hold_look(rt, head, lines);
         }
         take_text(rt, head, lines)
     }

@@ -1,4 +1,4 @@
-//! The stored runs of the commands `run` and `probe` over links in memory. rows_kmipctl carries them
+//! The stored runs of the commands `run`, `probe` and `look` over links in memory. rows_kmipctl carries them
 //! out. The links lead to a server that loses nothing or follows a script, to servers that break a
 //! rule, and to peers that are none. What comes of each is printed.
 //!
@@ -20,6 +20,14 @@
 //!                          Behind it may stand ` over WORDS`, the script that the link follows, with `/`
 //!                          between its words, and ` waiting NUMBER`, for how many milliseconds it waits
 //!                          first behind an exchange without a reply, by a clock that stands still
+//!
+//!     look of PLAN         the keys of the plan in this file are looked at, over a link to a peer that
+//!                          answers as the lines behind say, up to a line `end`. Behind it may stand
+//!                          ` about NUMBER`, how many keys a message asks about at most, else 1, and
+//!                          ` again NUMBER`, how often it is asked again, else 10. A line has a name, the
+//!                          identifiers that are found, with commas between them, or `-`, and what is
+//!                          told: five numbers (type, algorithm, length, usage mask, state; `-` for one
+//!                          that is not told), `silent`, `refused`, `refused NUMBER`, or `rubbish`
 //!
 //! A line of these runs is one of
 //!
@@ -43,9 +51,11 @@
 #![tactic(auto)]
 
 mod alone;
+mod board;
 mod breaking;
 mod keeping;
 mod lacking;
+mod looking;
 mod peer;
 mod probing;
 mod repeating_peer;
@@ -55,4 +65,5 @@ mod short;
 mod watching;
 
 pub use keeping::hold_runs;
+pub use looking::hold_look;
 pub use probing::take_probe;

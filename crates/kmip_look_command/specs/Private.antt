@@ -1,0 +1,19 @@
+-- Private: definitions that only clauses of private functions cite.
+-- Source: own (view): parts of the public definitions of this crate.
+use Rattle.std.specs.Prelude.{ℕ, Bool, List, Option, Result, IfOk, IfErr}
+use Rattle.kmip_ttlv.specs.declared.no_memory.NoMemory.{NoMemory}
+use Rattle.kmip_plan.specs.declared.key.Key.{Key}
+use Rattle.kmip_protocol.specs.Seen.{Seen}
+use Rattle.kmip_message_commands.specs.Private.{Fails}
+use Rattle.kmip_message_commands.specs.declared.command_fault.CommandFault.{CommandFault}
+use Rattle.kmip_look.specs.Looks.{Looks}
+use Rattle.kmip_look.specs.declared.looked.Looked.{Looked}
+use Rattle.kmip_look_command.specs.Writing.{TellsLooked}
+
+-- A look was made over the link, and what was seen was printed on a printer. It failed for want of memory, or
+-- by the fault of its printer, which then holds what it held if it takes all or nothing.
+pub record PrintsLook (before : Seen) (keys : List Key) (mark : List ℕ) (after : Seen) (ended : Result Bool CommandFault) (own_fault : CommandFault) (Whole : Type 0) (old new : Option (List ℕ)) : Type 0 where
+  pub looked : Result (List Looked) NoMemory
+  pub looks : Looks (λ lookeds. lookeds) keys mark before looked after
+  pub whole : IfOk ended (TellsLooked keys looked old new)
+  pub broken : IfErr ended (λ fault. Fails fault own_fault Whole old new)

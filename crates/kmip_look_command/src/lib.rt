@@ -1,0 +1,12 @@
+//! The command `look`: tells how each key of a plan stands on the server.
+//!
+//! It asks Locate and Get Attributes alone over any link, and tells what was answered, over any writer
+//! or in memory.
+#![tactic(auto)]
+
+mod line;
+mod running;
+mod seen;
+mod text;
+
+pub use running::{look_bytes, run_look};
