@@ -103,23 +103,10 @@ fn push_others(
         ≡ text.old.items ++ flat_map (next_answering_text asked.now) others.now) }
 {
     for reply in others {
-        push_next(alloc, asked, reply, text)?;
+        text.extend_from_slice(b"; ")?;
+        push_answering(alloc, asked, reply, text)?;
     }
     Ok(())
-}
-
-/// Appends what one further reply says.
-fn push_next(
-    alloc: Global,
-    asked: &[Request],
-    reply: &Reply,
-    text: &mut Vec<u8>,
-) -> Result<(), NoMemory>
-    ensures { OnOk result (text.new.items
-        ≡ text.old.items ++ next_answering_text asked.now reply.now) }
-{
-    text.extend_from_slice(b"; ")?;
-    push_answering(alloc, asked, reply, text)
 }
 
 /// Appends what a reply says, and before it which question it answers, where that is to be told.
