@@ -1,8 +1,7 @@
 //! What is drawn of a simulation: a sequence diagram in the language of mermaid.
-ghost use Rattle.std.specs.Prelude.{◌≡◌, ◌++◌, Some, OnOk, option_map};
+ghost use Rattle.std.specs.Prelude.{◌≡◌, ◌++◌, Some, OnOk, codes, option_map};
 ghost use Rattle.kmip_trace.specs.Answers.{answer_text};
 ghost use Rattle.kmip_simulation.specs.Diagram.{
-  again_arrow,
   arrived_request,
   arrows,
   cut_arrows,
@@ -11,9 +10,7 @@ ghost use Rattle.kmip_simulation.specs.Diagram.{
   drawn_byte,
   drawn_request,
   drawn_text,
-  handed_reply,
   lost_reply,
-  lost_request,
   stale_reply,
 };
 
@@ -27,6 +24,12 @@ use std::alloc::Global;
 /// The first lines of a diagram: what is drawn, and between whom.
 const HEAD: &str =
     "sequenceDiagram\n    participant C as kmipctl\n    participant S as key server\n";
+
+/// How the arrow of a request that arrives at the server begins.
+const ARRIVED: &[u8] = b"    C->>S: ";
+
+/// How the arrow of a request that is lost begins.
+const LOST: &[u8] = b"    C-xS: ";
 
 /// Appends a sequence diagram, in the language of mermaid, of all that happened over a link that
 /// followed these words. An arrow is a message: a cross at its end means that it was lost, and a
@@ -71,7 +74,7 @@ impl Tell for Arrows {
             text.extend_from_slice(line.as_bytes())?;
             return Ok(());
         };
-        draw_repeated(alloc, number, request, text)
+        draw_arrow(alloc, b"    C-->>S: again ", number, request, b"\n", text)
     }
 
     fn push_exchange(
@@ -83,16 +86,16 @@ impl Tell for Arrows {
         text: &mut Vec<u8>,
     ) -> Result<(), NoMemory> {
         match word {
-            Word::LoseRequest => draw_lost(alloc, number, request, text),
+            Word::LoseRequest => draw_arrow(alloc, LOST, number, request, b"\n", text),
             Word::LoseReply => draw_lost_reply(alloc, number, request, text),
             Word::Cut(size) => draw_cut(alloc, number, request, size, text),
             Word::Stale(place) => {
-                draw_lost(alloc, number, request, text)?;
+                draw_arrow(alloc, LOST, number, request, b"\n", text)?;
                 draw_stale(alloc, place, request, answer, text)
             }
             Word::Pass | Word::Again(_) | Word::Save | Word::Prolong | Word::Restart(_) => {
-                draw_arrived(alloc, number, request, text)?;
-                draw_reply(alloc, request, answer, text)
+                draw_arrow(alloc, ARRIVED, number, request, b"\n", text)?;
+                draw_reply(alloc, b"    S->>C: ", request, answer, text)
             }
         }
     }
@@ -110,50 +113,21 @@ impl Tell for Arrows {
     }
 }
 
-/// Appends the arrow of a request that is delivered again, and that there is.
-fn draw_repeated(
+/// Appends the arrow of a request, which begins and ends so.
+fn draw_arrow(
     alloc: Global,
+    front: &[u8],
     number: usize,
     request: &[u8],
+    behind: &[u8],
     text: &mut Vec<u8>,
 ) -> Result<(), NoMemory>
     ensures { OnOk result (text.new.items
-        ≡ text.old.items ++ again_arrow number (Some request.now)) }
+        ≡ text.old.items ++ (front.now ++ drawn_request number request.now ++ behind.now)) }
 {
-    text.extend_from_slice(b"    C-->>S: again ")?;
+    text.extend_from_slice(front)?;
     draw_request(alloc, number, request, text)?;
-    text.push(b'\n')?;
-    Ok(())
-}
-
-/// Appends the arrow of a request that arrives at the server.
-fn draw_arrived(
-    alloc: Global,
-    number: usize,
-    request: &[u8],
-    text: &mut Vec<u8>,
-) -> Result<(), NoMemory>
-    ensures { OnOk result (text.new.items
-        ≡ text.old.items ++ arrived_request number request.now) }
-{
-    text.extend_from_slice(b"    C->>S: ")?;
-    draw_request(alloc, number, request, text)?;
-    text.push(b'\n')?;
-    Ok(())
-}
-
-/// Appends the arrow of a request that is lost.
-fn draw_lost(
-    alloc: Global,
-    number: usize,
-    request: &[u8],
-    text: &mut Vec<u8>,
-) -> Result<(), NoMemory>
-    ensures { OnOk result (text.new.items ≡ text.old.items ++ lost_request number request.now) }
-{
-    text.extend_from_slice(b"    C-xS: ")?;
-    draw_request(alloc, number, request, text)?;
-    text.push(b'\n')?;
+    text.extend_from_slice(behind)?;
     Ok(())
 }
 
@@ -167,7 +141,7 @@ fn draw_lost_reply(
     ensures { OnOk result (text.new.items
         ≡ text.old.items ++ (arrived_request number request.now ++ lost_reply)) }
 {
-    draw_arrived(alloc, number, request, text)?;
+    draw_arrow(alloc, ARRIVED, number, request, b"\n", text)?;
     text.extend_from_slice(b"    S-xC: reply lost\n")?;
     Ok(())
 }
@@ -202,23 +176,22 @@ fn draw_cut_request(
         ≡ text.old.items ++ cut_request number request.now size) }
 {
     let rest = format!(in alloc; ", cut after {size} bytes\n")?;
-    text.extend_from_slice(b"    C-xS: ")?;
-    draw_request(alloc, number, request, text)?;
-    text.extend_from_slice(rest.as_bytes())?;
-    Ok(())
+    draw_arrow(alloc, LOST, number, request, rest.as_bytes(), text)
 }
 
-/// Appends the arrow of the reply to a request.
+/// Appends the arrow of the reply to a request, which begins so.
 fn draw_reply(
     alloc: Global,
+    front: &[u8],
     request: &[u8],
     reply: Option<&[u8]>,
     text: &mut Vec<u8>,
 ) -> Result<(), NoMemory>
-    ensures { OnOk result (text.new.items ≡ text.old.items
-        ++ handed_reply request.now (option_map (λ bytes. bytes.now) reply.entry)) }
+    ensures { OnOk result (text.new.items ≡ text.old.items ++ (front.now ++ drawn_text
+        (answer_text request.now (option_map (λ bytes. bytes.now) reply.entry))
+        ++ codes "\n")) }
 {
-    text.extend_from_slice(b"    S->>C: ")?;
+    text.extend_from_slice(front)?;
     draw_answer(alloc, request, reply, text)?;
     text.push(b'\n')?;
     Ok(())
@@ -253,10 +226,7 @@ fn draw_earlier(
         ≡ text.old.items ++ stale_reply number request.now (Some reply.now)) }
 {
     let front = format!(in alloc; "    S-->>C: stale {number}: ")?;
-    text.extend_from_slice(front.as_bytes())?;
-    draw_answer(alloc, request, Some(reply), text)?;
-    text.push(b'\n')?;
-    Ok(())
+    draw_reply(alloc, front.as_bytes(), request, Some(reply), text)
 }
 
 /// Appends what an arrow says of a request.
