@@ -1,11 +1,15 @@
 -- Private: definitions that only clauses of private functions cite.
 -- Source: own (view): parts of the public definitions of this crate.
-use Rattle.std.specs.Prelude.{◌≡◌, ℕ, List, Result, Ok, Err}
+use Rattle.std.specs.Prelude.{◌≡◌, ◌++◌, ◌↔◌, Bool, IfOk, IsTrue, ℕ, List, Result, Ok, Err}
+use Rattle.kmip_plan.specs.declared.key.Key.{Key}
+use Rattle.kmip_plan.specs.declared.plan_fault.PlanFault.{PlanFault}
 use Rattle.kmip_scripted.specs.ScriptTexts.{IsScript}
 use Rattle.kmip_scripted.specs.Words.{prolongings}
 use Rattle.kmip_scripted.specs.declared.script_fault.ScriptFault.{ScriptFault}
 use Rattle.kmip_scripted.specs.declared.script_fault.ScriptFault.TheVariants.{Line, NoMemory as ScriptNoMemory}
 use Rattle.kmip_scripted.specs.declared.word.Word.{Word}
+use Rattle.kmip_ttlv.specs.declared.no_memory.NoMemory.{NoMemory}
+use Rattle.kmip_plan_commands.specs.Checking.{check_after_text, IsRefusedAfter}
 use Rattle.kmip_plan_commands.specs.Simulating.{IsRefusedFor}
 
 -- What reading a script gives in which `prolong` has to stand so often.
@@ -13,3 +17,9 @@ abbrev pub GivesWords : List ℕ → ℕ → Result (List Word) ScriptFault → 
 GivesWords script prolonged (Ok words) = IsScript script words × (prolongings words ≡ prolonged)
 GivesWords script prolonged (Err (Line line)) = IsRefusedFor script prolonged line
 GivesWords script prolonged (Err ScriptNoMemory) = Unit {0}
+
+-- What was read of a plan and of an earlier one is judged: what is printed for both was appended to a text, and
+-- the result says whether something is refused.
+pub record JudgesAfter (read earlier : Result (List Key) PlanFault) (result : Result Bool NoMemory) (old new : List ℕ) : Type 0 where
+  pub text : IfOk result (λ refused. new ≡ old ++ check_after_text refused read earlier)
+  pub refused : IfOk result (λ refused. IsTrue refused ↔ IsRefusedAfter read earlier)

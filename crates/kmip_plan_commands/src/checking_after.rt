@@ -4,6 +4,7 @@ ghost use Rattle.std.specs.Io.KnownBytes.{Appends};
 ghost use Rattle.kmip_plan.specs.Reading.{plan_read};
 ghost use Rattle.kmip_message_commands.specs.Printing.{IfFailed, IfWhole, UnlessOutput, fault_line};
 ghost use Rattle.kmip_plan_commands.specs.Checking.{check_after_text, IsRefusedAfter, prolonging_text};
+ghost use Rattle.kmip_plan_commands.specs.Private.{JudgesAfter};
 
 use crate::checking::{push_keys, push_refusal};
 use kmip_message_commands::{CommandFault, ExitStatus, finished, push_text, send};
@@ -104,10 +105,8 @@ fn push_judgement(
     earlier: &str,
     text: &mut Vec<u8>,
 ) -> Result<bool, NoMemory>
-    ensures text { IfOk result (λ r. text.new.items ≡ text.old.items
-        ++ check_after_text r (plan_read plan.now) (plan_read earlier.now)) }
-    ensures refused { IfOk result (λ r. IsTrue r
-        ↔ IsRefusedAfter (plan_read plan.now) (plan_read earlier.now)) }
+    ensures { JudgesAfter (plan_read plan.now) (plan_read earlier.now) result
+        text.old.items text.new.items }
 {
     match read_plan(alloc, plan) {
         Ok(plan) => push_after(alloc, &plan, earlier, text),
@@ -125,10 +124,8 @@ fn push_after(
     earlier: &str,
     text: &mut Vec<u8>,
 ) -> Result<bool, NoMemory>
-    ensures text { IfOk result (λ r. text.new.items ≡ text.old.items
-        ++ check_after_text r (Ok plan.now) (plan_read earlier.now)) }
-    ensures refused { IfOk result (λ r. IsTrue r
-        ↔ IsRefusedAfter (Ok plan.now) (plan_read earlier.now)) }
+    ensures { JudgesAfter (Ok plan.now) (plan_read earlier.now) result
+        text.old.items text.new.items }
 {
     match read_plan(alloc, earlier) {
         Ok(earlier) => push_comparison(alloc, plan, &earlier, text),
@@ -146,10 +143,8 @@ fn push_comparison(
     earlier: &Plan,
     text: &mut Vec<u8>,
 ) -> Result<bool, NoMemory>
-    ensures text { IfOk result (λ r. text.new.items ≡ text.old.items
-        ++ check_after_text r (Ok plan.now) (Ok earlier.now)) }
-    ensures refused { IfOk result (λ r. IsTrue r
-        ↔ IsRefusedAfter (Ok plan.now) (Ok earlier.now)) }
+    ensures { JudgesAfter (Ok plan.now) (Ok earlier.now) result
+        text.old.items text.new.items }
 {
     push_keys(alloc, plan, text)?;
     let is_refused = !prolongs(plan, earlier);
