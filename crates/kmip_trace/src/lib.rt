@@ -9,5 +9,5 @@ mod outcomes;
 
 pub use answering::push_answer;
 pub use asking::{push_question, push_requests, requests_in};
-pub use names::state_word;
+pub use names::{operation_word, state_word};
 pub use outcomes::push_outcome;
