@@ -2,7 +2,6 @@
 
 use crate::answers::push_answer_about;
 use crate::exchange::{Exchange, name_of};
-use crate::operation::Operation;
 use crate::progress_line::ProgressLine;
 use crate::reach::Reach;
 use crate::silence::Silence;
@@ -15,7 +14,7 @@ use kmip_client::Client;
 use kmip_plan::{Key, Plan};
 use kmip_plan_commands::{Spent, begin};
 use kmip_protocol::LinkFault;
-use kmip_trace::push_answer;
+use kmip_trace::{operation_word, push_answer};
 use kmip_ttlv::{NoMemory, plain_text};
 use std::alloc::Global;
 use std::cell::{Cell, RefCell};
@@ -401,7 +400,7 @@ fn keep_request(
         return Ok(());
     };
     if place < stories.len() {
-        let operation = Operation::of(&request.ask);
+        let operation = request.ask.operation();
         stories[place].hear(alloc, operation, name, exchange.answer(request))?;
     }
     Ok(())
@@ -410,7 +409,7 @@ fn keep_request(
 /// Appends the operation that a request asks, and the key that it is about.
 fn push_request(request: &Request, line: &mut String) -> Result<(), NoMemory> {
     let name = name_of(request);
-    line.push_str(Operation::of(&request.ask).word())?;
+    line.push_str(operation_word(request.ask.operation()))?;
     line.push_str(" ")?;
     line.push_str(from_utf8(name).unwrap_or(""))?;
     Ok(())

@@ -1,5 +1,9 @@
 //! How often something happened to each operation.
-use crate::operation::{COUNT, Operation};
+
+use kmip_batch_items::Operation;
+
+/// How many operations there are.
+const COUNT: usize = 6;
 
 /// How often something happened to each operation.
 #[derive(Clone, Copy, Debug)]

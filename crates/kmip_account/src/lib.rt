@@ -14,7 +14,6 @@ mod exchange;
 mod exchange_line;
 mod failure;
 mod noted;
-mod operation;
 mod peer_talk;
 mod progress_line;
 mod reach;

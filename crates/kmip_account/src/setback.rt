@@ -1,5 +1,6 @@
 //! Why a question about a key came to nothing.
-use crate::operation::Operation;
+
+use kmip_batch_items::Operation;
 
 /// Why a question about a key came to nothing.
 #[derive(Clone, Copy)]

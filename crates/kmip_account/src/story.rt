@@ -2,13 +2,13 @@
 
 use crate::answers::{push_object, push_wanted};
 use crate::counts::Counts;
-use crate::operation::Operation;
 use crate::reasons::push_reason;
 use crate::setback::Setback;
 use crate::stage::Stage;
-use kmip_batch_items::Outcome;
+use kmip_batch_items::{Operation, Outcome};
 use kmip_client::{Clash, Verdict};
 use kmip_plan::Key;
+use kmip_trace::operation_word;
 use kmip_ttlv::NoMemory;
 use std::alloc::Global;
 
@@ -137,7 +137,7 @@ impl Story {
         match (self.setback, self.answered) {
             (Some(setback), _) => self.push_setback(alloc, setback, text)?,
             (None, Some(operation)) => {
-                text.push_str(operation.word())?;
+                text.push_str(operation_word(operation))?;
                 text.push_str(" was answered last: ")?;
                 text.push_str(self.told.as_str())?;
             }
@@ -179,7 +179,8 @@ fn push_often(
 ) -> Result<(), NoMemory> {
     let times = counts.of(operation);
     let ending = if times == 1 { "time" } else { "times" };
-    let often = format!(in alloc; "{} {what} {times} {ending}", operation.word())?;
+    let word = operation_word(operation);
+    let often = format!(in alloc; "{word} {what} {times} {ending}")?;
     text.push_str(often.as_str())?;
     Ok(())
 }

@@ -1,5 +1,6 @@
 -- What has come of a run is what its exchanges did.
-use Rattle.std.proofs.Common.{◌≡◌, ◌≢◌, ◌∙◌, ℕ, Bool, true, false, List, Option, Result, Ok, Err, IfOk, inl, inr, refl, subst, sym}
+use Rattle.std.proofs.Common.{◌≡◌, ◌≢◌, ◌∙◌, ℕ, Bool, true, false, List, Option, Result, Ok, Err, IfOk, inl, inr, refl, subst, sym, [], append-nil}
+use Rattle.std.proofs.lemmas.List.Elements.{All-nil}
 use Rattle.std.specs.Io.KnownBytes.{Appends}
 use Rattle.kmip_message_commands.specs.declared.command_fault.CommandFault.{CommandFault}
 use Rattle.kmip_plan.specs.Reading.{FailsPlan}
@@ -10,14 +11,16 @@ use Rattle.kmip_client.specs.Clients.{ClientState}
 use Rattle.kmip_client.specs.Held.{Held}
 use Rattle.kmip_client.specs.declared.knowledge.Knowledge.{Knowledge}
 use Rattle.kmip_protocol.specs.Seen.{Seen}
-use Rattle.kmip_runs.specs.Driving.{IsGood}
+use Rattle.kmip_runs.specs.Driving.{IsGood, IsQuestion}
+use Rattle.kmip_runs.specs.Headline.{GoodLink}
 use Rattle.kmip_runs.specs.declared.stop.Stop.{Stop}
 use Rattle.kmip_runs.specs.declared.stop.Stop.TheVariants as stops
 use Rattle.kmip_progress.specs.declared.progress_fault.ProgressFault.{ProgressFault}
 use Rattle.kmip_runs.specs.Saved.{AreSaved, IsInMemory, Snapshot}
 use Rattle.kmip_runs.specs.declared.save_fault.SaveFault.{SaveFault}
 use Rattle.kmip_runs.specs.CarriesOut.{CarriesOut, Stage}
-use Rattle.kmip_plan_commands.specs.Course.{Came, IsGoodStart, IsTrueText, RunState, run_state}
+use Rattle.kmip_plan_commands.specs.Course.{AsksFew, Came, IsGoodStart, IsTrueText, RunState, run_state}
+use Rattle.kmip_plan_commands.specs.Runs.{RunsOver}
 use Rattle.kmip_plan_commands.specs.Checking.{is_memory, plan_refusal_text}
 use Rattle.kmip_plan_commands.specs.RunText.{Outcome, TellsEither, TellsRun, TellsRunFrom, Writes, begin_knowns}
 
@@ -68,6 +71,29 @@ came_unsaved limit old new r fault same made is alike carries =
     let P : Result Stop SaveFault → Type 0 = λ r. Came limit old.client.batch (λ keys. IsGood old.client old.link) (state_at old) (state_at new) old.client.keys old.client.knowns (outcome new.client.knowns r made) in
     let whole : IsInMemory r = λ e. no_stop fault stops.NoMemory (sym is ∙ e) in
     subst (λ f. P (Err f)) alike (subst P is (came limit old new r made whole carries))
+
+-- what carrying out a plan promises of its link, where memory did not run out
+over : (limit : ℕ) (old new : Stage) (r : Result Stop SaveFault) (made : ℕ) → IsInMemory r → CarriesOut limit old r made new
+    → RunsOver (IsGood old.client old.link) old.client.keys old.client.batch old.link new.link (λ P. P)
+over limit old new r made whole carries = record {
+  safe = λ good.
+      let well = carries.well good in
+      let link : GoodLink new.client.keys new.link = record { honest_for = well.good.honest_for; sound = well.good.sound } in
+      record { stays_good = subst (λ keys. GoodLink keys new.link) carries.forgets_nothing.keys_stay link; went_on = well.onward };
+  few = λ honest.
+      let learnt = (carries.honestly honest).learns.1 whole in
+      record { messages = learnt.questions; sent_are = learnt.sent_are; each = learnt.each };
+}
+
+-- where it stopped so
+pub over_stop : (limit : ℕ) (old new : Stage) (r : Result Stop SaveFault) (stop : Stop) (made : ℕ) → r ≡ Ok stop → stop ≢ stops.NoMemory → CarriesOut limit old r made new
+    → RunsOver (IsGood old.client old.link) old.client.keys old.client.batch old.link new.link (λ P. P)
+over_stop limit old new r stop made is other carries = over limit old new r made (λ e. other (same_stop stop stops.NoMemory (sym is ∙ e))) carries
+
+-- where the last text was not saved
+pub over_unsaved : (limit : ℕ) (old new : Stage) (r : Result Stop SaveFault) (fault : SaveFault) (made : ℕ) → r ≡ Err fault → CarriesOut limit old r made new
+    → RunsOver (IsGood old.client old.link) old.client.keys old.client.batch old.link new.link (λ P. P)
+over_unsaved limit old new r fault made is carries = over limit old new r made (λ e. no_stop fault stops.NoMemory (sym is ∙ e)) carries
 
 saved_for : (keys : List Key) (most : ℕ) (good other honest : Type 0) (old new : Snapshot) (r : Result Stop SaveFault) (made : ℕ) → (other → good)
     → AreSaved keys most (record { good = good; honest = honest }) old new r made → AreSaved keys most (record { good = other; honest = honest }) old new r made
@@ -144,6 +170,19 @@ tells_start untouched a old new keys text path limit read refused told same is h
     λ o c. came_for limit a.batch (λ keys. IsGood a old.link) (IsGoodStart text old.link) old new a.keys a.knowns o (good_start a old.link text (subst H (sym same) held)) c in
     subst P same (subst Q (sym is) (tells_for came other a.keys path limit refused told f t))
 
+-- and what a run over what the progress says promises of its link
+pub over_start : (a : ClientState) (x y : Seen) (keys : List Key) (text : Option (List ℕ)) (Whole : Type 0 → Type 0) → a.keys ≡ keys
+    → (IsTrueText x.past.objects keys text → Held x.past.objects a.keys a.knowns)
+    → RunsOver (IsGood a x) a.keys a.batch x y Whole → RunsOver (IsGoodStart text x keys) keys a.batch x y Whole
+over_start a x y keys text Whole same held o =
+    let H : List Key → Type 0 = λ keys. IsTrueText x.past.objects keys text → Held x.past.objects a.keys a.knowns in
+    let P : List Key → Type 0 = λ keys. RunsOver (IsGoodStart text x keys) keys a.batch x y Whole in
+    subst P same (record { safe = λ good. o.safe (good_start a x text (subst H (sym same) held) good); few = o.few })
+
+-- where nothing was sent, nothing was asked
+pub asks_none : (keys : List Key) (most : ℕ) (past : Past) → AsksFew keys most past past
+asks_none keys most past = record { messages = []; sent_are = sym (append-nil past.sent); each = All-nil (IsQuestion keys most) }
+
 -- ---- what is written for a text that was read
 
 -- what is written for a plan is written for the text that it was read from
@@ -153,6 +192,17 @@ pub writes_read : (untouched : Type 0) (came : List Key → List Knowledge → O
     → IfOk result (λ refused. Writes (TellsRun untouched came read saved path limit refused) old new)
 writes_read untouched came read keys saved path limit (Ok refused) old new is w = record { text = w.text; told = rw is w.told; written = w.written }
 writes_read untouched came read keys saved path limit (Err fault) old new is w = tt
+
+abbrev read_as : Result (List Key) PlanFault → Result (List Key) PlanFault
+read_as r = r
+
+same_keys : (keys other : List Key) → read_as (Ok keys) ≡ read_as (Ok other) → keys ≡ other
+same_keys keys other e = cc
+
+-- what holds of the plan that was read holds of each that is what was read
+pub of_what_was_read : (P : List Key → Type 0) (read : Result (List Key) PlanFault) (keys : List Key) → read ≡ Ok keys → P keys
+    → (other : List Key) → read ≡ Ok other → P other
+of_what_was_read P read keys is holds other same = subst P (same_keys keys other (sym is ∙ same)) holds
 
 -- a fault that is not want of memory is the one that reading gives
 read_fails : (fault : PlanFault) (read : Result (List Key) PlanFault) → FailsPlan fault read → is_memory fault ≡ false → read ≡ Err fault

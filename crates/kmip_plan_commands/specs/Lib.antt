@@ -10,9 +10,13 @@ pub mod Simulating
 pub mod RunText
 -- what came of the exchanges, and what stays safe over an honest link
 pub mod Course
+-- what a run promises
+pub mod Runs
 -- the line that says how far a run is
 pub mod ProgressLineText
 -- what `list` writes for a plan and a progress
 pub mod Listing
+-- private: what the parts of a run promise
+pub mod PrivateRuns
 -- private: what only the clauses of private functions cite
 pub mod Private

@@ -1,17 +1,12 @@
 //! The command `run`: a plan is carried out over a link, and what is known is kept after each exchange.
-ghost use Rattle.std.specs.Prelude.{◌≡◌, ◌≢◌, List, [], false, true, Ok, Some, IfErr, IfOk, OnErr, IsTrue, option_map};
+ghost use Rattle.std.specs.Prelude.{◌≡◌, false, true, IfErr, IfOk, IsTrue, option_map};
 ghost use Rattle.std.specs.Io.KnownBytes.{Appends};
 ghost use Rattle.kmip_messages.specs.Members.{may_have};
 ghost use Rattle.kmip_plan.specs.Reading.{plan_read};
-ghost use Rattle.kmip_plan.specs.declared.key.Key.{Key};
 ghost use Rattle.kmip_message_commands.specs.Private.{Fails};
-ghost use Rattle.kmip_message_commands.specs.Printing.{IfFailed, IfWhole, UnlessOutput, fault_line};
-ghost use Rattle.kmip_protocol.specs.Past.{is_planned};
-ghost use Rattle.kmip_runs.specs.Headline.{GoodLink};
-ghost use Rattle.kmip_runs.specs.Driving.{IsGood};
 ghost use Rattle.kmip_plan_commands.specs.Checking.{is_memory, plan_refusal_text};
-ghost use Rattle.kmip_plan_commands.specs.Course.{AreUntouched, AsksFew, Came, IsGoodStart, IsTrueText, KeepsSafe, run_state};
-ghost use Rattle.kmip_plan_commands.specs.RunText.{TellsEither, TellsRun, TellsRunFrom, Writes, begin_knowns};
+ghost use Rattle.kmip_plan_commands.specs.PrivateRuns.{TellsOfClient, call_on_printer, call_told};
+ghost use Rattle.kmip_plan_commands.specs.Runs.{Runs, RunsPlan, RunsText, call_ended, call_in_memory, run_change, run_start};
 
 use crate::beginning::begin;
 use crate::push_refusal;
@@ -50,38 +45,12 @@ pub fn run_run<L: Link, K: Keeper, E: Patience, W: Write>(
 ) -> ExitStatus
     // The `batch` of the input is a number from 1 to 8.
     requires { IsTrue (may_have input.now.batch) }
-    // It never ends with `Usage`. Where it ends with `Done` or `Refused`, what is written is as for
-    // `run`, whole (`TellsRun`). It is `Refused` exactly where something was refused, not kept or left
-    // unfinished. What is told has come of the exchanges that are told: `Came`.
-    ensures text { IfWhole result (λ r. Writes (TellsRun
-        (AreUntouched link.old link.new keeper.old keeper.new)
-        (Came input.now.limit input.now.batch
-        (IsGoodStart (option_map (λ text. text.now) saved.entry) (L.seen link.old))
-        (run_state (L.seen link.old) (K.kept keeper.old) (E.has_given_up patience.old))
-        (run_state (L.seen link.new) (K.kept keeper.new) (E.has_given_up patience.new)))
-        (plan_read plan.now) (option_map (λ text. text.now) saved.entry)
-        input.now.path.now input.now.limit r)
-        (W.contents writer.old) (W.contents writer.new)) }
-    // Where it ends with `Failed`, exactly the line of the fault is written. Of a writer that failed,
-    // nothing is said.
-    ensures broken { IfFailed result (λ fault. UnlessOutput fault
-        (Appends (W.contents writer.old) (W.contents writer.new) (fault_line fault))) }
-    // It asks that the text is a plan, that the link is honest for its names, that all that has happened
-    // over it is sound, and that the progress, if any, is true. Then the link is honest and all is sound
-    // after it too, however it ends. The objects have gone onward, and a past that was an image of the
-    // plan machine is one still.
-    ensures safe { (keys : List Key) → plan_read plan.now ≡ Ok keys
-        → GoodLink keys (L.seen link.old)
-        → IsTrueText (L.seen link.old).past.objects keys
-        (option_map (λ text. text.now) saved.entry)
-        → KeepsSafe keys (L.seen link.old) (L.seen link.new) }
-    // Over a link that is honest for the names of the plan, each message that was sent asks about keys of
-    // the plan, each once, and about no more than the input says. That is not said where it ends with
-    // `Failed`.
-    ensures few { (keys : List Key) → plan_read plan.now ≡ Ok keys
-        → (L.seen link.old).honest (is_planned keys)
-        → IfWhole result (λ r. AsksFew keys input.now.batch
-        (L.seen link.old).past (L.seen link.new).past) }
+    ensures { RunsText (plan_read plan.now)
+        (run_start (option_map (λ text. text.now) saved.entry) input.now.path.now
+        input.now.batch input.now.limit)
+        (run_change L.seen K.kept E.has_given_up link.old link.new keeper.old keeper.new
+        patience.old patience.new)
+        (call_ended result (W.contents writer.old) (W.contents writer.new)) }
 {
     let ended = run(alloc, plan, input, saved, link, keeper, patience, writer);
     finished(ended, writer)
@@ -100,37 +69,12 @@ pub fn run_plan<L: Link, K: Keeper, E: Patience, W: Write>(
 ) -> ExitStatus
     // The `batch` of the input is a number from 1 to 8.
     requires { IsTrue (may_have input.now.batch) }
-    // It never ends with `Usage`. Where it ends with `Done` or `Refused`, what is written for this plan
-    // is whole: the report, that what was known could not be kept, or why the progress is refused
-    // (`TellsRunFrom`). It is `Refused` exactly where something was refused, not kept or left
-    // unfinished. What is told has come of the exchanges that are told: `Came`.
-    ensures text { IfWhole result (λ r. Writes (TellsRunFrom
-        (AreUntouched link.old link.new keeper.old keeper.new)
-        (Came input.now.limit input.now.batch
-        (IsGoodStart (option_map (λ text. text.now) saved.entry) (L.seen link.old))
-        (run_state (L.seen link.old) (K.kept keeper.old) (E.has_given_up patience.old))
-        (run_state (L.seen link.new) (K.kept keeper.new) (E.has_given_up patience.new)) plan.now)
-        plan.now input.now.path.now input.now.limit
-        (begin_knowns plan.now (option_map (λ text. text.now) saved.entry)) r)
-        (W.contents writer.old) (W.contents writer.new)) }
-    // Where it ends with `Failed`, exactly the line of the fault is written. Of a writer that failed,
-    // nothing is said.
-    ensures broken { IfFailed result (λ fault. UnlessOutput fault
-        (Appends (W.contents writer.old) (W.contents writer.new) (fault_line fault))) }
-    // It asks that the link is honest for the names of the plan, that all that has happened over it is
-    // sound, and that the progress, if any, is true. Then the link is honest and all is sound after it
-    // too, however it ends. The objects have gone onward, and a past that was an image of the plan
-    // machine is one still.
-    ensures safe { GoodLink plan.now (L.seen link.old)
-        → IsTrueText (L.seen link.old).past.objects plan.now
-        (option_map (λ text. text.now) saved.entry)
-        → KeepsSafe plan.now (L.seen link.old) (L.seen link.new) }
-    // Over a link that is honest for the names of the plan, each message that was sent asks about keys of
-    // the plan, each once, and about no more than the input says. That is not said where it ends with
-    // `Failed`.
-    ensures few { (L.seen link.old).honest (is_planned plan.now)
-        → IfWhole result (λ r. AsksFew plan.now
-        input.now.batch (L.seen link.old).past (L.seen link.new).past) }
+    ensures { RunsPlan plan.now
+        (run_start (option_map (λ text. text.now) saved.entry) input.now.path.now
+        input.now.batch input.now.limit)
+        (run_change L.seen K.kept E.has_given_up link.old link.new keeper.old keeper.new
+        patience.old patience.new)
+        (call_ended result (W.contents writer.old) (W.contents writer.new)) }
 {
     let ended = run_plan_to(alloc, plan, input, saved, link, keeper, patience, writer);
     finished(ended, writer)
@@ -183,40 +127,12 @@ pub fn run<L: Link, K: Keeper, E: Patience, W: Write>(
 ) -> Result<bool, CommandFault>
     // The `batch` of the input is a number from 1 to 8.
     requires { IsTrue (may_have input.now.batch) }
-    // What is written is for what the text of the plan says, and the result says whether something was
-    // refused, not kept or left unfinished: `TellsRun`. What is told has come of the exchanges that are
-    // told. `Came` says what they taught, what was kept after each, when the limit is enough for all
-    // keys, and when fewer are made.
-    ensures text { IfOk result (λ r. Writes (TellsRun
-        (AreUntouched link.old link.new keeper.old keeper.new)
-        (Came input.now.limit input.now.batch
-        (IsGoodStart (option_map (λ text. text.now) saved.entry) (L.seen link.old))
-        (run_state (L.seen link.old) (K.kept keeper.old) (E.has_given_up patience.old))
-        (run_state (L.seen link.new) (K.kept keeper.new) (E.has_given_up patience.new)))
-        (plan_read plan.now) (option_map (λ text. text.now) saved.entry)
-        input.now.path.now input.now.limit r)
-        (W.contents writer.old) (W.contents writer.new)) }
-    // At want of memory nothing is written. Of a writer that failed, nothing is said.
-    ensures broken { IfErr result (λ fault. UnlessOutput fault
-        (Appends (W.contents writer.old) (W.contents writer.new) [])) }
-    // No fault is one of reading, as nothing is read.
-    ensures no_input { IfErr result (λ fault. fault ≢ CommandFault.Input) }
-    // It asks that the text is a plan, that the link is honest for its names, that all that has happened
-    // over it is sound, and that the progress, if any, is true. Then the link is honest and all is sound
-    // after it too, however it ends. The objects have gone onward, and a past that was an image of the
-    // plan machine is one still.
-    ensures safe { (keys : List Key) → plan_read plan.now ≡ Ok keys
-        → GoodLink keys (L.seen link.old)
-        → IsTrueText (L.seen link.old).past.objects keys
-        (option_map (λ text. text.now) saved.entry)
-        → KeepsSafe keys (L.seen link.old) (L.seen link.new) }
-    // Over a link that is honest for the names of the plan, each message that was sent asks about keys of
-    // the plan, each once, and about no more than the input says. That is not said where it ends with a
-    // fault.
-    ensures few { (keys : List Key) → plan_read plan.now ≡ Ok keys
-        → (L.seen link.old).honest (is_planned keys)
-        → IfOk result (λ r. AsksFew keys input.now.batch
-        (L.seen link.old).past (L.seen link.new).past) }
+    ensures { Runs (plan_read plan.now)
+        (run_start (option_map (λ text. text.now) saved.entry) input.now.path.now
+        input.now.batch input.now.limit)
+        (run_change L.seen K.kept E.has_given_up link.old link.new keeper.old keeper.new
+        patience.old patience.new)
+        result (W.contents writer.old) (W.contents writer.new) }
 {
     run_to(alloc, plan, input, saved, link, keeper, patience, writer)
 }
@@ -237,35 +153,12 @@ pub fn run_bytes<L: Link, K: Keeper, E: Patience>(
 ) -> Result<bool, NoMemory>
     // The `batch` of the input is a number from 1 to 8.
     requires { IsTrue (may_have input.now.batch) }
-    // What is appended is for what the text of the plan says, and the result says whether something was
-    // refused, not kept or left unfinished: `TellsRun`. What is told has come of the exchanges that are
-    // told: `Came`.
-    ensures text { IfOk result (λ r. Writes (TellsRun
-        (AreUntouched link.old link.new keeper.old keeper.new)
-        (Came input.now.limit input.now.batch
-        (IsGoodStart (option_map (λ text. text.now) saved.entry) (L.seen link.old))
-        (run_state (L.seen link.old) (K.kept keeper.old) (E.has_given_up patience.old))
-        (run_state (L.seen link.new) (K.kept keeper.new) (E.has_given_up patience.new)))
-        (plan_read plan.now) (option_map (λ text. text.now) saved.entry)
-        input.now.path.now input.now.limit r)
-        (Some output.old.items) (Some output.new.items)) }
-    // At want of memory, the only fault, nothing is appended.
-    ensures broken { OnErr result (output.new.items ≡ output.old.items) }
-    // It asks that the text is a plan, that the link is honest for its names, that all that has happened
-    // over it is sound, and that the progress, if any, is true. Then the link is honest and all is sound
-    // after it too, however it ends. The objects have gone onward, and a past that was an image of the
-    // plan machine is one still.
-    ensures safe { (keys : List Key) → plan_read plan.now ≡ Ok keys
-        → GoodLink keys (L.seen link.old)
-        → IsTrueText (L.seen link.old).past.objects keys
-        (option_map (λ text. text.now) saved.entry)
-        → KeepsSafe keys (L.seen link.old) (L.seen link.new) }
-    // Over a link that is honest for the names of the plan, each message that was sent asks about keys of
-    // the plan, each once, and about no more than the input says. That is not said at want of memory.
-    ensures few { (keys : List Key) → plan_read plan.now ≡ Ok keys
-        → (L.seen link.old).honest (is_planned keys)
-        → IfOk result (λ r. AsksFew keys input.now.batch
-        (L.seen link.old).past (L.seen link.new).past) }
+    ensures { RunsText (plan_read plan.now)
+        (run_start (option_map (λ text. text.now) saved.entry) input.now.path.now
+        input.now.batch input.now.limit)
+        (run_change L.seen K.kept E.has_given_up link.old link.new keeper.old keeper.new
+        patience.old patience.new)
+        (call_in_memory result output.old.items output.new.items) }
 {
     let mut printed = Printed {
         text: mem::replace(output, Vec::new(alloc)),
@@ -303,26 +196,13 @@ fn run_to<L: Link, K: Keeper, E: Patience, P: Printer>(
     printer: &mut P,
 ) -> Result<bool, CommandFault>
     requires { IsTrue (may_have input.now.batch) }
-    ensures text { IfOk result (λ r. Writes (TellsRun
-        (AreUntouched link.old link.new keeper.old keeper.new)
-        (Came input.now.limit input.now.batch
-        (IsGoodStart (option_map (λ text. text.now) saved.entry) (L.seen link.old))
-        (run_state (L.seen link.old) (K.kept keeper.old) (E.has_given_up patience.old))
-        (run_state (L.seen link.new) (K.kept keeper.new) (E.has_given_up patience.new)))
-        (plan_read plan.now) (option_map (λ text. text.now) saved.entry)
-        input.now.path.now input.now.limit r)
-        (P.contents printer.old) (P.contents printer.new)) }
-    ensures broken { IfErr result (λ fault. Fails fault P.own_fault P.IsWhole
-        (P.contents printer.old) (P.contents printer.new)) }
-    ensures safe { (keys : List Key) → plan_read plan.now ≡ Ok keys
-        → GoodLink keys (L.seen link.old)
-        → IsTrueText (L.seen link.old).past.objects keys
-        (option_map (λ text. text.now) saved.entry)
-        → KeepsSafe keys (L.seen link.old) (L.seen link.new) }
-    ensures few { (keys : List Key) → plan_read plan.now ≡ Ok keys
-        → (L.seen link.old).honest (is_planned keys)
-        → IfOk result (λ r. AsksFew keys input.now.batch
-        (L.seen link.old).past (L.seen link.new).past) }
+    ensures { RunsText (plan_read plan.now)
+        (run_start (option_map (λ text. text.now) saved.entry) input.now.path.now
+        input.now.batch input.now.limit)
+        (run_change L.seen K.kept E.has_given_up link.old link.new keeper.old keeper.new
+        patience.old patience.new)
+        (call_on_printer result P.own_fault P.IsWhole (P.contents printer.old)
+        (P.contents printer.new)) }
 {
     onward_is_an_order();
     match read_plan(alloc, plan) {
@@ -370,24 +250,13 @@ fn run_plan_to<L: Link, K: Keeper, E: Patience, P: Printer>(
     printer: &mut P,
 ) -> Result<bool, CommandFault>
     requires { IsTrue (may_have input.now.batch) }
-    ensures text { IfOk result (λ r. Writes (TellsRunFrom
-        (AreUntouched link.old link.new keeper.old keeper.new)
-        (Came input.now.limit input.now.batch
-        (IsGoodStart (option_map (λ text. text.now) saved.entry) (L.seen link.old))
-        (run_state (L.seen link.old) (K.kept keeper.old) (E.has_given_up patience.old))
-        (run_state (L.seen link.new) (K.kept keeper.new) (E.has_given_up patience.new)) plan.now)
-        plan.now input.now.path.now input.now.limit
-        (begin_knowns plan.now (option_map (λ text. text.now) saved.entry)) r)
-        (P.contents printer.old) (P.contents printer.new)) }
-    ensures broken { IfErr result (λ fault. Fails fault P.own_fault P.IsWhole
-        (P.contents printer.old) (P.contents printer.new)) }
-    ensures safe { GoodLink plan.now (L.seen link.old)
-        → IsTrueText (L.seen link.old).past.objects plan.now
-        (option_map (λ text. text.now) saved.entry)
-        → KeepsSafe plan.now (L.seen link.old) (L.seen link.new) }
-    ensures few { (L.seen link.old).honest (is_planned plan.now)
-        → IfOk result (λ r. AsksFew plan.now
-        input.now.batch (L.seen link.old).past (L.seen link.new).past) }
+    ensures { RunsPlan plan.now
+        (run_start (option_map (λ text. text.now) saved.entry) input.now.path.now
+        input.now.batch input.now.limit)
+        (run_change L.seen K.kept E.has_given_up link.old link.new keeper.old keeper.new
+        patience.old patience.new)
+        (call_on_printer result P.own_fault P.IsWhole (P.contents printer.old)
+        (P.contents printer.new)) }
 {
     let told = told_of_plan(alloc, plan, input, saved, link, keeper, patience)?;
     print_told(&told, printer)
@@ -407,22 +276,12 @@ fn told_of_plan<L: Link, K: Keeper, E: Patience>(
     patience: &mut E,
 ) -> Result<Told, NoMemory>
     requires { IsTrue (may_have input.now.batch) }
-    ensures text { IfOk result (λ told. TellsRunFrom
-        (AreUntouched link.old link.new keeper.old keeper.new)
-        (Came input.now.limit input.now.batch
-        (IsGoodStart (option_map (λ text. text.now) saved.entry) (L.seen link.old))
-        (run_state (L.seen link.old) (K.kept keeper.old) (E.has_given_up patience.old))
-        (run_state (L.seen link.new) (K.kept keeper.new) (E.has_given_up patience.new)) plan.now)
-        plan.now input.now.path.now input.now.limit
-        (begin_knowns plan.now (option_map (λ text. text.now) saved.entry))
-        told.refused told.text.items) }
-    ensures safe { GoodLink plan.now (L.seen link.old)
-        → IsTrueText (L.seen link.old).past.objects plan.now
-        (option_map (λ text. text.now) saved.entry)
-        → KeepsSafe plan.now (L.seen link.old) (L.seen link.new) }
-    ensures few { (L.seen link.old).honest (is_planned plan.now)
-        → IfOk result (λ r. AsksFew plan.now
-        input.now.batch (L.seen link.old).past (L.seen link.new).past) }
+    ensures { RunsPlan plan.now
+        (run_start (option_map (λ text. text.now) saved.entry) input.now.path.now
+        input.now.batch input.now.limit)
+        (run_change L.seen K.kept E.has_given_up link.old link.new keeper.old keeper.new
+        patience.old patience.new)
+        (call_told result) }
 {
     onward_is_an_order();
     match begin(alloc, plan, saved) {
@@ -455,17 +314,10 @@ fn told_of_exchanges<L: Link, K: Keeper, E: Patience>(
     keeper: &mut K,
     patience: &mut E,
 ) -> Result<Told, NoMemory>
-    ensures text { IfOk result (λ told. TellsEither
-        (Came input.now.limit client.old.batch
-        (λ keys. IsGood client.old (L.seen link.old))
-        (run_state (L.seen link.old) (K.kept keeper.old) (E.has_given_up patience.old))
-        (run_state (L.seen link.new) (K.kept keeper.new) (E.has_given_up patience.new))
-        client.old.keys client.old.knowns)
-        client.old.keys input.now.path.now input.now.limit told.refused told.text.items) }
-    ensures safe { IsGood client.old (L.seen link.old)
-        → KeepsSafe client.old.keys (L.seen link.old) (L.seen link.new) }
-    ensures few { (L.seen link.old).honest (is_planned client.old.keys) → IfOk result (λ r. AsksFew
-        client.old.keys client.old.batch (L.seen link.old).past (L.seen link.new).past) }
+    ensures { TellsOfClient client.old input.now.path.now input.now.limit
+        (run_change L.seen K.kept E.has_given_up link.old link.new keeper.old keeper.new
+        patience.old patience.new)
+        (call_told result) }
 {
     let (ended, exchanges) = carry_out(alloc, client, link, keeper, patience, input.limit);
     match ended {

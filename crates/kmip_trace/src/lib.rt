@@ -10,6 +10,6 @@ mod reasons;
 
 pub use answering::push_answer;
 pub use asking::{push_question, push_requests, requests_in};
-pub use names::{state_of, state_word};
+pub use names::{operation_word, state_of, state_word};
 pub use outcomes::push_outcome;
 pub use reasons::reason_name;

@@ -6,8 +6,8 @@ ghost use Rattle.kmip_trace.specs.Names.{all_states, number_word, operation_word
 use kmip_batch_items::Operation;
 use kmip_objects::KeyState;
 
-/// The name of an operation.
-pub(crate) fn operation_word(operation: Operation) -> &'static str
+/// The standard's name of an operation, as one word.
+pub fn operation_word(operation: Operation) -> &'static str
     ensures { result.now ≡ operation_word operation }
 {
     match operation {

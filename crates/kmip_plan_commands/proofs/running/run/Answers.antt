@@ -2,8 +2,10 @@
 use Rattle.kmip_message_commands.proofs.ForCallers.{fails_on_writer, no_input}
 use Rattle.kmip_plan_commands.proofs.running.run.Goals as goal
 
-pub returns-clause-broken : goal.returns-clause-broken
-returns-clause-broken g c = fails_on_writer _ _ _ _ c.run_to.ensures.broken
-
-pub returns-clause-no_input : goal.returns-clause-no_input
-returns-clause-no_input g c = no_input _ _ _ _ c.run_to.ensures.broken
+pub returns : goal.returns
+returns g c = record {
+  text = c.run_to.ensures.text;
+  broken = fails_on_writer _ _ _ _ c.run_to.ensures.broken;
+  no_input = no_input _ _ _ _ c.run_to.ensures.broken;
+  planned = c.run_to.ensures.planned;
+}
