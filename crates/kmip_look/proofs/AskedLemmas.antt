@@ -1,10 +1,10 @@
 -- The requests of a part: they have a written form, and are looks.
-use Rattle.std.proofs.Common.{◌≡◌, ◌≤◌, ◌<◌, ℕ, ◌+◌, get_or, drop, append_assoc, Bool, true, false, ◌&&◌, nat_le, List, [], ◌∷◌, ◌++◌, length, Some, refl, sym, ap, subst, ◌∙◌, inl, inr, arith, if◌then◌else◌}
+use Rattle.std.proofs.Common.{◌≡◌, ◌≤◌, ◌<◌, ℕ, ◌+◌, get_or, drop, append_assoc, true, false, ◌&&◌, nat_le, List, [], ◌∷◌, ◌++◌, length, refl, sym, ap, subst, ◌∙◌, inl, inr, arith, if◌then◌else◌}
 use Rattle.std.specs.Bool.{⊤}
 use Rattle.std.proofs.lemmas.Bool.{and_from, and_parts, cases_Bool, le-leb, leb-true}
 use Rattle.std.proofs.lemmas.List.{drop_more, length-append}
 use Rattle.std.proofs.lemmas.List.Elements.{All-cons, All-head, All-nil, All-tail}
-use Rattle.std.specs.List.{All, AllZip, Contains, list_all}
+use Rattle.std.specs.List.{All, Contains, list_all}
 use Rattle.std.specs.Option.{unwrap_or}
 use Rattle.kmip_objects.specs.Ranges.{attrs_fit, is_algorithm, is_identifier, is_length, is_name, is_name_byte, is_usage}
 use Rattle.kmip_batch_items.specs.Ranges.{is_batch_id}
@@ -14,9 +14,7 @@ use Rattle.kmip_messages.specs.Members.{may_have}
 use Rattle.kmip_messages.specs.Written.{requests_fit}
 use Rattle.kmip_plan.specs.Plans.{key_fits, reason_fits}
 use Rattle.kmip_plan.specs.declared.key.Key.{Key}
-use Rattle.kmip_client.specs.Knowledge.{fresh_knowledge}
-use Rattle.kmip_client.specs.Learning.{one_learnt}
-use Rattle.kmip_look.specs.Looks.{IsLook, IsLookAt}
+use Rattle.kmip_look.specs.Looks.{IsLook}
 use Rattle.kmip_look.specs.PrivateAsking.{ask_of, id_of, is_asked, part_number, request_of, requests_of}
 use Rattle.kmip_look.specs.PrivateKeeping as keeping
 use Rattle.kmip_look.specs.PrivateKeeping.{AreFit, AreShaped, IsAt}

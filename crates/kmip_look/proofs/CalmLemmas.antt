@@ -1,27 +1,23 @@
 -- Over a calm link each question has its answer, and each key is told.
-use Rattle.std.proofs.Common.{◌≡◌, ◌≤◌, ℕ, ◌+◌, Bool, true, false, ◌&&◌, ◌||◌, ◌==◌, not, List, [], ◌∷◌, ◌++◌, length, map, option_to_list, Option, Some, None, Result, Ok, Err, refl, sym, ap, subst, ◌∙◌, inl, inr, ◌⊎◌, arith, eq-eqb, if◌then◌else◌}
+use Rattle.std.proofs.Common.{◌≡◌, ◌≤◌, ℕ, Bool, true, false, ◌||◌, ◌==◌, not, List, [], ◌∷◌, length, map, Option, Some, None, Result, Ok, Err, refl, sym, ap, subst, ◌∙◌, inl, inr, ◌⊎◌, arith, eq-eqb, if◌then◌else◌}
 use Rattle.std.specs.Prelude.{nat_eq}
 use Rattle.std.specs.Cmp.Lexicographic.{pointwise}
-use Rattle.std.specs.Bool.{⊤}
 use Rattle.std.proofs.lemmas.Bool.{and_from, and_parts, cases_Bool}
 use Rattle.std.proofs.lemmas.List.{append_cancel_left}
 use Rattle.std.proofs.lemmas.List.Elements.{All-cons, All-contains, All-contains_itself, All-filter, All-head, All-nil, All-tail, All-weaker, Contains-append_right, filter_passes}
 use Rattle.std.proofs.lemmas.Slice.Eq.{bytes_eq-Decides}
-use Rattle.std.specs.List.{All, AllZip, Contains, filter, find, list_any}
-use Rattle.std.specs.Option.{is_some, option_map_or, unwrap_or}
+use Rattle.std.specs.List.{All, AllZip, Contains, find, list_any}
+use Rattle.std.specs.Option.{option_map_or, unwrap_or}
 use Rattle.kmip_objects.specs.Attributes.{attributes_of, by_name}
 use Rattle.kmip_objects.specs.Objects.{Object, object_with, DistinctUids}
-use Rattle.kmip_objects.specs.Ranges.{is_identifier}
 use Rattle.kmip_objects.specs.Searching.{every_state}
 use Rattle.kmip_objects.specs.declared.attrs.Attrs.{Attrs}
 use Rattle.kmip_batch_items.specs.BatchItems.{answer_fits}
 use Rattle.kmip_batch_items.specs.Fits.{outcome_fits}
 use Rattle.kmip_batch_items.specs.Operations.{operation_of}
-use Rattle.kmip_batch_items.specs.declared.ask.Ask.{Ask}
 use Rattle.kmip_batch_items.specs.declared.ask.Ask.TheVariants.{GetAttributes, Locate}
 use Rattle.kmip_batch_items.specs.declared.outcome.Outcome.{Outcome}
 use Rattle.kmip_batch_items.specs.declared.outcome.Outcome.TheVariants.{Located, Attributes, Failed}
-use Rattle.kmip_batch_items.specs.declared.refusal.Refusal.{Refusal}
 use Rattle.kmip_batch_items.specs.declared.reply.Reply.{Reply}
 use Rattle.kmip_batch_items.specs.declared.request.Request.{Request}
 use Rattle.kmip_plan.specs.declared.key.Key.{Key}
@@ -31,15 +27,14 @@ use Rattle.kmip_client.specs.declared.clash.Clash.TheVariants as clashes
 use Rattle.kmip_client.specs.declared.hear_fault.HearFault.{HearFault}
 use Rattle.kmip_client.specs.declared.hear_fault.HearFault.TheVariants.{OtherIdentifier, OtherName}
 use Rattle.kmip_client.specs.declared.knowledge.Knowledge.{Knowledge}
-use Rattle.kmip_server.specs.Laws.{LocateFindsAllNamed}
 use Rattle.kmip_server.specs.ServerStep.{ServerStep}
 use Rattle.kmip_protocol.specs.Calm.{AreTaken, IsServed}
 use Rattle.kmip_protocol.specs.Headline.{all_named}
 use Rattle.kmip_protocol.specs.Moves.{HasFailed}
 use Rattle.kmip_protocol.specs.Past.{Past}
 use Rattle.kmip_look.specs.Laws.{AsksALook}
-use Rattle.kmip_look.specs.PrivateAsking.{ask_of, id_of, is_asked, is_in, is_refused, part_number, request_of, requests_of}
-use Rattle.kmip_look.specs.PrivateHearing.{heard, heard_each, heard_found, heard_from, heard_key, heard_told, is_answer, learnt_by}
+use Rattle.kmip_look.specs.PrivateAsking.{ask_of, id_of, is_asked, is_refused, part_number, request_of, requests_of}
+use Rattle.kmip_look.specs.PrivateHearing.{heard, heard_each, heard_found, heard_from, heard_told, is_answer, learnt_by}
 use Rattle.kmip_look.specs.PrivateKeeping as keeping
 use Rattle.kmip_look.specs.PrivateKeeping.{IsAfter, IsAt, IsBefore, IsOnly, LookLaws}
 use Rattle.kmip_look.specs.Standings as standings
@@ -48,7 +43,7 @@ use Rattle.kmip_look.specs.declared.looked.Looked.{Looked}
 use Rattle.kmip_look.specs.declared.part.Part.{Part}
 use Rattle.kmip_look.specs.declared.part.Part.TheVariants.{Find, Tell}
 use Rattle.kmip_look.specs.declared.why.Why.{Why}
-use Rattle.kmip_look.proofs.HeardLemmas.{answer_id, attributes_told, first_fits, fits_of, found_in, found_not_looked, made_of, told_is_not_asked, unheard_not_told}
+use Rattle.kmip_look.proofs.HeardLemmas.{answer_id, attributes_told, first_fits, fits_of, found_in, found_not_looked, made_of, told_is_not_asked}
 use Rattle.kmip_look.proofs.ServedLemmas.{same_effects, same_objects, told_of}
 
 -- ---- served one by one

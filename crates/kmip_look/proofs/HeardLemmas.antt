@@ -1,16 +1,16 @@
 -- How far a look has come with a key after a message, by what the replies say.
-use Rattle.std.proofs.Common.{◌≡◌, ◌≤◌, ◌<◌, ℕ, Bool, true, false, ◌&&◌, ◌||◌, not, nat_lt, ◌==◌, List, [], ◌∷◌, length, map, Option, Some, None, Result, Ok, Err, refl, sym, ap, subst, ◌∙◌, inl, inr, ◌⊎◌, arith, if◌then◌else◌}
+use Rattle.std.proofs.Common.{◌≡◌, ◌≤◌, ◌<◌, ℕ, Bool, true, false, ◌&&◌, ◌||◌, not, nat_lt, ◌==◌, List, [], ◌∷◌, length, map, Option, Some, None, Result, Ok, Err, refl, sym, ap, subst, ◌∙◌, inl, inr, arith, if◌then◌else◌}
 use Rattle.std.specs.Bool.{⊤}
 use Rattle.std.proofs.lemmas.Bool.{and_parts, cases_Bool, ltb-true}
-use Rattle.std.proofs.lemmas.List.Elements.{All-contains, Contains-append_right}
+use Rattle.std.proofs.lemmas.List.Elements.{Contains-append_right}
 use Rattle.std.proofs.lemmas.Option.{same_Some}
 use Rattle.std.proofs.lemmas.Slice.Eq.{bytes_eq-Decides}
-use Rattle.std.specs.List.{All, AllZip, Contains, find, list_all}
+use Rattle.std.specs.List.{AllZip, Contains, find, list_all}
 use Rattle.std.specs.Option.{is_some, option_map_or}
 use Rattle.std.specs.Cmp.Lexicographic.{pointwise}
 use Rattle.std.specs.Prelude.{nat_eq}
 use Rattle.kmip_objects.specs.Attributes.{attributes_of}
-use Rattle.kmip_objects.specs.Objects.{Object, object_with}
+use Rattle.kmip_objects.specs.Objects.{Object}
 use Rattle.kmip_objects.specs.Ranges.{is_identifier}
 use Rattle.kmip_objects.specs.declared.attrs.Attrs.{Attrs}
 use Rattle.kmip_batch_items.specs.BatchItems.{answer_fits}

@@ -1,16 +1,15 @@
 -- What was asked and given with the mark of a look is of that look, whatever happens.
-use Rattle.std.proofs.Common.{◌≡◌, ℕ, List, [], ◌∷◌, ◌++◌, option_to_list, Option, Some, None, IfSome, refl, sym, ap, subst, ◌∙◌, inl, inr, ◌⊎◌}
+use Rattle.std.proofs.Common.{◌≡◌, ℕ, List, [], ◌∷◌, ◌++◌, Option, Some, None, IfSome, refl, sym, ap, subst, ◌∙◌, inl, inr}
 use Rattle.std.proofs.lemmas.List.{append_cancel_left}
 use Rattle.std.proofs.lemmas.List.Elements.{All-append, All-contains, All-nil, All-push, All-weaker}
-use Rattle.std.specs.List.{All, AllZip, Contains}
-use Rattle.kmip_batch_items.specs.Operations.{operation_of}
+use Rattle.std.specs.List.{All, Contains}
 use Rattle.kmip_batch_items.specs.declared.reply.Reply.{Reply}
 use Rattle.kmip_batch_items.specs.declared.request.Request.{Request}
-use Rattle.kmip_messages.specs.Items.{replies_in, requests_in}
+use Rattle.kmip_messages.specs.Items.{requests_in}
 use Rattle.kmip_plan.specs.declared.key.Key.{Key}
 use Rattle.kmip_server.specs.Laws.{LocateFindsAllNamed}
 use Rattle.kmip_protocol.specs.Exchanges.{AreGiven, HandsOver, with_asked, with_exchange}
-use Rattle.kmip_protocol.specs.Moves.{Move, Serve, Unanswered, Refuse, Comes, Changes, after_move, MayHappen, AllMayHappen, after_moves, Delivered, HasFailed}
+use Rattle.kmip_protocol.specs.Moves.{Move, Serve, Unanswered, Refuse, Comes, Changes, after_move, MayHappen, AllMayHappen, after_moves, Delivered}
 use Rattle.kmip_protocol.specs.Past.{Names, Past}
 use Rattle.kmip_look.specs.Looks.{IsFresh, IsLook, IsLookAt, IsUnmarked}
 use Rattle.kmip_look.specs.Moments as moments

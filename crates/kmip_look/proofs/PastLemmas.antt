@@ -12,7 +12,6 @@ use Rattle.kmip_batch_items.specs.declared.request.Request.{Request}
 use Rattle.kmip_messages.specs.Members.{may_have}
 use Rattle.kmip_messages.specs.Items.{parts_in, replies_in, requests_in, stops_in}
 use Rattle.kmip_plan.specs.declared.key.Key.{Key}
-use Rattle.kmip_client.specs.Knowledge.{fresh_knowledge}
 use Rattle.kmip_protocol.specs.Calm.{AreTaken, CalmlyExchanged}
 use Rattle.kmip_protocol.specs.Exchanges.{Exchanged, HandsOver, with_asked, with_requests}
 use Rattle.kmip_protocol.specs.Laws.{DeliveriesKeepTheRequests}
@@ -26,11 +25,11 @@ use Rattle.kmip_look.specs.Looks.{AsksLooks, IsFresh, IsLook, IsSaid, IsToldOf, 
 use Rattle.kmip_look.specs.Moments as moments
 use Rattle.kmip_look.specs.Moments.{IsLater, WasSo}
 use Rattle.kmip_look.specs.PrivateAsking.{id_of, is_asked, is_refused, part_number, request_of, requests_of}
-use Rattle.kmip_look.specs.PrivateHearing.{heard_each, is_answer}
+use Rattle.kmip_look.specs.PrivateHearing.{heard_each}
 use Rattle.kmip_look.specs.PrivateKeeping as keeping
 use Rattle.kmip_look.specs.PrivateKeeping.{AreShaped, ComesThrough, Goes, GoesCalmly, GoesThrough, IsAfter, IsAt, IsBefore, IsMarkedLook, GroupsCalmly, IsMarkedTrue, IsSame, Kept, LookLaws, LooksAt, SendsLooks, WereSo, unasked}
 use Rattle.kmip_look.specs.PrivatePutting.{HasPut, HasServed, Puts, said}
-use Rattle.kmip_look.specs.Standings.{StandsSo, is_told}
+use Rattle.kmip_look.specs.Standings.{is_told}
 use Rattle.kmip_look.specs.declared.looked.Looked.{Looked}
 use Rattle.kmip_look.specs.declared.part.Part.{Part}
 use Rattle.kmip_look.specs.declared.part.Part.TheVariants.{Find, Tell}

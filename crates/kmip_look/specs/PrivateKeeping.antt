@@ -1,6 +1,6 @@
 -- Private: what holds of the keys of a group, and of the past, as a look goes on.
 -- Source: own (law).
-use Rattle.std.specs.Prelude.{◌≡◌, ◌≤◌, ◌⊎◌, ◌+◌, ℕ, Bool, true, false, ⊤, List, [], ◌∷◌, ◌++◌, length, map, Some, None, IsTrue}
+use Rattle.std.specs.Prelude.{◌≡◌, ◌≤◌, ◌⊎◌, ◌+◌, ℕ, Bool, true, false, ⊤, List, [], ◌∷◌, ◌++◌, length, map, Some, None}
 use Rattle.std.specs.List.{All, AllZip, Contains}
 use Rattle.kmip_objects.specs.Attributes.{attributes_of}
 use Rattle.kmip_objects.specs.ObjectLaws.{OneIsIdentified}

@@ -1,5 +1,5 @@
 -- Each turn makes the request about one key, where the part asks about it.
-use Rattle.std.proofs.Common.{◌≡◌, ◌∙◌, sym, ap}
+use Rattle.std.proofs.Common.{◌∙◌, sym, ap}
 use Rattle.kmip_look.proofs.AskedLemmas.{none_asked, one_asked}
 use Rattle.kmip_look.proofs.asking.requests_of.Goals as goal
 use Rattle.kmip_look.proofs.asking.requests_of.Goals.{then-is_asked+in_ok-request_of+in_ok-push, else-is_asked}

@@ -1,5 +1,4 @@
 -- The message is put, and its replies are heard.
-use Rattle.std.proofs.Common.{◌≡◌, length}
 use Rattle.std.proofs.lemmas.Result.{err_from_is_err_and}
 use Rattle.kmip_look.proofs.PastLemmas.{calmly_by, goes_by, on_ok, sends_looks, shaped_by, shaped_many}
 use Rattle.kmip_look.proofs.looking.ask.Goals as goal

@@ -1,8 +1,8 @@
 -- One part after the other.
-use Rattle.std.proofs.Common.{◌≡◌, true, false, subst, arith}
+use Rattle.std.proofs.Common.{subst, arith}
 use Rattle.std.proofs.lemmas.Result.{err_from_is_err_and}
 use Rattle.kmip_look.specs.PrivateKeeping.{GoesThrough}
-use Rattle.kmip_look.specs.declared.part.Part.TheVariants.{Find, Tell}
+use Rattle.kmip_look.specs.declared.part.Part.TheVariants.{Find}
 use Rattle.kmip_look.proofs.PastLemmas.{goes_on, if_ok, on_ok, sends_on, sends_within, through_both, through_first}
 use Rattle.kmip_look.proofs.looking.ask_group.Goals as goal
 

@@ -1,8 +1,7 @@
 -- The requests of a part are put, where there are any.
 use Rattle.std.proofs.Common.{◌≡◌, ◌≤◌, [], length, sym, ap, ◌∙◌, arith}
-use Rattle.std.specs.List.{list_any}
 use Rattle.std.proofs.lemmas.Result.{err_from_is_err_and}
-use Rattle.kmip_look.specs.PrivateAsking.{is_asked, requests_of}
+use Rattle.kmip_look.specs.PrivateAsking.{requests_of}
 use Rattle.kmip_look.proofs.AskedLemmas.{written}
 use Rattle.kmip_look.proofs.PastLemmas.{goes_nowhere, idle_goes, none_left, nothing_asked, sends_none, shaped_many, some_left}
 use Rattle.kmip_look.proofs.looking.ask_once.Goals as goal

@@ -1,5 +1,5 @@
 -- Each try sends one message more; over a calm link the first one is enough.
-use Rattle.std.proofs.Common.{◌≡◌, ◌+◌, true, false, ◌<◌, ◌≤◌, sym, subst, ap, ◌∙◌, arith}
+use Rattle.std.proofs.Common.{◌≡◌, ◌+◌, true, false, sym, ap, ◌∙◌, arith}
 use Rattle.std.specs.List.{list_any}
 use Rattle.std.proofs.lemmas.List.Elements.{All-contains_itself}
 use Rattle.std.proofs.lemmas.Result.{err_from_is_err_and}

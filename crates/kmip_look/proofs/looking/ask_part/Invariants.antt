@@ -1,5 +1,4 @@
 -- What was sent and told until now, and how the keys stand over a calm link.
-use Rattle.std.proofs.Common.{◌≡◌, List}
 use Rattle.kmip_protocol.specs.Past.{Names}
 use Rattle.kmip_look.specs.PrivateKeeping.{AreShaped, Goes, SendsLooks}
 use Rattle.kmip_look.proofs.PastLemmas.{Tried}

@@ -1,5 +1,5 @@
 -- The keys of the plan are looked at.
-use Rattle.std.proofs.Common.{◌≡◌, subst, sym}
+use Rattle.std.proofs.Common.{subst}
 use Rattle.kmip_look.specs.Looks.{Looks}
 use Rattle.kmip_look.proofs.looking.look.Goals as goal
 

@@ -1,5 +1,5 @@
 -- What holds of the groups that were looked at, and of the keys that are left.
-use Rattle.std.proofs.Common.{◌≡◌, ◌+◌, length, List}
+use Rattle.std.proofs.Common.{◌≡◌, ◌+◌, length}
 use Rattle.kmip_protocol.specs.Past.{Names}
 use Rattle.kmip_look.specs.PrivateKeeping.{AreFit}
 use Rattle.kmip_look.proofs.PastLemmas.{CalmSoFar, SoFar}

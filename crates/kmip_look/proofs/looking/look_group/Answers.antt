@@ -1,7 +1,5 @@
 -- A group is asked about where more may be asked, and else left.
-use Rattle.std.proofs.Common.{◌≡◌, false, length, subst}
 use Rattle.std.proofs.lemmas.Result.{err_from_is_err_and}
-use Rattle.kmip_look.specs.PrivateKeeping.{GroupsCalmly}
 use Rattle.kmip_look.proofs.PastLemmas.{group_asked, group_calm, group_idle, group_left, sends_none, shaped_many, unasked_at}
 use Rattle.kmip_look.proofs.looking.look_group.Goals as goal
 

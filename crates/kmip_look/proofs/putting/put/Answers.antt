@@ -1,7 +1,7 @@
 -- What an exchange does, by what came of it.
-use Rattle.std.proofs.Common.{◌≡◌, [], ◌∷◌, map, Ok, ap, subst, sym, refl, ◌∙◌}
+use Rattle.std.proofs.Common.{ap, sym, ◌∙◌}
 use Rattle.kmip_messages.specs.Items.{parts_in, requests_in, stops_in}
-use Rattle.kmip_look.proofs.PastLemmas.{if_ok, none_sent, put_by, puts_by, served_by}
+use Rattle.kmip_look.proofs.PastLemmas.{if_ok, put_by, puts_by, served_by}
 use Rattle.kmip_look.proofs.putting.put.Goals as goal
 
 pub returns-in_default-clause-honestly : goal.returns-in_default-clause-honestly
