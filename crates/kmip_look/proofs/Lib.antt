@@ -1,0 +1,6 @@
+pub mod ServedLemmas
+pub mod KeptLemmas
+pub mod HeardLemmas
+pub mod AskedLemmas
+pub mod CalmLemmas
+pub mod PastLemmas

@@ -1,0 +1,279 @@
+//! A look at the keys of a plan, group by group.
+ghost use Rattle.std.specs.Prelude.{◌≡◌, ◌≤◌, ◌<◌, [], IfOk, IsTrue, OnOk, length, true};
+ghost use Rattle.std.specs.List.{All};
+ghost use Rattle.kmip_messages.specs.Members.{may_have};
+ghost use Rattle.kmip_messages.specs.Written.{requests_fit};
+ghost use Rattle.kmip_protocol.specs.Past.{Names};
+ghost use Rattle.kmip_look.specs.Looks.{Looks};
+ghost use Rattle.kmip_look.specs.PrivateAsking.{requests_of};
+ghost use Rattle.kmip_look.specs.PrivateKeeping.{AreFit, AreShaped, Goes, GoesCalmly, GoesThrough, GroupsCalmly, LookLaws, LooksAt, SendsLooks, unasked};
+
+use crate::asking::{is_any_asked, requests_of};
+use crate::hearing::hear_each;
+use crate::looked::Looked;
+use crate::part::Part;
+use crate::pause::Pause;
+use crate::putting::put;
+use kmip_batch_items::Request;
+use kmip_objects::laws::found_laws;
+use kmip_plan::{Key, Plan};
+use kmip_protocol::Link;
+use kmip_protocol::laws::{
+    deliveries_join, deliveries_keep_the_requests, what_is_taken_is_delivered,
+};
+use kmip_server::laws::a_name_is_found;
+use kmip_ttlv::NoMemory;
+use std::alloc::Global;
+
+/// How often a message is put in each of the two parts of a look, at most, until each of its questions has
+/// an answer. Own (limit).
+const MOST_TRIES: usize = 4;
+
+/// Looks how each key of the plan stands now, by Locate and Get Attributes alone.
+///
+/// Keys are taken in groups of `batch`, which is 1 to 8, in the order of the plan. Of a group it is first asked
+/// which objects have the name of each key, in one message. Then it is asked what attributes the object of
+/// each has that has just one. A message is put up to four times, about the keys that have no answer yet.
+/// Before it is put again the pause waits. Where that says no, nothing more is asked of any key.
+///
+/// The id of each question is its operation in one byte, the mark, and the name of the key. The mark has at
+/// most 16 bytes, and is to be one that no question asked before has (`IsFresh`).
+///
+/// # Errors
+/// Where there is no memory; then nothing is said of any key.
+pub fn look<L: Link, P: Pause>(
+    alloc: Global,
+    plan: &Plan,
+    link: &mut L,
+    mark: &[u8],
+    batch: usize,
+    pause: &mut P,
+) -> Result<Vec<Looked>, NoMemory>
+    // A message may ask this many questions: one to eight.
+    requires batch { IsTrue (may_have batch) }
+    // The mark has at most 16 bytes.
+    requires mark { length mark.now ≤ 16 }
+    // It looks at each key of the plan, and what it says of them was so.
+    ensures looks { Looks (λ v. v.items) plan.now mark.now (L.seen link.old) result
+        (L.seen link.new) }
+{
+    look_each(alloc, plan.keys(), link, mark, batch, pause)
+}
+
+/// Looks at the keys of a plan.
+///
+/// # Errors
+/// Where there is no memory.
+fn look_each<L: Link, P: Pause>(
+    alloc: Global,
+    keys: &[Key],
+    link: &mut L,
+    mark: &[u8],
+    batch: usize,
+    pause: &mut P,
+) -> Result<Vec<Looked>, NoMemory>
+    requires batch { IsTrue (may_have batch) }
+    requires mark { length mark.now ≤ 16 }
+    requires fit { AreFit keys.now }
+    ensures looks { Looks (λ v. v.items) keys.now mark.now (L.seen link.old) result
+        (L.seen link.new) }
+{
+    let mut lookeds = Vec::with_capacity(alloc, keys.len())?;
+    let mut goes_on = true;
+    let mut rest = keys;
+    while !rest.is_empty() {
+        let (group, later) = rest.split_at(batch.min(rest.len()));
+        let mut looked = look_group(alloc, group, link, mark, pause, &mut goes_on)?;
+        lookeds.append(&mut looked)?;
+        rest = later;
+    }
+    Ok(lookeds)
+}
+
+/// Looks at the keys of a group, where more may be asked.
+///
+/// # Errors
+/// Where there is no memory.
+fn look_group<L: Link, P: Pause>(
+    alloc: Global,
+    keys: &[Key],
+    link: &mut L,
+    mark: &[u8],
+    pause: &mut P,
+    goes_on: &mut bool,
+) -> Result<Vec<Looked>, NoMemory>
+    requires many { IsTrue (may_have (length keys.now)) }
+    requires mark { length mark.now ≤ 16 }
+    requires fit { AreFit keys.now }
+    ensures honestly { (names : Names) → (L.seen link.old).honest names
+        → (L.seen link.new).honest names
+        × SendsLooks keys.now mark.now 8 (L.seen link.old).past (L.seen link.new).past
+        × IfOk result (λ lookeds. LooksAt names mark.now keys.now lookeds.items
+        (L.seen link.old).past (L.seen link.new).past) }
+    ensures calmly { (names : Names) → (L.seen link.old).calm names → (L.seen link.new).calm names
+        × (goes_on.old ≡ true → IfOk result (λ lookeds. GroupsCalmly keys.now lookeds.items
+        goes_on.new (L.seen link.old).past (L.seen link.new).past)) }
+{
+    let mut lookeds = all_unasked(alloc, keys.len())?;
+    if *goes_on {
+        *goes_on = ask_group(alloc, keys, link, mark, pause, &mut lookeds)?;
+    }
+    Ok(lookeds)
+}
+
+/// What is said of this many keys that were not asked about.
+fn all_unasked(alloc: Global, count: usize) -> Result<Vec<Looked>, NoMemory>
+    ensures as_many { IfOk result (λ lookeds. length lookeds.items ≡ count) }
+    ensures unasked { IfOk result (λ lookeds. All (λ looked. looked ≡ unasked) lookeds.items) }
+{
+    let mut lookeds = Vec::with_capacity(alloc, count)?;
+    for _ in 0..count {
+        lookeds.push(Looked::unasked())?;
+    }
+    Ok(lookeds)
+}
+
+/// Asks about the keys of a group in both parts, and says whether more may be asked.
+///
+/// # Errors
+/// Where there is no memory.
+fn ask_group<L: Link, P: Pause>(
+    alloc: Global,
+    keys: &[Key],
+    link: &mut L,
+    mark: &[u8],
+    pause: &mut P,
+    lookeds: &mut Vec<Looked>,
+) -> Result<bool, NoMemory>
+    requires many { IsTrue (may_have (length keys.now)) }
+    requires mark { length mark.now ≤ 16 }
+    requires fit { AreFit keys.now }
+    requires shaped { AreShaped keys.now lookeds.old.items }
+    ensures honestly { (names : Names) → (L.seen link.old).honest names
+        → (L.seen link.new).honest names
+        × SendsLooks keys.now mark.now 8 (L.seen link.old).past (L.seen link.new).past
+        × OnOk result (Goes names mark.now keys.now lookeds.old.items lookeds.new.items
+        (L.seen link.old).past (L.seen link.new).past) }
+    ensures calmly { (names : Names) → (L.seen link.old).calm names → (L.seen link.new).calm names
+        × IfOk result (λ goes_on. GoesThrough Part.Find Part.Tell 2 keys.now lookeds.old.items
+        lookeds.new.items goes_on (L.seen link.old).past (L.seen link.new).past) }
+{
+    if !ask_part(alloc, Part::Find, keys, link, mark, pause, lookeds)? {
+        return Ok(false);
+    }
+    ask_part(alloc, Part::Tell, keys, link, mark, pause, lookeds)
+}
+
+/// Puts the messages of a part about the keys of a group, and says whether more may be asked.
+///
+/// # Errors
+/// Where there is no memory.
+fn ask_part<L: Link, P: Pause>(
+    alloc: Global,
+    part: Part,
+    keys: &[Key],
+    link: &mut L,
+    mark: &[u8],
+    pause: &mut P,
+    lookeds: &mut Vec<Looked>,
+) -> Result<bool, NoMemory>
+    requires many { IsTrue (may_have (length keys.now)) }
+    requires mark { length mark.now ≤ 16 }
+    requires fit { AreFit keys.now }
+    requires shaped { AreShaped keys.now lookeds.old.items }
+    ensures shaped { OnOk result (AreShaped keys.now lookeds.new.items) }
+    ensures honestly { (names : Names) → (L.seen link.old).honest names
+        → (L.seen link.new).honest names
+        × SendsLooks keys.now mark.now MOST_TRIES (L.seen link.old).past (L.seen link.new).past
+        × OnOk result (Goes names mark.now keys.now lookeds.old.items lookeds.new.items
+        (L.seen link.old).past (L.seen link.new).past) }
+    ensures calmly { (names : Names) → (L.seen link.old).calm names → (L.seen link.new).calm names
+        × IfOk result (λ goes_on. GoesThrough part part 1 keys.now lookeds.old.items
+        lookeds.new.items goes_on (L.seen link.old).past (L.seen link.new).past) }
+{
+    for tried in 0..MOST_TRIES {
+        if !is_any_asked(part, lookeds.as_slice()) {
+            return Ok(true);
+        }
+        if tried > 0 && !pause.again() {
+            return Ok(false);
+        }
+        ask_once(alloc, part, keys, link, mark, lookeds)?;
+    }
+    Ok(true)
+}
+
+/// Puts one message of a part about the keys of a group that it asks about, where there is one.
+///
+/// # Errors
+/// Where there is no memory.
+fn ask_once<L: Link>(
+    alloc: Global,
+    part: Part,
+    keys: &[Key],
+    link: &mut L,
+    mark: &[u8],
+    lookeds: &mut Vec<Looked>,
+) -> Result<(), NoMemory>
+    requires many { IsTrue (may_have (length keys.now)) }
+    requires mark { length mark.now ≤ 16 }
+    requires fit { AreFit keys.now }
+    requires shaped { AreShaped keys.now lookeds.old.items }
+    ensures shaped { OnOk result (AreShaped keys.now lookeds.new.items) }
+    ensures honestly { (names : Names) → (L.seen link.old).honest names
+        → (L.seen link.new).honest names
+        × SendsLooks keys.now mark.now 1 (L.seen link.old).past (L.seen link.new).past
+        × OnOk result (Goes names mark.now keys.now lookeds.old.items lookeds.new.items
+        (L.seen link.old).past (L.seen link.new).past) }
+    ensures calmly { (names : Names) → (L.seen link.old).calm names → (L.seen link.new).calm names
+        × OnOk result (GoesCalmly part keys.now lookeds.old.items lookeds.new.items
+        (L.seen link.old).past (L.seen link.new).past) }
+{
+    let requests = requests_of(alloc, part, mark, keys, lookeds.as_slice())?;
+    if requests.is_empty() {
+        return Ok(());
+    }
+    ask(alloc, part, keys, link, mark, requests.as_slice(), lookeds)
+}
+
+/// Puts these requests of a part in a message, and learns of what comes.
+///
+/// # Errors
+/// Where there is no memory.
+fn ask<L: Link>(
+    alloc: Global,
+    part: Part,
+    keys: &[Key],
+    link: &mut L,
+    mark: &[u8],
+    requests: &[Request],
+    lookeds: &mut Vec<Looked>,
+) -> Result<(), NoMemory>
+    requires fit { IsTrue (requests_fit requests.now) }
+    requires asks { requests.now ≡ requests_of part mark.now keys.now lookeds.old.items }
+    requires shaped { AreShaped keys.now lookeds.old.items }
+    ensures shaped { OnOk result (AreShaped keys.now lookeds.new.items) }
+    ensures honestly { (names : Names) → (L.seen link.old).honest names
+        → (L.seen link.new).honest names
+        × SendsLooks keys.now mark.now 1 (L.seen link.old).past (L.seen link.new).past
+        × OnOk result (Goes names mark.now keys.now lookeds.old.items lookeds.new.items
+        (L.seen link.old).past (L.seen link.new).past) }
+    ensures calmly { (names : Names) → (L.seen link.old).calm names → (L.seen link.new).calm names
+        × OnOk result (GoesCalmly part keys.now lookeds.old.items lookeds.new.items
+        (L.seen link.old).past (L.seen link.new).past) }
+{
+    laws_below();
+    let heard = put(alloc, link, requests)?;
+    hear_each(alloc, part, mark, keys, &heard, lookeds)
+}
+
+/// The laws of the crates below.
+fn laws_below()
+    ensures { LookLaws }
+{
+    found_laws();
+    deliveries_join();
+    deliveries_keep_the_requests();
+    what_is_taken_is_delivered();
+    a_name_is_found();
+}

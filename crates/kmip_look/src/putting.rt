@@ -1,0 +1,95 @@
+//! A message that is put over a link, and what comes of it.
+ghost use Rattle.std.specs.Prelude.{◌≡◌, [], IfOk, IsTrue, option_map, false};
+ghost use Rattle.std.specs.List.{All};
+ghost use Rattle.kmip_batch_items.specs.BatchItems.{answer_fits};
+ghost use Rattle.kmip_batch_items.specs.Faults.{is_no_memory};
+ghost use Rattle.kmip_messages.specs.Written.{requests_fit};
+ghost use Rattle.kmip_protocol.specs.Past.{Names};
+ghost use Rattle.kmip_look.specs.PrivateAsking.{is_refused};
+ghost use Rattle.kmip_look.specs.PrivatePutting.{HasPut, HasServed, Puts, said};
+
+use crate::heard::Heard;
+use crate::why::Why;
+use kmip_batch_items::{MessageFault, Request};
+use kmip_messages::{read_reply, write_request};
+use kmip_protocol::laws::deliveries_keep_the_requests;
+use kmip_protocol::{Link, answer_or_loss};
+use kmip_ttlv::NoMemory;
+use std::alloc::Global;
+
+/// Puts the requests in one message over the link, and gives what comes of it.
+///
+/// # Errors
+/// Where there is no memory.
+pub(crate) fn put<L: Link>(
+    alloc: Global,
+    link: &mut L,
+    requests: &[Request],
+) -> Result<Heard, NoMemory>
+    requires { IsTrue (requests_fit requests.now) }
+    ensures fits { IfOk result (λ heard. All (λ r. IsTrue (answer_fits r)) heard.replies.items) }
+    ensures why { IfOk result (λ heard. is_refused heard.why ≡ false) }
+    ensures honestly { (names : Names) → (L.seen link.old).honest names
+        → (L.seen link.new).honest names
+        × Puts requests.now (L.seen link.old).past (L.seen link.new).past
+        × IfOk result (λ heard. HasPut names requests.now heard.replies.items
+        (L.seen link.old).past (L.seen link.new).past) }
+    ensures calmly { (names : Names) → (L.seen link.old).calm names → (L.seen link.new).calm names
+        × IfOk result (λ heard. HasServed requests.now heard.replies.items
+        (L.seen link.old).past (L.seen link.new).past) }
+{
+    deliveries_keep_the_requests();
+    let bytes = write_request(alloc, requests)?;
+    let Ok(handed) = answer_or_loss(link.exchange(alloc, bytes.as_slice())) else {
+        return Err(NoMemory);
+    };
+    heard_in(alloc, handed)
+}
+
+/// What comes with the answer to a message.
+///
+/// # Errors
+/// Where there is no memory.
+fn heard_in(alloc: Global, handed: Option<Vec<u8>>) -> Result<Heard, NoMemory>
+    ensures fits { IfOk result (λ heard. All (λ r. IsTrue (answer_fits r)) heard.replies.items) }
+    ensures why { IfOk result (λ heard. is_refused heard.why ≡ false) }
+    ensures said { IfOk result (λ heard. heard.replies.items
+        ≡ said (option_map (λ v. v.items) handed)) }
+{
+    let Some(given) = handed else {
+        return Ok(nothing(alloc, Why::NoReply));
+    };
+    match read_reply(alloc, given.as_slice()) {
+        Ok(replies) => Ok(Heard {
+            replies,
+            why: Why::NoReply,
+        }),
+        Err(fault) => unreadable(alloc, fault),
+    }
+}
+
+/// Bytes came that can't be read as replies, for this fault.
+///
+/// # Errors
+/// Where the fault is that there is no memory.
+fn unreadable(alloc: Global, fault: MessageFault) -> Result<Heard, NoMemory>
+    ensures none { IfOk result (λ heard. heard.replies.items ≡ []) }
+    ensures why { IfOk result (λ heard. is_refused heard.why ≡ false) }
+    ensures told { IfOk result (λ heard. is_no_memory fault ≡ false) }
+{
+    if fault.is_no_memory() {
+        return Err(NoMemory);
+    }
+    Ok(nothing(alloc, Why::Unreadable))
+}
+
+/// No reply came.
+fn nothing(alloc: Global, why: Why) -> Heard
+    ensures none { result.replies.items ≡ [] }
+    ensures why { result.why ≡ why }
+{
+    Heard {
+        replies: Vec::new(alloc),
+        why,
+    }
+}
