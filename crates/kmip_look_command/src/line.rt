@@ -1,6 +1,7 @@
 //! The line of a key.
 ghost use Rattle.std.specs.Prelude.{◌≡◌, ◌++◌, OnOk, codes, drop};
 ghost use Rattle.kmip_plan.specs.Chains.{chain};
+ghost use Rattle.kmip_client.specs.declared.phase.Phase.TheVariants.{Go};
 ghost use Rattle.kmip_look_command.specs.LookText.{
   attributes_text,
   head_text,
@@ -97,7 +98,8 @@ fn push_different(alloc: Global, shown: &Option<Shown>, text: &mut Vec<u8>) -> R
         ++ codes " conflict attributes:" ++ attributes_text shown.now)) }
 {
     push_told(alloc, shown, " conflict attributes:", text)?;
-    push_attributes(alloc, shown, text)
+    push_attributes(alloc, shown, text)?;
+    Ok(())
 }
 
 /// Appends how a key stands that is neither finished nor in conflict, by what is to be found out or
@@ -115,10 +117,7 @@ fn push_working(
     match phase {
         Phase::Look | Phase::Check => push_untold(alloc, looked.why, text),
         Phase::Make => push_none(key, text),
-        Phase::Go => {
-            push_told(alloc, &looked.shown, " to do:", text)?;
-            push_steps(key, looked.known.done, text)
-        }
+        Phase::Go => push_going(alloc, key, looked, text),
     }
 }
 
@@ -129,6 +128,21 @@ fn push_untold(alloc: Global, why: Why, text: &mut Vec<u8>) -> Result<(), NoMemo
 {
     text.extend_from_slice(b"not told: ")?;
     push_why(alloc, why, text)
+}
+
+/// Appends the state that was told, and the steps of a key that are left.
+fn push_going(
+    alloc: Global,
+    key: &Key,
+    looked: &Looked,
+    text: &mut Vec<u8>,
+) -> Result<(), NoMemory>
+    ensures { OnOk result (text.new.items
+        ≡ text.old.items ++ working_text key.now looked.now Go) }
+{
+    push_told(alloc, &looked.shown, " to do:", text)?;
+    push_steps(key, looked.known.done, text)?;
+    Ok(())
 }
 
 /// Appends that no object has the name of a key, and all its steps.

@@ -95,8 +95,10 @@ fn look_to<L: Link, P: Pause, Q: Printer>(
     ensures { PrintsLook (L.seen link.old) plan.now mark.now (L.seen link.new) result
         Q.own_fault Q.IsWhole (Q.contents printer.old) (Q.contents printer.new) }
 {
-    let lookeds = look(alloc, plan, link, mark, batch, pause)?;
-    print_looked(alloc, plan.keys(), lookeds.as_slice(), printer)
+    match look(alloc, plan, link, mark, batch, pause) {
+        Ok(lookeds) => print_looked(alloc, plan.keys(), lookeds.as_slice(), printer),
+        Err(_) => Err(CommandFault::NoMemory),
+    }
 }
 
 /// Prints how the keys stand, and says whether one is not finished.

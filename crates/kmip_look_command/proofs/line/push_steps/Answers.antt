@@ -13,4 +13,4 @@ loop-place-preserved c = elim c.match-chain.branch [
 
 pub returns : goal.returns
 returns c =
-    steps_over (chain c.args.key.now.target) c.loop-place.place _ _ (omega (arith, c.loop-place-test.false, c.chain_length.ensures.steps)) c.loop-place.invariant
+    steps_over (chain c.args.key.now.target) c.loop-place.place _ _ (omega (arith, c.loop-place-test.false, c.chain_length-place-end.ensures.steps)) c.loop-place.invariant
