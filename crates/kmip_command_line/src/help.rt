@@ -302,9 +302,9 @@ What else may stand there:
   not told: not asked        it gave up before
 The exit status is 0 only where each key is finished.
 
-A message asks about up to B keys (--batch), and brings no answer after --timeout. Then it waits, longer
-each time, and asks again. Where no answer came for some time (--give-up) nothing more is asked.
-A reply is taken only where it is one to this look: each look marks its questions anew.
+A message asks about up to B keys (--batch). Where an answer does not come (--timeout) it waits, longer
+each time, and asks again. Where none came for some time (--give-up) nothing more is asked. A reply to
+another look, or to a run, is not taken: each look marks its questions anew.
 
 The plan is checked first; a fault is printed as by `check`. With --verbose standard error has a line for
 each message that is sent. With --loopback the server is one in this process with no object.";

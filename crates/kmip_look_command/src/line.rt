@@ -131,12 +131,7 @@ fn push_untold(alloc: Global, why: Why, text: &mut Vec<u8>) -> Result<(), NoMemo
 }
 
 /// Appends the state that was told, and the steps of a key that are left.
-fn push_going(
-    alloc: Global,
-    key: &Key,
-    looked: &Looked,
-    text: &mut Vec<u8>,
-) -> Result<(), NoMemory>
+fn push_going(alloc: Global, key: &Key, looked: &Looked, text: &mut Vec<u8>) -> Result<(), NoMemory>
     ensures { OnOk result (text.new.items
         ≡ text.old.items ++ working_text key.now looked.now Go) }
 {
