@@ -102,23 +102,23 @@ kept_delivered l names mark start p q kept delivered =
 kept_asked : (names : Names) (mark : List ℕ) (start p : Past) (message : List ℕ) → All (IsMarkedLook mark) (requests_in message)
     → Kept names mark start p → Kept names mark start (with_asked message p)
 kept_asked names mark start p message looks kept = record {
-  later = moments.onward kept.later moments.asked;
+  later = moments.onward kept.later (moments.asked message);
   asked = All-append (IsMarkedLook mark) p.requests (requests_in message) kept.asked looks;
-  given = all_later names mark start p (with_asked message p) p.replies moments.asked kept.given;
+  given = all_later names mark start p (with_asked message p) p.replies (moments.asked message) kept.given;
 }
 
 kept_exchanged : (names : Names) (mark : List ℕ) (start p : Past) (message : List ℕ) (answer : Option (List ℕ)) → IfSome answer (AreGiven p)
     → Kept names mark start p → Kept names mark start (with_exchange message answer p)
 kept_exchanged names mark start p message answer given kept = record {
-  later = moments.onward kept.later (moments.exchanged given);
+  later = moments.onward kept.later (moments.exchanged message answer given);
   asked = kept.asked;
-  given = all_later names mark start p (with_exchange message answer p) p.replies (moments.exchanged given) kept.given;
+  given = all_later names mark start p (with_exchange message answer p) p.replies (moments.exchanged message answer given) kept.given;
 }
 
 pub later_over : (names : Names) (p q : Past) (message : List ℕ) (answer : Option (List ℕ)) → HandsOver names p message answer q → IsLater names p q
 later_over names p q message answer hands =
     subst (IsLater names p) (sym hands.is)
-    (moments.onward moments.asked (moments.onward (moments.delivered hands.delivered) (moments.exchanged hands.given)))
+    (moments.onward (moments.asked message) (moments.onward (moments.delivered hands.delivered) (moments.exchanged message answer hands.given)))
 
 pub kept_over : LocateFindsAllNamed → (names : Names) (mark : List ℕ) (start p q : Past) (message : List ℕ) (answer : Option (List ℕ))
     → All (IsMarkedLook mark) (requests_in message) → HandsOver names p message answer q → Kept names mark start p → Kept names mark start q

@@ -4,3 +4,4 @@ pub mod HeardLemmas
 pub mod AskedLemmas
 pub mod CalmLemmas
 pub mod PastLemmas
+pub mod AloneLemmas

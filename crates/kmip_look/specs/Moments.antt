@@ -13,9 +13,9 @@ pub data IsLater (names : Names) : Past → Past → Type 0 where
   -- things happen, or none
   delivered : {old new : Past} → Delivered names old new → IsLater names old new
   -- the requests of a message are asked
-  asked : {p : Past} {sent : List ℕ} → IsLater names p (with_asked sent p)
+  asked : {p : Past} (sent : List ℕ) → IsLater names p (with_asked sent p)
   -- an answer is handed over: none, or a message whose replies were all given
-  exchanged : {p : Past} {sent : List ℕ} {answer : Option (List ℕ)} → IfSome answer (AreGiven p) → IsLater names p (with_exchange sent answer p)
+  exchanged : {p : Past} (sent : List ℕ) (answer : Option (List ℕ)) → IfSome answer (AreGiven p) → IsLater names p (with_exchange sent answer p)
   -- one after the other
   onward : {first second third : Past} → IsLater names first second → IsLater names second third → IsLater names first third
 

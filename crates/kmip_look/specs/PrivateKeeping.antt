@@ -146,7 +146,7 @@ pub record GoesThrough (first last : Part) (most : ℕ) (keys : List Key) (olds 
   pub same : IsSame old new
   pub comes : DistinctUids old.objects → AllZip (IsBefore first old.objects) keys olds → ComesThrough last most keys news goes_on old new
 
--- A look at a group over a calm link
-pub record GroupsCalmly (keys : List Key) (lookeds : List Looked) (goes_on : Bool) (old new : Past) : Type 0 where
+-- A look at a group over a calm link, where more might be asked before it and after it
+pub record GroupsCalmly (keys : List Key) (lookeds : List Looked) (might may : Bool) (old new : Past) : Type 0 where
   pub same : IsSame old new
-  pub comes : DistinctUids old.objects → ComesThrough Tell 2 keys lookeds goes_on old new
+  pub comes : might ≡ true → DistinctUids old.objects → ComesThrough Tell 2 keys lookeds may old new

@@ -105,14 +105,15 @@ fn look_group<L: Link, P: Pause>(
     requires many { IsTrue (may_have (length keys.now)) }
     requires mark { length mark.now ≤ 16 }
     requires fit { AreFit keys.now }
+    ensures as_many { IfOk result (λ lookeds. length lookeds.items ≡ length keys.now) }
     ensures honestly { (names : Names) → (L.seen link.old).honest names
         → (L.seen link.new).honest names
         × SendsLooks keys.now mark.now 8 (L.seen link.old).past (L.seen link.new).past
         × IfOk result (λ lookeds. LooksAt names mark.now keys.now lookeds.items
         (L.seen link.old).past (L.seen link.new).past) }
     ensures calmly { (names : Names) → (L.seen link.old).calm names → (L.seen link.new).calm names
-        × (goes_on.old ≡ true → IfOk result (λ lookeds. GroupsCalmly keys.now lookeds.items
-        goes_on.new (L.seen link.old).past (L.seen link.new).past)) }
+        × IfOk result (λ lookeds. GroupsCalmly keys.now lookeds.items goes_on.old goes_on.new
+        (L.seen link.old).past (L.seen link.new).past) }
 {
     let mut lookeds = all_unasked(alloc, keys.len())?;
     if *goes_on {
@@ -149,6 +150,7 @@ fn ask_group<L: Link, P: Pause>(
     requires mark { length mark.now ≤ 16 }
     requires fit { AreFit keys.now }
     requires shaped { AreShaped keys.now lookeds.old.items }
+    ensures shaped { OnOk result (AreShaped keys.now lookeds.new.items) }
     ensures honestly { (names : Names) → (L.seen link.old).honest names
         → (L.seen link.new).honest names
         × SendsLooks keys.now mark.now 8 (L.seen link.old).past (L.seen link.new).past
