@@ -1,7 +1,8 @@
 -- The requests of a part: they have a written form, and are looks.
-use Rattle.std.proofs.Common.{◌≡◌, ◌≤◌, ℕ, ◌+◌, Bool, true, false, ◌&&◌, nat_le, ⊤, List, [], ◌∷◌, ◌++◌, length, Some, refl, sym, ap, subst, ◌∙◌, inl, inr, arith, if◌then◌else◌}
+use Rattle.std.proofs.Common.{◌≡◌, ◌≤◌, ◌<◌, ℕ, ◌+◌, get_or, drop, append_assoc, Bool, true, false, ◌&&◌, nat_le, List, [], ◌∷◌, ◌++◌, length, Some, refl, sym, ap, subst, ◌∙◌, inl, inr, arith, if◌then◌else◌}
+use Rattle.std.specs.Bool.{⊤}
 use Rattle.std.proofs.lemmas.Bool.{and_from, and_parts, cases_Bool, le-leb, leb-true}
-use Rattle.std.proofs.lemmas.List.{length-append}
+use Rattle.std.proofs.lemmas.List.{drop_more, length-append}
 use Rattle.std.proofs.lemmas.List.Elements.{All-cons, All-head, All-nil, All-tail}
 use Rattle.std.specs.List.{All, AllZip, Contains, list_all}
 use Rattle.std.specs.Option.{unwrap_or}
@@ -110,3 +111,43 @@ looks_of plan part mark (key ∷ keys) (looked ∷ lookeds) planned =
           (All-cons (IsLook plan mark) request more (look_about plan part mark key looked (All-head (Contains plan) key keys planned)) rest)
       | inr idle ↦ subst (λ b. All (IsLook plan mark) (if b then request ∷ more else more)) (sym idle) rest
     ]
+
+-- ---- one key more
+
+abbrev AreMade : Part → List ℕ → List Key → List Looked → List Request → ℕ → Type 0
+AreMade part mark keys lookeds requests place =
+    requests ++ requests_of part mark (drop place keys) (drop place lookeds) ≡ requests_of part mark keys lookeds
+
+parted : {A : Type 0} (xs : List A) (place : ℕ) (x : A) → place < length xs → x ≡ get_or xs place x → drop place xs ≡ x ∷ drop (place + 1) xs
+parted xs place x inside is = drop_more xs place x inside ∙ ap (λ y. y ∷ drop (place + 1) xs) (sym is)
+
+both_parted : (part : Part) (mark : List ℕ) (keys : List Key) (lookeds : List Looked) (place : ℕ) (key : Key) (looked : Looked) → place < length keys
+    → length lookeds ≡ length keys → key ≡ get_or keys place key → looked ≡ get_or lookeds place looked
+    → requests_of part mark (drop place keys) (drop place lookeds)
+    ≡ requests_of part mark (key ∷ drop (place + 1) keys) (looked ∷ drop (place + 1) lookeds)
+both_parted part mark keys lookeds place key looked inside many is at =
+    ap (λ ks. requests_of part mark ks (drop place lookeds)) (parted keys place key inside is)
+    ∙ ap (λ ls. requests_of part mark (key ∷ drop (place + 1) keys) ls) (parted lookeds place looked (omega (arith, inside, many)) at)
+
+pub one_asked : (part : Part) (mark : List ℕ) (keys : List Key) (lookeds : List Looked) (place : ℕ) (key : Key) (looked : Looked) (requests more : List Request)
+    (request : Request) → place < length keys → length lookeds ≡ length keys → key ≡ get_or keys place key → looked ≡ get_or lookeds place looked
+    → is_asked part looked ≡ true → request ≡ request_of part mark key looked → more ≡ requests ++ request ∷ []
+    → AreMade part mark keys lookeds requests place → AreMade part mark keys lookeds more (place + 1)
+one_asked part mark keys lookeds place key looked requests more request inside many is at asked made grown before =
+    let left : List Request = requests_of part mark (drop (place + 1) keys) (drop (place + 1) lookeds) in
+    let here : requests_of part mark (drop place keys) (drop place lookeds) ≡ request ∷ left =
+    both_parted part mark keys lookeds place key looked inside many is at
+    ∙ ap (λ b. if b then request_of part mark key looked ∷ left else left) asked
+    ∙ ap (λ r. r ∷ left) (sym made) in
+    ap (λ rs. rs ++ left) grown ∙ append_assoc requests (request ∷ []) left ∙ ap (λ rs. requests ++ rs) (sym here) ∙ before
+
+pub none_asked : (part : Part) (mark : List ℕ) (keys : List Key) (lookeds : List Looked) (place : ℕ) (key : Key) (looked : Looked) (requests more : List Request)
+    → place < length keys → length lookeds ≡ length keys → key ≡ get_or keys place key → looked ≡ get_or lookeds place looked
+    → is_asked part looked ≡ false → more ≡ requests
+    → AreMade part mark keys lookeds requests place → AreMade part mark keys lookeds more (place + 1)
+none_asked part mark keys lookeds place key looked requests more inside many is at idle same before =
+    let left : List Request = requests_of part mark (drop (place + 1) keys) (drop (place + 1) lookeds) in
+    let here : requests_of part mark (drop place keys) (drop place lookeds) ≡ left =
+    both_parted part mark keys lookeds place key looked inside many is at
+    ∙ ap (λ b. if b then request_of part mark key looked ∷ left else left) idle in
+    ap (λ rs. rs ++ left) same ∙ ap (λ rs. requests ++ rs) (sym here) ∙ before

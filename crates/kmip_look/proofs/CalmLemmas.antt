@@ -1,7 +1,8 @@
 -- Over a calm link each question has its answer, and each key is told.
-use Rattle.std.proofs.Common.{◌≡◌, ◌≤◌, ℕ, ◌+◌, Bool, true, false, ◌&&◌, ◌||◌, ◌==◌, not, ⊤, List, [], ◌∷◌, ◌++◌, length, map, option_to_list, Option, Some, None, Result, Ok, Err, refl, sym, ap, subst, ◌∙◌, inl, inr, ◌⊎◌, arith, eq-eqb, if◌then◌else◌}
+use Rattle.std.proofs.Common.{◌≡◌, ◌≤◌, ℕ, ◌+◌, Bool, true, false, ◌&&◌, ◌||◌, ◌==◌, not, List, [], ◌∷◌, ◌++◌, length, map, option_to_list, Option, Some, None, Result, Ok, Err, refl, sym, ap, subst, ◌∙◌, inl, inr, ◌⊎◌, arith, eq-eqb, if◌then◌else◌}
 use Rattle.std.specs.Prelude.{nat_eq}
 use Rattle.std.specs.Cmp.Lexicographic.{pointwise}
+use Rattle.std.specs.Bool.{⊤}
 use Rattle.std.proofs.lemmas.Bool.{and_from, and_parts, cases_Bool}
 use Rattle.std.proofs.lemmas.List.{append_cancel_left}
 use Rattle.std.proofs.lemmas.List.Elements.{All-cons, All-contains, All-contains_itself, All-filter, All-head, All-nil, All-tail, All-weaker, Contains-append_right, filter_passes}
@@ -194,7 +195,7 @@ requested part mark objects all (key ∷ keys) (looked ∷ lookeds) before among
 
 -- ---- one object alone
 
-head_or : Object → List Object → Object
+abbrev head_or : Object → List Object → Object
 head_or other [] = other
 head_or other (o ∷ objects) = o
 
@@ -204,11 +205,8 @@ only_is_one objects key other uid own names (o, alone, is) (p, single, has) =
     let here : all_named key.attrs.name objects ≡ p ∷ [] = subst (λ n. all_named n objects ≡ p ∷ []) names single in
     let same : p ≡ o = only_head p o (sym here ∙ alone) in
     has ∙ ap (λ (x : Object). x.uid) same ∙ sym is where
-  only_head : (p o : Object) → p ∷ [] ≡ o ∷ [] → p ≡ o
-  only_head p o is = ap (head_or p) is
-
-name_test : List ℕ → Object → Bool
-name_test name o = pointwise nat_eq name o.attrs.name
+      only_head : (p o : Object) → p ∷ [] ≡ o ∷ [] → p ≡ o
+      only_head p o is = ap (head_or p) is
 
 -- it is one of the objects, and has the name
 only_there : (name : List ℕ) (objects : List Object) (o : Object) → all_named name objects ≡ o ∷ [] → Contains objects o × (o.attrs.name ≡ name)
@@ -316,13 +314,13 @@ answered l part mark objects requests replies key looked distinct replied before
     (zip_there (Replied objects) requests replies replied) member in
     elim by.id_is [
       | inl same ↦ (
-          reply,
-          there,
-          passes part mark key looked reply same (elim by.operation_is [
-            | inl is ↦ inl (is ∙ ap Some (number_of part key looked.known))
-            | inr (none, failed) ↦ inr none
-          ]),
-        )
+        reply,
+        there,
+        passes part mark key looked reply same (elim by.operation_is [
+          | inl is ↦ inl (is ∙ ap Some (number_of part key looked.known))
+          | inr (none, failed) ↦ inr none
+        ]),
+      )
       | inr (none, failed) ↦ absurd (never_failed l part objects key looked reply.outcome distinct before asked (by.room, by.step) failed)
     ]
 
@@ -331,13 +329,13 @@ finds : {X : Type 0} (test : X → Bool) (xs : List X) (x : X) → Contains xs x
 finds {X} test xs x there passes none =
     let fails : test x ≡ false = All-contains (λ (y : X). test y ≡ false) xs x (none_passes test xs none) there in
     let t : true ≡ false = sym passes ∙ fails in absurd cc where
-  none_passes : {Y : Type 0} (test : Y → Bool) (ys : List Y) → find test ys ≡ None → All (λ y. test y ≡ false) ys
-  none_passes {Y} test [] none = All-nil (λ (y : Y). test y ≡ false)
-  none_passes {Y} test (y ∷ ys) none = elim (cases_Bool (test y)) [
-    | inl is ↦ let t : Some y ≡ None = subst (λ b. ◌≡◌ (if b then Some y else find test ys) None) is none in absurd cc
-    | inr fails ↦ All-cons (λ (z : Y). test z ≡ false) y ys fails
-        (none_passes test ys (subst (λ b. ◌≡◌ (if b then Some y else find test ys) None) fails none))
-  ]
+      none_passes : {Y : Type 0} (test : Y → Bool) (ys : List Y) → find test ys ≡ None → All (λ y. test y ≡ false) ys
+      none_passes {Y} test [] none = All-nil (λ (y : Y). test y ≡ false)
+      none_passes {Y} test (y ∷ ys) none = elim (cases_Bool (test y)) [
+        | inl is ↦ let t : Some y ≡ None = subst (λ b. ◌≡◌ (if b then Some y else find test ys) None) is none in absurd cc
+        | inr fails ↦ All-cons (λ (z : Y). test z ≡ false) y ys fails
+            (none_passes test ys (subst (λ b. ◌≡◌ (if b then Some y else find test ys) None) fails none))
+      ]
 
 -- ---- and it tells
 
@@ -428,9 +426,9 @@ all_idle part objects (key ∷ keys) [] before idle = absurd before
 all_idle part objects (key ∷ keys) (looked ∷ lookeds) before idle = elim (cases_Bool (is_asked part looked)) [
   | inl asked ↦ let t : true ≡ false = subst (λ b. (b || list_any (is_asked part) lookeds) ≡ false) asked idle in absurd cc
   | inr not_asked ↦ (
-      idle_after part objects key looked before.0 not_asked,
-      all_idle part objects keys lookeds before.1 (subst (λ b. (b || list_any (is_asked part) lookeds) ≡ false) not_asked idle),
-    )
+    idle_after part objects key looked before.0 not_asked,
+    all_idle part objects keys lookeds before.1 (subst (λ b. (b || list_any (is_asked part) lookeds) ≡ false) not_asked idle),
+  )
 ]
 
 -- ---- and a key that is through with it is not asked about
@@ -485,15 +483,15 @@ calm_each l part mark why objects requests replies (key ∷ keys) (looked ∷ lo
     let rest = calm_each l part mark why objects requests replies keys lookeds distinct fits replied asks before.1 members.1 in
     elim (cases_Bool (is_asked part looked)) [
       | inl asked ↦ (
-          subst (λ b. IsAfter part objects key (if b then heard_from part key why found looked else looked)) (sym asked)
-              (from_calm l part mark why objects requests replies key looked found refl distinct fits replied asks before.0 asked (members.0 asked)),
-          rest,
-        )
+        subst (λ b. IsAfter part objects key (if b then heard_from part key why found looked else looked)) (sym asked)
+            (from_calm l part mark why objects requests replies key looked found refl distinct fits replied asks before.0 asked (members.0 asked)),
+        rest,
+      )
       | inr idle ↦ (
-          subst (λ b. IsAfter part objects key (if b then heard_from part key why found looked else looked)) (sym idle)
-              (idle_after part objects key looked before.0 idle),
-          rest,
-        )
+        subst (λ b. IsAfter part objects key (if b then heard_from part key why found looked else looked)) (sym idle)
+            (idle_after part objects key looked before.0 idle),
+        rest,
+      )
     ]
 
 pub calm_after : LookLaws → (part : Part) (mark : List ℕ) (why : Why) (objects : List Object) (requests : List Request) (replies : List Reply)

@@ -1,5 +1,6 @@
 -- How far a look has come with a key after a message, by what the replies say.
-use Rattle.std.proofs.Common.{◌≡◌, ◌≤◌, ◌<◌, ℕ, Bool, true, false, ◌&&◌, ◌||◌, not, nat_lt, ◌==◌, ⊤, List, [], ◌∷◌, length, map, Option, Some, None, Result, Ok, Err, refl, sym, ap, subst, ◌∙◌, inl, inr, ◌⊎◌, arith, if◌then◌else◌}
+use Rattle.std.proofs.Common.{◌≡◌, ◌≤◌, ◌<◌, ℕ, Bool, true, false, ◌&&◌, ◌||◌, not, nat_lt, ◌==◌, List, [], ◌∷◌, length, map, Option, Some, None, Result, Ok, Err, refl, sym, ap, subst, ◌∙◌, inl, inr, ◌⊎◌, arith, if◌then◌else◌}
+use Rattle.std.specs.Bool.{⊤}
 use Rattle.std.proofs.lemmas.Bool.{and_parts, cases_Bool, ltb-true}
 use Rattle.std.proofs.lemmas.List.Elements.{All-contains, Contains-append_right}
 use Rattle.std.proofs.lemmas.Option.{same_Some}
@@ -62,7 +63,7 @@ made_of looked known shown is so =
 
 not_both : (part : Part) (phase : Phase) (clash refused : Bool) → (tells phase || clash) ≡ true → (is_in part phase && not clash && not refused) ≡ true → ⊥
 not_both part phase true refused told asked =
-    let open : not true ≡ true = (and_parts (is_in part phase) (not true) (and_parts (is_in part phase && not true) (not refused) asked).0).1 in
+    let unclashed : not true ≡ true = (and_parts (is_in part phase) (not true) (and_parts (is_in part phase && not true) (not refused) asked).0).1 in
     absurd cc
 not_both part phases.Look false refused told asked = absurd cc
 not_both part phases.Check false refused told asked = absurd cc

@@ -1,13 +1,15 @@
 -- What a message, a part, a group and a whole look do to the past.
-use Rattle.std.proofs.Common.{◌≡◌, ◌≤◌, ◌<◌, ℕ, ◌+◌, ◌*◌, Bool, true, false, ◌||◌, not, nat_le, if◌then◌else◌, ⊤, List, [], ◌∷◌, ◌++◌, length, map, Option, Some, None, Result, Ok, Err, IfOk, OnOk, refl, sym, ap, subst, ◌∙◌, inl, inr, ◌⊎◌, arith, append-nil, append_assoc}
-use Rattle.std.proofs.lemmas.Bool.{cases_Bool, le-leb}
-use Rattle.std.proofs.lemmas.List.{length-append}
+use Rattle.std.proofs.Common.{◌≡◌, ◌≤◌, ◌<◌, ℕ, zero, suc, min, take, drop, ◌+◌, ◌*◌, Bool, true, false, ◌||◌, not, nat_le, if◌then◌else◌, List, [], ◌∷◌, ◌++◌, length, map, Option, Some, None, Result, Ok, Err, IfOk, OnOk, refl, sym, ap, subst, ◌∙◌, inl, inr, ◌⊎◌, arith, eq-eqb, ◌==◌, append-nil, append_assoc}
+use Rattle.std.specs.Bool.{⊤}
+use Rattle.std.proofs.lemmas.Bool.{and_from, and_parts, cases_Bool, eqb-true, le-leb, leb-true}
+use Rattle.std.proofs.lemmas.List.{length-append, take-append-drop}
 use Rattle.std.proofs.lemmas.List.Elements.{All-append, All-cons, All-contains, All-contains_itself, All-head, All-nil, All-tail, All-weaker, Contains-append_left, Contains-append_right}
 use Rattle.std.specs.List.{All, AllZip, Contains, list_any}
 use Rattle.kmip_objects.specs.Objects.{Object, DistinctUids}
 use Rattle.kmip_batch_items.specs.BatchItems.{answer_fits}
 use Rattle.kmip_batch_items.specs.declared.reply.Reply.{Reply}
 use Rattle.kmip_batch_items.specs.declared.request.Request.{Request}
+use Rattle.kmip_messages.specs.Members.{may_have}
 use Rattle.kmip_messages.specs.Items.{parts_in, replies_in, requests_in, stops_in}
 use Rattle.kmip_plan.specs.declared.key.Key.{Key}
 use Rattle.kmip_client.specs.Knowledge.{fresh_knowledge}
@@ -196,11 +198,11 @@ goes_by l names part mark why requests replies keys olds news old new asked fits
                 (each_at ⊤ (λ key uid. ⊤) (λ key. WasSo names start new key) part mark why replies keys olds
                 (λ key reply there answers. (
                   elim (All-contains (IsMarkedTrue names mark start new) replies reply true_so there (part_number part) key.attrs.name
-                  (answer_id (part_number part) (id_of part mark key) reply answers)) [
-                    | inl (reason, failed) ↦ teaches_failed (λ uid. ⊤) (WasSo names start new key) key reply.outcome reason failed
-                    | inr (moment, before, after, says) ↦
-                        teaches_so key moment.objects reply.outcome (WasSo names start new key) (λ looked stands. (moment, before, after, stands)) says
-                  ],
+                      (answer_id (part_number part) (id_of part mark key) reply answers)) [
+                        | inl (reason, failed) ↦ teaches_failed (λ uid. ⊤) (WasSo names start new key) key reply.outcome reason failed
+                        | inr (moment, before, after, says) ↦
+                            teaches_so key moment.objects reply.outcome (WasSo names start new key) (λ looked stands. (moment, before, after, stands)) says
+                      ],
                   All-contains (λ r. answer_fits r ≡ true) replies reply fits there,
                 ))
                 (were_later names start old new keys olds on were)),
@@ -379,9 +381,11 @@ far_next names mark keys rest group later lookeds more start now new parts far s
       later = moments.onward far.later looks.later;
       so = λ fresh.
           let before = far.so fresh in
-          let after = looks.so start before.0 in
-          (after.0, zip_more (λ key. IsAt ⊤ (λ uid. ⊤) (WasSo names start new key)) far.front group lookeds more
-          (were_later names start now new far.front lookeds looks.later before.1) after.1);
+          let after = looks.so start before.0 in (
+            after.0,
+            zip_more (λ key. IsAt ⊤ (λ uid. ⊤) (WasSo names start new key)) far.front group lookeds more
+                (were_later names start now new far.front lookeds looks.later before.1) after.1,
+          );
       sends = sends_on keys mark (8 * length far.front) 8 (8 * length (far.front ++ group)) start now new (omega (arith, many, some)) far.sends
           (sends keys (group_within far.front group later keys is));
     }
@@ -468,8 +472,18 @@ group_calm keys olds news might may old new many all goes = record {
   comes = λ on distinct. goes.comes distinct (unasked_before old.objects keys olds many all);
 }
 
-pub group_idle : (keys : List Key) (lookeds : List Looked) (p : Past) → GroupsCalmly keys lookeds false false p p
-group_idle keys lookeds p = record { same = same_nowhere p; comes = λ on distinct. absurd cc }
+pub group_idle : (keys : List Key) (lookeds : List Looked) (might : Bool) (p : Past) → might ≡ false → GroupsCalmly keys lookeds might might p p
+group_idle keys lookeds might p idle = record {
+  same = same_nowhere p;
+  comes = λ on distinct. let t : true ≡ false = sym on ∙ idle in absurd cc;
+}
+
+pub group_left : (names : Names) (mark : List ℕ) (keys : List Key) (lookeds : List Looked) (p : Past) → length lookeds ≡ length keys
+    → All (λ looked. looked ≡ unasked) lookeds → LooksAt names mark keys lookeds p p
+group_left names mark keys lookeds p many all = record {
+  later = nothing_later names p;
+  so = λ start kept. (kept, unasked_so names start p keys lookeds many all);
+}
 
 -- ---- the tries of a part, over a calm link
 
@@ -573,3 +587,36 @@ zip_length R (x ∷ xs) (y ∷ ys) zip = let rest = zip_length R xs ys zip.1 in 
 
 pub shaped_many : (keys : List Key) (lookeds : List Looked) → AreShaped keys lookeds → length lookeds ≡ length keys
 shaped_many keys lookeds at = zip_length (λ (key : Key). IsAt ⊤ (λ uid. ⊤) (λ looked. ⊤)) keys lookeds at
+
+-- ---- counts
+
+pub some_left : {A : Type 0} (n : ℕ) (xs : List A) → (n == 0) ≡ false → n ≡ length xs → 1 ≤ length xs
+some_left n [] is same =
+    let zero : n ≡ 0 = omega (arith, same) in
+    let t : true ≡ false = sym (eq-eqb n 0 zero) ∙ is in absurd cc
+some_left n (x ∷ xs) is same = omega arith
+
+pub none_left : {A : Type 0} (n : ℕ) (xs : List A) → (n == 0) ≡ true → n ≡ length xs → xs ≡ []
+none_left n [] is same = refl
+none_left n (x ∷ xs) is same = let zero = eqb-true n 0 is in absurd (omega (arith, zero, same))
+
+pub one_left : (n : ℕ) → false ≡ (n == 0) → 1 ≤ n
+one_left zero is = absurd cc
+one_left (suc n) is = omega arith
+
+pub joined : {A : Type 0} (n : ℕ) (xs front back : List A) → front ≡ take n xs → back ≡ drop n xs → front ++ back ≡ xs
+joined n xs front back is so = ap (λ ys. ys ++ back) is ∙ ap (λ zs. take n xs ++ zs) so ∙ take-append-drop n xs
+
+-- how many keys a group has
+pub group_size : (batch left n size : ℕ) → may_have batch ≡ true → false ≡ (left == 0) → n ≡ min batch left → size ≡ n → (may_have size ≡ true) × (1 ≤ size)
+group_size batch left n size many some is same =
+    let low : 1 ≤ batch = leb-true 1 batch (and_parts (nat_le 1 batch) (nat_le batch 8) many).0 in
+    let high : batch ≤ 8 = leb-true batch 8 (and_parts (nat_le 1 batch) (nat_le batch 8) many).1 in
+    let there : 1 ≤ left = one_left left some in
+    let within : 1 ≤ size = omega (arith, low, there, is, same) in
+    let under : size ≤ 8 = omega (arith, high, is, same) in
+    (and_from (nat_le 1 size) (nat_le size 8) (le-leb 1 size within) (le-leb size 8 under), within)
+
+pub none_there : {A : Type 0} (xs : List A) → true ≡ (length xs == 0) → xs ≡ []
+none_there [] is = refl
+none_there (x ∷ xs) is = let zero = eqb-true (length (x ∷ xs)) 0 (sym is) in absurd (omega (arith, zero))

@@ -84,8 +84,9 @@ pub record TellsAll (keys : List Key) (lookeds : List Looked) (old new : Past) :
 pub record LooksCalmly {A : Type 0} (items : A → List Looked) (names : Names) (keys : List Key) (old : Seen) (result : Result A NoMemory) (new : Seen) : Type 0 where
   -- The link is calm for these names after it.
   pub still : new.calm names
-  -- Unless memory ran out, the objects are as they were, and nothing took effect.
+  -- Unless memory ran out, the objects are as they were.
   pub objects : OnOk result (new.past.objects ≡ old.past.objects)
+  -- Unless memory ran out, nothing took effect.
   pub effects : OnOk result (new.past.effects ≡ old.past.effects)
   -- Where no two objects have one identifier, it is told of each key how it stands over these objects, in at
   -- most two messages for each.

@@ -66,8 +66,10 @@ pub(crate) fn requests_of(
 {
     let mut requests = Vec::with_capacity(alloc, keys.len())?;
     for place in 0..keys.len() {
-        if is_asked(part, &lookeds[place]) {
-            requests.push(request_of(alloc, part, mark, &keys[place], &lookeds[place])?)?;
+        let key = &keys[place];
+        let looked = &lookeds[place];
+        if is_asked(part, looked) {
+            requests.push(request_of(alloc, part, mark, key, looked)?)?;
         }
     }
     Ok(requests)

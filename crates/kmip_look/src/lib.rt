@@ -1,4 +1,4 @@
-//! How the keys of a plan stand on a server now, by questions that change nothing.
+//! How the keys of a plan stand on a server, by questions that change nothing.
 //!
 //! It asks Locate and Get Attributes alone, and learns of their answers what a client would learn that knew
 //! nothing before. It keeps nothing, and a run uses nothing of it.

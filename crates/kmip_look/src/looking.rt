@@ -54,7 +54,7 @@ pub fn look<L: Link, P: Pause>(
     // The mark has at most 16 bytes.
     requires mark { length mark.now ≤ 16 }
     // It looks at each key of the plan, and what it says of them was so.
-    ensures looks { Looks (λ v. v.items) plan.now mark.now (L.seen link.old) result
+    ensures { Looks (λ v. v.items) plan.now mark.now (L.seen link.old) result
         (L.seen link.new) }
 {
     look_each(alloc, plan.keys(), link, mark, batch, pause)
@@ -75,7 +75,7 @@ fn look_each<L: Link, P: Pause>(
     requires batch { IsTrue (may_have batch) }
     requires mark { length mark.now ≤ 16 }
     requires fit { AreFit keys.now }
-    ensures looks { Looks (λ v. v.items) keys.now mark.now (L.seen link.old) result
+    ensures { Looks (λ v. v.items) keys.now mark.now (L.seen link.old) result
         (L.seen link.new) }
 {
     let mut lookeds = Vec::with_capacity(alloc, keys.len())?;
@@ -116,9 +116,11 @@ fn look_group<L: Link, P: Pause>(
         (L.seen link.old).past (L.seen link.new).past) }
 {
     let mut lookeds = all_unasked(alloc, keys.len())?;
-    if *goes_on {
-        *goes_on = ask_group(alloc, keys, link, mark, pause, &mut lookeds)?;
+    if !*goes_on {
+        return Ok(lookeds);
     }
+    let more = ask_group(alloc, keys, link, mark, pause, &mut lookeds)?;
+    *goes_on = more;
     Ok(lookeds)
 }
 
@@ -160,7 +162,8 @@ fn ask_group<L: Link, P: Pause>(
         × IfOk result (λ goes_on. GoesThrough Part.Find Part.Tell 2 keys.now lookeds.old.items
         lookeds.new.items goes_on (L.seen link.old).past (L.seen link.new).past) }
 {
-    if !ask_part(alloc, Part::Find, keys, link, mark, pause, lookeds)? {
+    let goes_on = ask_part(alloc, Part::Find, keys, link, mark, pause, lookeds)?;
+    if !goes_on {
         return Ok(false);
     }
     ask_part(alloc, Part::Tell, keys, link, mark, pause, lookeds)

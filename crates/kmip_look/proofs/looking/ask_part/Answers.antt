@@ -1,5 +1,5 @@
 -- Each try sends one message more; over a calm link the first one is enough.
-use Rattle.std.proofs.Common.{◌≡◌, ◌<◌, ◌≤◌, sym, subst, ap, ◌∙◌, arith}
+use Rattle.std.proofs.Common.{◌≡◌, ◌+◌, true, false, ◌<◌, ◌≤◌, sym, subst, ap, ◌∙◌, arith}
 use Rattle.std.specs.List.{list_any}
 use Rattle.std.proofs.lemmas.List.Elements.{All-contains_itself}
 use Rattle.std.proofs.lemmas.Result.{err_from_is_err_and}
@@ -57,9 +57,11 @@ pub returns-then-not-is_any_asked-clause-calmly : goal.returns-then-not-is_any_a
 returns-then-not-is_any_asked-clause-calmly g c = λ names calm.
     let (before, tried) = c.loop-tried.invariant.calm names calm in
     let idle : list_any (is_asked c.args.part) c.loop-tried.lookeds.items ≡ false =
-    ap (list_any (is_asked c.args.part)) (sym c.as_slice.ensures.value) ∙ sym c.is_any_asked.ensures ∙ c.if-not-is_any_asked.true in
-    (before, tried_idle c.args.part c.loop-tried.tried c.args.keys.now c.args.lookeds.now.items c.loop-tried.lookeds.items (g.L.Link.seen c.args.link.now).past
-    (g.L.Link.seen c.loop-tried.link).past idle tried)
+    ap (list_any (is_asked c.args.part)) (sym c.as_slice.ensures.value) ∙ sym c.is_any_asked.ensures ∙ c.if-not-is_any_asked.true in (
+      before,
+      tried_idle c.args.part c.loop-tried.tried c.args.keys.now c.args.lookeds.now.items c.loop-tried.lookeds.items (g.L.Link.seen c.args.link.now).past
+          (g.L.Link.seen c.loop-tried.link).past idle tried,
+    )
 
 pub returns-in_err-ask_once-clause-honestly : goal.returns-in_err-ask_once-clause-honestly
 returns-in_err-ask_once-clause-honestly g c = λ names honest.
@@ -90,6 +92,27 @@ returns-clause-honestly g c = λ names honest.
 
 pub returns-clause-calmly : goal.returns-clause-calmly
 returns-clause-calmly g c = λ names calm.
+    let (before, tried) = c.loop-tried.invariant.calm names calm in (
+      before,
+      tried_all c.args.part c.loop-tried.tried c.args.keys.now c.args.lookeds.now.items c.loop-tried.lookeds.items (g.L.Link.seen c.args.link.now).past
+          (g.L.Link.seen c.loop-tried.link).past (omega (arith, c.loop-tried-test.false)) tried,
+    )
+
+pub returns-then-not-again-clause-honestly : goal.returns-then-not-again-clause-honestly
+returns-then-not-again-clause-honestly g c = λ names honest.
+    let (before, sends, goes) = c.loop-tried.invariant.honest names honest in (
+      before,
+      λ plan planned. sends_within plan c.args.mark.now c.loop-tried.tried 4 (g.L.Link.seen c.args.link.now).past (g.L.Link.seen c.loop-tried.link).past
+          (omega (arith, c.loop-tried-test.true)) (sends plan planned),
+      goes,
+    )
+
+pub returns-then-not-again-clause-calmly : goal.returns-then-not-again-clause-calmly
+returns-then-not-again-clause-calmly g c = λ names calm.
     let (before, tried) = c.loop-tried.invariant.calm names calm in
-    (before, tried_all c.args.part c.loop-tried.tried c.args.keys.now c.args.lookeds.now.items c.loop-tried.lookeds.items (g.L.Link.seen c.args.link.now).past
-    (g.L.Link.seen c.loop-tried.link).past (omega (arith, c.loop-tried-test.false)) tried)
+    let any : list_any (is_asked c.args.part) c.loop-tried.lookeds.items ≡ true =
+    ap (list_any (is_asked c.args.part)) (sym c.as_slice.ensures.value) ∙ sym c.is_any_asked.ensures ∙ c.if-not-is_any_asked.false in (
+      before,
+      tried_stopped c.args.part c.loop-tried.tried c.args.keys.now c.args.lookeds.now.items c.loop-tried.lookeds.items (g.L.Link.seen c.args.link.now).past
+          (g.L.Link.seen c.loop-tried.link).past any (omega arith) tried,
+    )

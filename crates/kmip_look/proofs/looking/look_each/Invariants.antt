@@ -15,5 +15,5 @@ invariant-loop-rest g l = record {
       × CalmSoFar l.keys l.rest l.lookeds.items l.goes_on (g.L.Link.seen l.initial.link).past (g.L.Link.seen l.link).past;
 }
 
-abbrev pub measure-loop-rest : goal.measure-loop-rest
-measure-loop-rest g l = length l.rest
+abbrev pub decreases-loop-rest : goal.decreases-loop-rest
+decreases-loop-rest g l = length l.rest

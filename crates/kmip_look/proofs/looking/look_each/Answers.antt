@@ -1,0 +1,165 @@
+-- One group after the other.
+use Rattle.std.proofs.Common.{◌≡◌, ◌≤◌, ◌+◌, ◌*◌, ◌++◌, true, [], length, sym, subst, ap, ◌∙◌, arith}
+use Rattle.std.proofs.lemmas.List.{length-append}
+use Rattle.std.proofs.lemmas.List.Elements.{All-drop, All-take}
+use Rattle.std.proofs.lemmas.Result.{err_from_is_err_and}
+use Rattle.kmip_plan.specs.Plans.{key_fits}
+use Rattle.kmip_plan.specs.declared.key.Key.{Key}
+use Rattle.kmip_look.specs.PrivateKeeping.{AreFit}
+use Rattle.kmip_look.proofs.PastLemmas.{CalmSoFar, SoFar, calm_first, calm_next, calm_told, far_broken, far_first, far_next, far_said, far_sent, group_size, joined, none_there, one_left, sends_none}
+use Rattle.kmip_look.proofs.looking.look_each.Goals as goal
+
+pub loop-rest-init : goal.loop-rest-init
+loop-rest-init g c =
+    let none : c.in_ok-lookeds.lookeds.items ≡ [] = c.in_ok-lookeds.ensures.items in
+    let p = (g.L.Link.seen c.args.link.now).past in
+    record {
+      fit = c.requires.fit;
+      many = let zero = ap length none in omega (arith, zero);
+      honest = λ names honest. (
+        honest,
+        subst (λ ls. SoFar names c.args.mark.now c.args.keys.now c.args.keys.now ls p p) (sym none) (far_first names c.args.mark.now c.args.keys.now p),
+      );
+      calm = λ names calm. (calm, subst (λ ls. CalmSoFar c.args.keys.now c.args.keys.now ls true p p) (sym none) (calm_first c.args.keys.now p));
+    }
+
+pub look_group-requires-clause-many : goal.look_group-requires-clause-many
+look_group-requires-clause-many g c =
+    (group_size c.args.batch (length c.loop-rest.rest.now) c.min.result (length c.split_at.result.0.now) c.requires.batch c.loop-rest-test.ensures c.min.ensures
+    c.split_at.ensures.front_len).0
+
+pub look_group-requires-clause-fit : goal.look_group-requires-clause-fit
+look_group-requires-clause-fit g c =
+    subst AreFit (sym c.split_at.ensures.front) (All-take (λ (key : Key). key_fits key ≡ true) c.min.result c.loop-rest.rest.now c.loop-rest.invariant.fit)
+
+pub loop-rest-smaller : goal.loop-rest-smaller
+loop-rest-smaller g c =
+    let some =
+    (group_size c.args.batch (length c.loop-rest.rest.now) c.min.result (length c.split_at.result.0.now) c.requires.batch c.loop-rest-test.ensures c.min.ensures
+    c.split_at.ensures.front_len).1 in
+    omega (arith, some, c.split_at.ensures.front_len, c.split_at.ensures.back_len)
+
+pub loop-rest-preserved : goal.loop-rest-preserved
+loop-rest-preserved g c =
+    let keys = c.args.keys.now in
+    let mark = c.args.mark.now in
+    let rest = c.loop-rest.rest.now in
+    let group = c.split_at.result.0.now in
+    let later = c.split_at.result.1.now in
+    let lookeds = c.loop-rest.lookeds.items in
+    let looked = c.in_ok-looked.looked.items in
+    let start = (g.L.Link.seen c.args.link.now).past in
+    let now = (g.L.Link.seen c.loop-rest.link).past in
+    let new = (g.L.Link.seen c.look_group.new.link).past in
+    let parts : group ++ later ≡ rest = joined c.min.result rest group later c.split_at.ensures.front c.split_at.ensures.back in
+    let some : 1 ≤ length group =
+    (group_size c.args.batch (length rest) c.min.result (length group) c.requires.batch c.loop-rest-test.ensures c.min.ensures c.split_at.ensures.front_len).1 in
+    let items : c.append.new.self.items ≡ lookeds ++ looked = c.in_ok-append.ensures.items in
+    record {
+      fit = subst AreFit (sym c.split_at.ensures.back) (All-drop (λ (key : Key). key_fits key ≡ true) c.min.result rest c.loop-rest.invariant.fit);
+      many =
+          let longer = ap length items in
+          let both = length-append lookeds looked in
+          omega (arith, longer, both, c.in_ok-looked.ensures.as_many, c.split_at.ensures.front_len, c.split_at.ensures.back_len, c.loop-rest.invariant.many);
+      honest = λ names honest.
+          let (before, far) = c.loop-rest.invariant.honest names honest in
+          let (still, sends, looks) = c.in_ok-looked.ensures.honestly names before in (
+            still,
+            subst (λ ls. SoFar names mark keys later ls start new) (sym items)
+                (far_next names mark keys rest group later lookeds looked start now new parts far some sends looks),
+          );
+      calm = λ names calm.
+          let (before, far) = c.loop-rest.invariant.calm names calm in
+          let (still, goes) = c.in_ok-looked.ensures.calmly names before in (
+            still,
+            subst (λ ls. CalmSoFar keys later ls c.look_group.new.goes_on start new) (sym items)
+                (calm_next keys rest group later lookeds looked c.loop-rest.goes_on c.look_group.new.goes_on start now new parts some far goes),
+          );
+    }
+
+pub returns-in_err-lookeds : goal.returns-in_err-lookeds
+returns-in_err-lookeds g c =
+    let fault = err_from_is_err_and c.from_residual.result c.from_residual.ensures.1 in
+    rw fault.1 (record {
+      as_many = tt;
+      honestly = λ names honest. record {
+        still = honest;
+        asks_looks = sends_none c.args.keys.now c.args.mark.now (8 * length c.args.keys.now) (g.L.Link.seen c.args.link.now).past;
+        since = λ fresh. tt;
+      };
+      calmly = λ names calm. record { still = calm; objects = tt; effects = tt; stand = λ distinct. tt };
+    })
+
+pub returns-in_err-looked : goal.returns-in_err-looked
+returns-in_err-looked g c =
+    let rest = c.loop-rest.rest.now in
+    let group = c.split_at.result.0.now in
+    let later = c.split_at.result.1.now in
+    let fault = err_from_is_err_and c.from_residual-in_err-looked.result c.from_residual-in_err-looked.ensures.1 in
+    rw fault.1 (record {
+      as_many = tt;
+      honestly = λ names honest.
+          let (before, far) = c.loop-rest.invariant.honest names honest in
+          let all = c.look_group.ensures.honestly names before in
+          record {
+            still = all.0;
+            asks_looks = far_broken names c.args.mark.now c.args.keys.now rest group later c.loop-rest.lookeds.items (g.L.Link.seen c.args.link.now).past
+                (g.L.Link.seen c.loop-rest.link).past (g.L.Link.seen c.look_group.new.link).past
+                (joined c.min.result rest group later c.split_at.ensures.front c.split_at.ensures.back) far (one_left (length rest) c.loop-rest-test.ensures) all.1;
+            since = λ fresh. tt;
+          };
+      calmly = λ names calm.
+          let (before, far) = c.loop-rest.invariant.calm names calm in
+          record { still = (c.look_group.ensures.calmly names before).0; objects = tt; effects = tt; stand = λ distinct. tt };
+    })
+
+pub returns-in_err-append : goal.returns-in_err-append
+returns-in_err-append g c =
+    let rest = c.loop-rest.rest.now in
+    let group = c.split_at.result.0.now in
+    let later = c.split_at.result.1.now in
+    let fault = err_from_is_err_and c.from_residual-in_err-append.result c.from_residual-in_err-append.ensures.1 in
+    rw fault.1 (record {
+      as_many = tt;
+      honestly = λ names honest.
+          let (before, far) = c.loop-rest.invariant.honest names honest in
+          let all = c.look_group.ensures.honestly names before in
+          record {
+            still = all.0;
+            asks_looks = far_broken names c.args.mark.now c.args.keys.now rest group later c.loop-rest.lookeds.items (g.L.Link.seen c.args.link.now).past
+                (g.L.Link.seen c.loop-rest.link).past (g.L.Link.seen c.look_group.new.link).past
+                (joined c.min.result rest group later c.split_at.ensures.front c.split_at.ensures.back) far (one_left (length rest) c.loop-rest-test.ensures) all.1;
+            since = λ fresh. tt;
+          };
+      calmly = λ names calm.
+          let (before, far) = c.loop-rest.invariant.calm names calm in
+          record { still = (c.look_group.ensures.calmly names before).0; objects = tt; effects = tt; stand = λ distinct. tt };
+    })
+
+pub returns : goal.returns
+returns g c =
+    let keys = c.args.keys.now in
+    let mark = c.args.mark.now in
+    let rest = c.loop-rest.rest.now in
+    let lookeds = c.loop-rest.lookeds.items in
+    let start = (g.L.Link.seen c.args.link.now).past in
+    let now = (g.L.Link.seen c.loop-rest.link).past in
+    let none : rest ≡ [] = none_there rest c.loop-rest-test.ensures in
+    record {
+      as_many = let empty = ap length none in omega (arith, empty, c.loop-rest.invariant.many);
+      honestly = λ names honest.
+          let (before, far) = c.loop-rest.invariant.honest names honest in
+          record {
+            still = before;
+            asks_looks = far_sent names mark keys rest lookeds start now far;
+            since = λ fresh. far_said names mark keys rest lookeds start now none far fresh;
+          };
+      calmly = λ names calm.
+          let (before, far) = c.loop-rest.invariant.calm names calm in
+          record {
+            still = before;
+            objects = far.same.objects;
+            effects = far.same.effects;
+            stand = λ distinct. calm_told keys rest lookeds c.loop-rest.goes_on start now none far distinct;
+          };
+    }
