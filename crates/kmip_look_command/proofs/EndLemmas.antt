@@ -1,5 +1,5 @@
 -- How the program ends after a look, and what was appended in memory.
-use Rattle.std.proofs.Common.{◌≡◌, ◌≢◌, ℕ, Bool, true, false, List, Option, Some, Result, Ok, Err, IfErr, IfOk, refl, sym, subst, ◌∙◌}
+use Rattle.std.proofs.Common.{◌≡◌, ◌≢◌, ℕ, Bool, true, false, List, Option, Some, Result, Ok, Err, IfErr, IfOk, sym, subst, ◌∙◌}
 use Rattle.kmip_ttlv.specs.declared.no_memory.NoMemory.{NoMemory as Lack}
 use Rattle.kmip_message_commands.proofs.ForCallers.{fails_in_memory}
 use Rattle.kmip_message_commands.specs.Private.{Fails}

@@ -1,5 +1,5 @@
 -- A look of which the result holds a list in some form is one of which the result is the list.
-use Rattle.std.proofs.Common.{ℕ, List, Result, Ok, Err}
+use Rattle.std.proofs.Common.{ℕ, List, Ok, Err}
 use Rattle.kmip_ttlv.specs.declared.no_memory.NoMemory.{NoMemory}
 use Rattle.kmip_plan.specs.declared.key.Key.{Key}
 use Rattle.kmip_protocol.specs.Past.{Names}
