@@ -5,3 +5,4 @@ pub mod AskedLemmas
 pub mod CalmLemmas
 pub mod PastLemmas
 pub mod AloneLemmas
+pub mod GroupLemmas

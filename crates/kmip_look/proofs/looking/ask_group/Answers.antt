@@ -3,6 +3,7 @@ use Rattle.std.proofs.Common.{subst, arith}
 use Rattle.std.proofs.lemmas.Result.{err_from_is_err_and}
 use Rattle.kmip_look.specs.PrivateKeeping.{GoesThrough}
 use Rattle.kmip_look.specs.declared.part.Part.TheVariants.{Find}
+use Rattle.kmip_look.specs.declared.looking.TheConstants.{MOST_TRIES}
 use Rattle.kmip_look.proofs.PastLemmas.{goes_on, if_ok, on_ok, sends_on, sends_within, through_both, through_first}
 use Rattle.kmip_look.proofs.looking.ask_group.Goals as goal
 
@@ -12,7 +13,7 @@ returns-in_err-goes_on-clause-honestly g c = λ names honest.
     let fault = err_from_is_err_and c.from_residual.result c.from_residual.ensures.1 in
     rw fault.1 (
       all.0,
-      λ plan planned. sends_within plan c.args.mark.now 4 8 (g.L.Link.seen c.args.link.now).past (g.L.Link.seen c.ask_part.new.link).past (omega arith)
+      λ plan planned. sends_within plan c.args.mark.now MOST_TRIES 8 (g.L.Link.seen c.args.link.now).past (g.L.Link.seen c.ask_part.new.link).past (omega arith)
           (all.1 plan planned),
       tt,
     )
@@ -26,7 +27,7 @@ pub returns-then-not-goes_on-clause-honestly : goal.returns-then-not-goes_on-cla
 returns-then-not-goes_on-clause-honestly g c = λ names honest.
     let (still, sends, goes) = c.in_ok-goes_on.ensures.honestly names honest in (
       still,
-      λ plan planned. sends_within plan c.args.mark.now 4 8 (g.L.Link.seen c.args.link.now).past (g.L.Link.seen c.ask_part.new.link).past (omega arith)
+      λ plan planned. sends_within plan c.args.mark.now MOST_TRIES 8 (g.L.Link.seen c.args.link.now).past (g.L.Link.seen c.ask_part.new.link).past (omega arith)
           (sends plan planned),
       goes,
     )
@@ -52,7 +53,7 @@ returns-clause-honestly g c = λ names honest.
     let q = (g.L.Link.seen c.ask_part.new.link).past in
     let r = (g.L.Link.seen c.ask_part-2.new.link).past in (
       end,
-      λ plan planned. sends_on plan c.args.mark.now 4 4 8 p q r (omega arith) (sends plan planned) (more plan planned),
+      λ plan planned. sends_on plan c.args.mark.now MOST_TRIES MOST_TRIES 8 p q r (omega arith) (sends plan planned) (more plan planned),
       on_ok c.ask_part-2.result
           (λ goes_too. goes_on names c.args.mark.now c.args.keys.now c.args.lookeds.now.items c.ask_part.new.lookeds.items c.ask_part-2.new.lookeds.items p q r
           goes goes_too)

@@ -4,6 +4,7 @@ use Rattle.std.specs.List.{list_any}
 use Rattle.std.proofs.lemmas.List.Elements.{All-contains_itself}
 use Rattle.std.proofs.lemmas.Result.{err_from_is_err_and}
 use Rattle.kmip_look.specs.PrivateAsking.{is_asked}
+use Rattle.kmip_look.specs.declared.looking.TheConstants.{MOST_TRIES}
 use Rattle.kmip_look.proofs.PastLemmas.{goes_nowhere, goes_on, sends_none, sends_on, sends_within, tried_all, tried_idle, tried_more, tried_none, tried_stopped}
 use Rattle.kmip_look.proofs.looking.ask_part.Goals as goal
 
@@ -48,7 +49,7 @@ pub returns-then-not-is_any_asked-clause-honestly : goal.returns-then-not-is_any
 returns-then-not-is_any_asked-clause-honestly g c = λ names honest.
     let (before, sends, goes) = c.loop-tried.invariant.honest names honest in (
       before,
-      λ plan planned. sends_within plan c.args.mark.now c.loop-tried.tried 4 (g.L.Link.seen c.args.link.now).past (g.L.Link.seen c.loop-tried.link).past
+      λ plan planned. sends_within plan c.args.mark.now c.loop-tried.tried MOST_TRIES (g.L.Link.seen c.args.link.now).past (g.L.Link.seen c.loop-tried.link).past
           (omega (arith, c.loop-tried-test.true)) (sends plan planned),
       goes,
     )
@@ -70,7 +71,7 @@ returns-in_err-ask_once-clause-honestly g c = λ names honest.
     let fault = err_from_is_err_and c.from_residual.result c.from_residual.ensures.1 in
     rw fault.1 (
       all.0,
-      λ plan planned. sends_on plan c.args.mark.now c.loop-tried.tried 1 4 (g.L.Link.seen c.args.link.now).past (g.L.Link.seen c.loop-tried.link).past
+      λ plan planned. sends_on plan c.args.mark.now c.loop-tried.tried 1 MOST_TRIES (g.L.Link.seen c.args.link.now).past (g.L.Link.seen c.loop-tried.link).past
           (g.L.Link.seen c.ask_once.new.link).past (omega (arith, c.loop-tried-test.true)) (sends plan planned) (all.1 plan planned),
       tt,
     )
@@ -85,7 +86,7 @@ pub returns-clause-honestly : goal.returns-clause-honestly
 returns-clause-honestly g c = λ names honest.
     let (before, sends, goes) = c.loop-tried.invariant.honest names honest in (
       before,
-      λ plan planned. sends_within plan c.args.mark.now c.loop-tried.tried 4 (g.L.Link.seen c.args.link.now).past (g.L.Link.seen c.loop-tried.link).past
+      λ plan planned. sends_within plan c.args.mark.now c.loop-tried.tried MOST_TRIES (g.L.Link.seen c.args.link.now).past (g.L.Link.seen c.loop-tried.link).past
           (omega (arith, c.loop-tried.auto.tried-end)) (sends plan planned),
       goes,
     )
@@ -102,7 +103,7 @@ pub returns-then-not-again-clause-honestly : goal.returns-then-not-again-clause-
 returns-then-not-again-clause-honestly g c = λ names honest.
     let (before, sends, goes) = c.loop-tried.invariant.honest names honest in (
       before,
-      λ plan planned. sends_within plan c.args.mark.now c.loop-tried.tried 4 (g.L.Link.seen c.args.link.now).past (g.L.Link.seen c.loop-tried.link).past
+      λ plan planned. sends_within plan c.args.mark.now c.loop-tried.tried MOST_TRIES (g.L.Link.seen c.args.link.now).past (g.L.Link.seen c.loop-tried.link).past
           (omega (arith, c.loop-tried-test.true)) (sends plan planned),
       goes,
     )

@@ -6,7 +6,8 @@ use Rattle.std.proofs.lemmas.Result.{err_from_is_err_and}
 use Rattle.kmip_plan.specs.Plans.{key_fits}
 use Rattle.kmip_plan.specs.declared.key.Key.{Key}
 use Rattle.kmip_look.specs.PrivateKeeping.{AreFit}
-use Rattle.kmip_look.proofs.PastLemmas.{CalmSoFar, SoFar, calm_first, calm_next, calm_told, far_broken, far_first, far_next, far_said, far_sent, group_size, joined, none_there, one_left, sends_none}
+use Rattle.kmip_look.proofs.GroupLemmas.{CalmSoFar, SoFar, calm_first, calm_next, calm_told, far_broken, far_first, far_next, far_said, far_sent, group_size, joined, none_there, one_left}
+use Rattle.kmip_look.proofs.PastLemmas.{sends_none}
 use Rattle.kmip_look.proofs.looking.look_each.Goals as goal
 
 pub loop-rest-init : goal.loop-rest-init

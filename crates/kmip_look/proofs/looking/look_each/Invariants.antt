@@ -2,7 +2,7 @@
 use Rattle.std.proofs.Common.{◌≡◌, ◌+◌, length}
 use Rattle.kmip_protocol.specs.Past.{Names}
 use Rattle.kmip_look.specs.PrivateKeeping.{AreFit}
-use Rattle.kmip_look.proofs.PastLemmas.{CalmSoFar, SoFar}
+use Rattle.kmip_look.proofs.GroupLemmas.{CalmSoFar, SoFar}
 use Rattle.kmip_look.proofs.looking.look_each.Given as goal
 
 abbrev pub invariant-loop-rest : goal.invariant-loop-rest

@@ -1,6 +1,7 @@
 -- A group is asked about where more may be asked, and else left.
 use Rattle.std.proofs.lemmas.Result.{err_from_is_err_and}
-use Rattle.kmip_look.proofs.PastLemmas.{group_asked, group_calm, group_idle, group_left, sends_none, shaped_many, unasked_at}
+use Rattle.kmip_look.proofs.GroupLemmas.{group_asked, group_calm, group_idle, group_left}
+use Rattle.kmip_look.proofs.PastLemmas.{sends_none, shaped_many, unasked_at}
 use Rattle.kmip_look.proofs.looking.look_group.Goals as goal
 
 pub ask_group-requires-clause-shaped : goal.ask_group-requires-clause-shaped
