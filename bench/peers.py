@@ -1,5 +1,5 @@
 #!/usr/bin/env python3
-"""Runs `kmipctl run` and `probe` against peers that do not do what a server does, and `kmipctl serve` with
+"""Runs `kmipctl run`, `look` and `probe` against peers that do not do what a server does, and `kmipctl serve` with
 clients that do not do what a client does.
 
     bench/peers.py PROGRAM FOLDER
@@ -249,6 +249,56 @@ class Peers:
         self.look('a Unix socket with no room for one more', (status == 1, status), (printed == WORKING, printed),
                   (len(waiting) < 100, len(waiting)), (2.9 < took < 4.5, took))
 
+    def look_at(self, port, *more):
+        """The exit status, what is printed and told, and the seconds that it takes."""
+        words = [self.program, 'look', '--plan', self.plan, '--connect', f'127.0.0.1:{port}', '--timeout', '1', *more]
+        start = time.monotonic()
+        done = subprocess.run(words, capture_output=True, text=True, timeout=60)
+        return done.returncode, done.stdout, done.stderr, time.monotonic() - start
+
+    def looks(self):
+        """A look asks each question four times at most, and says why nothing is told."""
+        untold = 'k1 active - not told: {}\nfinished 0 of 1\n'
+        for behaviour, why in ((talking_rubbish, 'no reply'), (closing_in_the_middle, 'no reply'),
+                               (answering_another_question, 'unreadable reply'),
+                               (answering_in_version_1_0, 'unreadable reply'),
+                               (answering_without_a_count, 'unreadable reply')):
+            status, printed, told, took = self.look_at(listening(behaviour))
+            self.look(f'a look at a peer that is {behaviour.__name__.replace("_", " ")}', (status == 1, status),
+                      (printed == untold.format(why), printed), (told == '', told), (took < 3, took))
+        for behaviour in (silent, dripping):
+            status, printed, told, took = self.look_at(listening(behaviour), '--give-up', '1')
+            self.look(f'a look that gives up at a peer that is {behaviour.__name__}', (status == 1, status),
+                      (printed == untold.format('no reply'), printed),
+                      (told == 'gave up: no answer came for 1 s\n', told), (took < 2.5, took))
+
+    def looks_amid_losses(self):
+        """Over a server whose first replies are lost: what is asked, and what is told of it."""
+        finished = 'k1 active 1 Active finished\nfinished 1 of 1\n'
+        server, port = self.serve('--connections', '1000000', '--verbose')
+        status, printed, told, _ = self.look_at(port)
+        self.look('a look at a new server', (status == 1, status), (told == '', told),
+                  (printed == 'k1 active - none to do: Create Activate\nfinished 0 of 1\n', printed))
+        self.forget()
+        self.run(('--connect', f'127.0.0.1:{port}'), '--limit', '2')
+        status, printed, told, _ = self.look_at(port, '--verbose')
+        self.look('a look at a key on its way', (status == 1, status),
+                  (printed == 'k1 active 1 PreActive to do: Activate\nfinished 0 of 1\n', printed),
+                  (told == 'Locate k1: found 1\nGet Attributes k1: 1 is Pre-Active, AES 256, usage encrypt, decrypt\n'
+                   or told.startswith('Locate k1: found 1\n'), told))
+        self.run(('--connect', f'127.0.0.1:{port}'))
+        for lost, count in (((), 2), ((1, 2, 3), 5), ((2, 3, 4), 5), ((1, 3), 4)):
+            losing = Losing(port, lost)
+            status, printed, told, _ = self.look_at(listening(losing))
+            self.look(f'a look at a finished key, with {len(lost)} replies lost', (status == 0, status),
+                      (printed == finished, printed), (told == '', told), (losing.count == count, losing.count))
+        losing = Losing(port, (2, 3, 4, 5))
+        status, printed, told, _ = self.look_at(listening(losing))
+        self.look('a look whose second question gets no reply', (status == 1, status),
+                  (printed == 'k1 active 1 not told: no reply\nfinished 0 of 1\n', printed), (losing.count == 5, losing.count))
+        server.kill()
+        server.wait()
+
     def probes(self):
         for behaviour in (silent, dripping, talking_rubbish, closing_in_the_middle):
             words = [self.program, 'probe', '--name-prefix', 'p', '--timeout', '1']
@@ -408,6 +458,8 @@ def main():
     peers.closing_peer()
     peers.no_peer()
     peers.full_socket()
+    peers.looks()
+    peers.looks_amid_losses()
     peers.probes()
     peers.unreadable_peers()
     peers.lost_looks()

@@ -158,11 +158,13 @@ class Process:
 class Command:
     """A command of KMIPCTL, over a file as standard input."""
 
-    def __init__(self, tools, words, source=None, shown=None):
+    def __init__(self, tools, words, source=None, shown=None, status=0):
         self.tools = tools
         self.words = [str(word) for word in words]
         self.source = source
         self.name = shown or " ".join(self.words)
+        # The exit status of the undisturbed run.
+        self.status = status
         self.undisturbed = None
         # How many runs did all else as undisturbed though a growth was refused, by why they may.
         self.excused = Counter()
@@ -178,7 +180,7 @@ class Command:
     def prepare(self):
         """Makes the undisturbed run."""
         self.undisturbed = self.run(None)
-        if self.undisturbed.status != 0 or self.undisturbed.output == "":
+        if self.undisturbed.status != self.status or self.undisturbed.output == "":
             raise Wrong(f"undisturbed: {self.undisturbed}")
 
     def judge(self, run, is_all):
@@ -468,6 +470,7 @@ def commands_of(tools):
         Carrying(tools, destroyed, "--verbose"),
         Carrying(tools, destroyed, begun=FINISHED, shown=", all done before"),
         Command(tools, ["list", "--plan", destroyed, "--progress", finished], shown="list"),
+        Command(tools, ["look", "--plan", plan, "--loopback"], shown="look --loopback", status=1),
         Command(tools, probe, shown="probe --loopback"),
         Serving(tools, messages),
     ]

@@ -10,10 +10,14 @@
 //! to an older copy, or removed. Then the storm ends: what was delayed is delivered or dropped, and one
 //! run more, with the plan's bound as its limit, has to finish all keys.
 //!
+//! Amid the runs of a plan `kmipctl look` asks how its keys stand. What it tells of a key never goes back, and
+//! is never a conflict; after the last run it tells each key as finished. No step is any look's.
+//!
 //! Of as many probes no line may say no; and where the proxy makes the server break a rule, its line may
 //! not say yes.
 
 mod breaker;
+mod looks;
 mod network;
 mod probes;
 mod runs;

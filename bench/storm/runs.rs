@@ -1,5 +1,6 @@
 //! Random plans, carried out in storms by runs that are killed and go on from old progress files.
 
+use crate::looks::Looks;
 use crate::network::{Shared, Weather};
 use std::collections::HashMap;
 use std::fs;
@@ -11,7 +12,7 @@ use std::thread;
 use std::time::Duration;
 
 /// The targets of a plan, and the operations that lead to each.
-const TARGETS: [(&str, &[u8]); 5] = [
+pub const TARGETS: [(&str, &[u8]); 5] = [
     ("created", &[0x01]),
     ("active", &[0x01, 0x12]),
     ("revoked", &[0x01, 0x12, 0x13]),
@@ -20,7 +21,7 @@ const TARGETS: [(&str, &[u8]); 5] = [
 ];
 
 /// A plan: the names of its keys, and the target of each.
-type Plan = Vec<(String, usize)>;
+pub type Plan = Vec<(String, usize)>;
 
 /// A random plan of one to six keys.
 fn random_plan(shared: &Shared, number: u64) -> Plan {
@@ -97,6 +98,7 @@ fn carry_plan(
     port: u16,
     plan: &Plan,
     tally: &mut Tally,
+    looks: &mut Looks,
 ) -> io::Result<()> {
     let progress = folder.join("progress");
     let _ = fs::remove_file(&progress);
@@ -105,6 +107,7 @@ fn carry_plan(
     shared.is_calm.store(false, Ordering::SeqCst);
     for _ in 0..2 + shared.below(6) {
         let mut run = start(shared, program, folder, port, 10_000)?;
+        looks.begin(shared, program, folder, port, plan)?;
         thread::sleep(Duration::from_micros(500 + shared.below(40_000)));
         if run.try_wait()?.is_some() {
             tally.ends += 1;
@@ -134,6 +137,7 @@ fn carry_plan(
             _ => {}
         }
     }
+    looks.end(plan)?;
     // The storm ends: what killed runs have sent comes to its end, and what was delayed.
     shared.end_storm()?;
     shared.is_calm.store(true, Ordering::SeqCst);
@@ -143,7 +147,7 @@ fn carry_plan(
         print!("{}", String::from_utf8_lossy(&output.stdout));
         tally.wrong += 1;
     }
-    Ok(())
+    looks.end_in_calm(shared, program, folder, port, plan)
 }
 
 /// The value of the first line of a shown item with this tag and type.
@@ -200,10 +204,11 @@ pub fn carry_plans(
     plans: u64,
 ) -> io::Result<u64> {
     let mut tally = Tally::default();
+    let mut looks = Looks::default();
     let mut all = Vec::new();
     for number in 0..plans {
         let plan = random_plan(shared, number);
-        carry_plan(shared, program, folder, port, &plan, &mut tally)?;
+        carry_plan(shared, program, folder, port, &plan, &mut tally, &mut looks)?;
         all.extend(plan);
     }
     let replies = shared.replies.lock().unwrap();
@@ -215,8 +220,13 @@ pub fn carry_plans(
             tally.wrong += 1;
         }
     }
+    if effects.len() != all.len() {
+        println!("wrong: steps of {} names, where the plans have {}", effects.len(), all.len());
+        tally.wrong += 1;
+    }
     report(shared, plans, all.len(), replies.len(), &tally);
-    Ok(tally.wrong)
+    println!("{} looks, {} keys told and {} not told", looks.made, looks.told, looks.untold);
+    Ok(tally.wrong + looks.wrong)
 }
 
 /// Says what went on.
