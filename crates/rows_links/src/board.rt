@@ -225,8 +225,8 @@ fn attrs_of(alloc: Global, name: &str, numbers: [Option<u32>; 5]) -> Result<Attr
         object_type,
         name: Some(name),
         algorithm,
-        length: length.map(|bits| bits as i32),
-        usage: usage.map(|mask| mask as i32),
+        length: length.and_then(|bits| i32::try_from(bits).ok()),
+        usage: usage.and_then(|mask| i32::try_from(mask).ok()),
         state,
     })
 }
