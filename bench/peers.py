@@ -260,7 +260,7 @@ class Peers:
         """A look asks each question four times at most, and says why nothing is told."""
         untold = 'k1 active - not told: {}\nfinished 0 of 1\n'
         for behaviour, why in ((talking_rubbish, 'no reply'), (closing_in_the_middle, 'no reply'),
-                               (answering_another_question, 'unreadable reply'),
+                               (answering_another_question, 'no reply'),
                                (answering_in_version_1_0, 'unreadable reply'),
                                (answering_without_a_count, 'unreadable reply')):
             status, printed, told, took = self.look_at(listening(behaviour))
