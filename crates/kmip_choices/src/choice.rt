@@ -54,6 +54,8 @@ pub enum Choice {
     Probe(ProbeOptions),
     /// Serve connections.
     Serve(ServeOptions),
+    /// Print the schema of plans.
+    PlanSchema,
 }
 
 /// How to answer, by whether the lines are pieces of a stream: `AnswerStream`, or else `Answer`.

@@ -1,5 +1,6 @@
 //! What `run` is to do.
 use crate::peer::Peer;
+use crate::report::Report;
 use crate::trust::Trust;
 
 /// What `run` is to do.
@@ -24,6 +25,12 @@ pub struct RunOptions {
     pub wait: u64,
     /// After how many seconds in which it did not get on the run gives up, up to a day; 0 for never.
     pub give_up: u64,
+    /// How many seconds it waits for a run that has the progress file, up to a day; 0 for not at all.
+    pub lock_wait: u64,
     /// Whether each exchange is told on standard error.
     pub is_verbose: bool,
+    /// In which form the end of the run is printed.
+    pub report: Report,
+    /// The path of the file of metrics, where one is to be written.
+    pub metrics: Option<String>,
 }

@@ -1,5 +1,5 @@
 -- Texts of steps and of keys, one after the other.
-use Rattle.std.proofs.Common.{◌≡◌, ◌≤◌, ◌<◌, ℕ, zero, suc, ◌+◌, List, [], ◌∷◌, ◌++◌, codes, decimal, Some, None, length, drop, get_or, refl, sym, ap, subst, ◌∙◌, arith, append_assoc, append-nil, add-one, drop-cons}
+use Rattle.std.proofs.Common.{◌≡◌, ◌≤◌, ◌<◌, ℕ, zero, suc, ◌+◌, List, [], ◌∷◌, ◌++◌, Some, None, length, drop, get_or, refl, sym, ap, subst, ◌∙◌, arith, append_assoc, append-nil, add-one, drop-cons}
 use Rattle.std.specs.List.{slice_get}
 use Rattle.std.proofs.lemmas.List.{drop_all}
 use Rattle.kmip_objects.specs.declared.step.Step.{Step}
@@ -8,7 +8,7 @@ use Rattle.kmip_plan.specs.declared.key.Key.{Key}
 use Rattle.kmip_plan.specs.declared.target.Target.{Target}
 use Rattle.kmip_client.specs.declared.verdict.Verdict.{Verdict}
 use Rattle.kmip_look.specs.declared.looked.Looked.{Looked}
-use Rattle.kmip_look_command.specs.LookText.{look_line, look_lines, step_text, steps_text, sum_text, verdict_on, verdicts_on}
+use Rattle.kmip_look_command.specs.LookText.{look_line, look_lines, step_text, steps_text, verdict_on, verdicts_on}
 
 -- ---- steps
 
@@ -74,8 +74,3 @@ pub no_verdict : (keys : List Key) (lookeds : List Looked) → length lookeds �
 no_verdict [] lookeds none = refl
 no_verdict (key ∷ keys) [] none = refl
 no_verdict (key ∷ keys) (looked ∷ lookeds) none = absurd cc
-
--- ---- the last line
-
-pub sum_is : (finished count : ℕ) → codes "finished " ++ (decimal finished ++ (codes " of " ++ (decimal count ++ codes "\n"))) ≡ sum_text finished count
-sum_is finished count = simp append_assoc refl

@@ -1,11 +1,10 @@
 -- What `look` writes: how each key of a plan stands on the server, and how many are finished.
 -- Source: own (text): what the program prints. The names of states are KMIP 2.1, Object Attributes, State.
-use Rattle.std.specs.Prelude.{ℕ, ℤ, ◌==◌, Bool, true, false, List, [], ◌∷◌, ◌++◌, length, drop, filter, codes, Option, Some, None, if◌then◌else◌}
+use Rattle.std.specs.Prelude.{ℕ, ℤ, ◌==◌, Bool, List, [], ◌∷◌, ◌++◌, length, drop, codes, Option, Some, None, if◌then◌else◌}
 use Rattle.std.specs.Fmt.{decimal, signed_decimal}
 use Rattle.std.specs.Int.{w32, cast_unsigned, to_be_bytes}
 use Rattle.std.specs.List.{flat_map}
 use Rattle.hex.specs.Hex.{encode_lower}
-use Rattle.kmip_ttlv.specs.Showing.{plain_text}
 use Rattle.kmip_objects.specs.Lifecycle.{step_word}
 use Rattle.kmip_objects.specs.declared.key_state.KeyState.{KeyState}
 use Rattle.kmip_objects.specs.declared.standard.TheConstants.{OBJECT_TYPE_SYMMETRIC_KEY}
@@ -20,6 +19,7 @@ use Rattle.kmip_client.specs.declared.phase.Phase.{Phase}
 use Rattle.kmip_client.specs.declared.phase.Phase.TheVariants as phases
 use Rattle.kmip_client.specs.declared.verdict.Verdict.{Verdict}
 use Rattle.kmip_client.specs.declared.verdict.Verdict.TheVariants.{Working, Finished, Conflict}
+use Rattle.kmip_runs.specs.Reporting.{finished_count, identifier_text, sum_line}
 use Rattle.kmip_look.specs.declared.looked.Looked.{Looked}
 use Rattle.kmip_look.specs.declared.shown.Shown.{Shown}
 use Rattle.kmip_look.specs.declared.why.Why.{Why}
@@ -28,11 +28,6 @@ use Rattle.kmip_trace.specs.Names.{state_of, state_word}
 use Rattle.kmip_trace.specs.Reasons.{reason_name}
 
 -- ---- what is known of an object
-
--- The identifier of a key's object in plain characters, and a dash where none is known.
-abbrev pub identifier_text : Option (List ℕ) → List ℕ
-identifier_text None = codes "-"
-identifier_text (Some uid) = plain_text uid
 
 -- The name of a state, and its number in decimal where the standard has no such state.
 abbrev pub named_state : ℕ → Option KeyState → List ℕ
@@ -156,23 +151,11 @@ verdicts_on [] lookeds = []
 verdicts_on (key ∷ keys) [] = []
 verdicts_on (key ∷ keys) (looked ∷ lookeds) = verdict_on key looked ∷ verdicts_on keys lookeds
 
--- The verdict is that the key is finished.
-abbrev pub is_finished : Verdict → Bool
-is_finished Finished = true
-is_finished verdict = false
-
--- How many of the keys are finished.
-abbrev pub finished_count : List Key → List Looked → ℕ
-finished_count keys lookeds = length (filter is_finished (verdicts_on keys lookeds))
-
--- The last line: how many keys are finished, and how many there are.
-abbrev pub sum_text : ℕ → ℕ → List ℕ
-sum_text finished count = codes "finished " ++ decimal finished ++ codes " of " ++ decimal count ++ codes "\n"
-
--- What `look` writes of what was seen of each key of a plan.
+-- What `look` writes of what was seen of each key of a plan: the lines of the keys, and the last line of the
+-- report of `run`.
 abbrev pub look_text : List Key → List Looked → List ℕ
-look_text keys lookeds = look_lines keys lookeds ++ sum_text (finished_count keys lookeds) (length keys)
+look_text keys lookeds = look_lines keys lookeds ++ sum_line keys (verdicts_on keys lookeds)
 
 -- Each key is finished.
 abbrev pub are_all_finished : List Key → List Looked → Bool
-are_all_finished keys lookeds = finished_count keys lookeds == length keys
+are_all_finished keys lookeds = finished_count (verdicts_on keys lookeds) == length keys

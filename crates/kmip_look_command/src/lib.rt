@@ -10,3 +10,5 @@ mod seen;
 mod text;
 
 pub use running::{look_bytes, run_look};
+pub use seen::{named_algorithm, named_state, why_text};
+pub use text::verdicts_on;

@@ -15,7 +15,7 @@ ghost use Rattle.kmip_look_command.specs.LookText.{
   working_text,
 };
 
-use crate::seen::{push_attributes, push_identifier, push_state, push_why, told_state};
+use crate::seen::{push_attributes, push_identifier, push_state, told_state, why_text};
 use kmip_client::{Clash, Phase, Verdict};
 use kmip_look::{Looked, Shown, Why};
 use kmip_plan::{Key, Step, chain, chain_length};
@@ -126,8 +126,10 @@ fn push_untold(alloc: Global, why: Why, text: &mut Vec<u8>) -> Result<(), NoMemo
     ensures { OnOk result (text.new.items
         ≡ text.old.items ++ (codes "not told: " ++ why_text why)) }
 {
+    let why = why_text(alloc, why)?;
     text.extend_from_slice(b"not told: ")?;
-    push_why(alloc, why, text)
+    text.extend_from_slice(why.as_bytes())?;
+    Ok(())
 }
 
 /// Appends the state that was told, and the steps of a key that are left.

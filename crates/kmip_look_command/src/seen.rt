@@ -1,12 +1,15 @@
 //! What was seen of an object, in words.
-ghost use Rattle.std.specs.Prelude.{◌≡◌, ◌++◌, OnOk, option_map};
+ghost use Rattle.std.specs.Prelude.{◌≡◌, ◌++◌, IfOk, OnOk, option_map, string_bytes};
 ghost use Rattle.std.specs.Fmt.{decimal};
+ghost use Rattle.kmip_plan.specs.Words.{algorithm_word};
+ghost use Rattle.kmip_runs.specs.Reporting.{identifier_text};
 ghost use Rattle.kmip_look_command.specs.LookText.{
   algorithm_text,
   attributes_text,
   bracketed,
-  identifier_text,
   length_text,
+  named_algorithm,
+  named_state,
   refused_text,
   shown_text,
   state_text,
@@ -15,12 +18,14 @@ ghost use Rattle.kmip_look_command.specs.LookText.{
   usage_text,
   why_text,
 };
+ghost use Rattle.kmip_trace.specs.Names.{state_of};
 
 use kmip_look::{Shown, Why};
 use kmip_objects::standard::OBJECT_TYPE_SYMMETRIC_KEY;
 use kmip_plan::algorithm_word;
+use kmip_runs::identifier_text;
 use kmip_trace::{reason_name, state_of, state_word};
-use kmip_ttlv::{NoMemory, Text, plain_text};
+use kmip_ttlv::{NoMemory, Text};
 use std::alloc::Global;
 
 /// Appends the identifier of a key's object, or a dash.
@@ -31,11 +36,7 @@ pub(crate) fn push_identifier(
 ) -> Result<(), NoMemory>
     ensures { OnOk result (text.new.items ≡ text.old.items ++ identifier_text identifier.now) }
 {
-    let Some(uid) = identifier else {
-        text.extend_from_slice(b"-")?;
-        return Ok(());
-    };
-    let plain = plain_text(alloc, uid.as_str())?;
+    let plain = identifier_text(alloc, identifier)?;
     text.extend_from_slice(plain.as_bytes())?;
     Ok(())
 }
@@ -62,11 +63,24 @@ pub(crate) fn push_state(
         text.extend_from_slice(b"no state")?;
         return Ok(());
     };
-    let Some(state) = state_of(number) else {
-        return push_number(alloc, number, text);
-    };
-    text.extend_from_slice(state_word(state).as_bytes())?;
+    let name = named_state(alloc, number)?;
+    text.extend_from_slice(name.as_bytes())?;
     Ok(())
+}
+
+/// The word of the state of this number, and the number in decimal where the standard has no such
+/// state.
+///
+/// # Errors
+/// Where there is no memory.
+pub fn named_state(alloc: Global, number: u32) -> Result<String, NoMemory>
+    ensures { IfOk result (λ name. string_bytes name ≡ named_state number (state_of number)) }
+{
+    let name = match state_of(number) {
+        Some(state) => String::from_str(alloc, state_word(state))?,
+        None => format!(in alloc; "{number}")?,
+    };
+    Ok(name)
 }
 
 /// Appends a number in decimal.
@@ -125,12 +139,26 @@ fn push_algorithm(alloc: Global, algorithm: Option<u32>, text: &mut Vec<u8>) -> 
         text.extend_from_slice(b" -")?;
         return Ok(());
     };
+    let name = named_algorithm(alloc, number)?;
     text.extend_from_slice(b" ")?;
-    let Some(word) = algorithm_word(number) else {
-        return push_number(alloc, number, text);
-    };
-    text.extend_from_slice(word.as_bytes())?;
+    text.extend_from_slice(name.as_bytes())?;
     Ok(())
+}
+
+/// The word of a plan for the algorithm of this number, and the number in decimal where plans have no
+/// word for it.
+///
+/// # Errors
+/// Where there is no memory.
+pub fn named_algorithm(alloc: Global, number: u32) -> Result<String, NoMemory>
+    ensures { IfOk result (λ name. string_bytes name
+        ≡ named_algorithm number (algorithm_word number)) }
+{
+    let name = match algorithm_word(number) {
+        Some(word) => String::from_str(alloc, word)?,
+        None => format!(in alloc; "{number}")?,
+    };
+    Ok(name)
 }
 
 /// Appends the length in bits.
@@ -160,41 +188,51 @@ fn push_usage(alloc: Global, usage: Option<i32>, text: &mut Vec<u8>) -> Result<(
     Ok(())
 }
 
-/// Appends why nothing was told.
-pub(crate) fn push_why(alloc: Global, why: Why, text: &mut Vec<u8>) -> Result<(), NoMemory>
-    ensures { OnOk result (text.new.items ≡ text.old.items ++ why_text why) }
+/// Why nothing was told of a key, in words. Of a refusal they have the number of its Result Reason and
+/// the standard's name of it, where there is one.
+///
+/// # Errors
+/// Where there is no memory.
+pub fn why_text(alloc: Global, why: Why) -> Result<String, NoMemory>
+    ensures { IfOk result (λ text. string_bytes text ≡ why_text why) }
 {
-    match why {
-        Why::NotAsked => Ok(text.extend_from_slice(b"not asked")?),
-        Why::NoReply => Ok(text.extend_from_slice(b"no reply")?),
-        Why::Unreadable => Ok(text.extend_from_slice(b"unreadable reply")?),
-        Why::Refused(reason) => push_refused(alloc, reason, text),
-    }
+    let text = match why {
+        Why::NotAsked => String::from_str(alloc, "not asked")?,
+        Why::NoReply => String::from_str(alloc, "no reply")?,
+        Why::Unreadable => String::from_str(alloc, "unreadable reply")?,
+        Why::Refused(reason) => refused_text(alloc, reason)?,
+    };
+    Ok(text)
 }
 
-/// Appends that the server refused, and its reason.
-fn push_refused(alloc: Global, reason: Option<u32>, text: &mut Vec<u8>) -> Result<(), NoMemory>
-    ensures { OnOk result (text.new.items ≡ text.old.items ++ refused_text reason) }
+/// That the server refused, and its reason.
+///
+/// # Errors
+/// Where there is no memory.
+fn refused_text(alloc: Global, reason: Option<u32>) -> Result<String, NoMemory>
+    ensures { IfOk result (λ text. string_bytes text ≡ refused_text reason) }
 {
     let Some(reason) = reason else {
-        text.extend_from_slice(b"refused")?;
-        return Ok(());
+        return Ok(String::from_str(alloc, "refused")?);
     };
-    text.extend_from_slice(b"refused, reason ")?;
-    push_number(alloc, reason, text)?;
-    push_bracketed(reason_name(reason), text)
+    let mut text = format!(in alloc; "refused, reason {reason}")?;
+    push_bracketed(reason_name(reason), &mut text)?;
+    Ok(text)
 }
 
 /// Appends a name in brackets, where there is one.
-fn push_bracketed(name: Option<&str>, text: &mut Vec<u8>) -> Result<(), NoMemory>
-    ensures { OnOk result (text.new.items
-        ≡ text.old.items ++ bracketed (option_map (λ name. name.now) name.entry)) }
+///
+/// # Errors
+/// Where there is no memory.
+fn push_bracketed(name: Option<&str>, text: &mut String) -> Result<(), NoMemory>
+    ensures { OnOk result (string_bytes text.new
+        ≡ string_bytes text.old ++ bracketed (option_map (λ name. name.now) name.entry)) }
 {
     let Some(name) = name else {
         return Ok(());
     };
-    text.extend_from_slice(b" (")?;
-    text.extend_from_slice(name.as_bytes())?;
-    text.extend_from_slice(b")")?;
+    text.push_str(" (")?;
+    text.push_str(name)?;
+    text.push_str(")")?;
     Ok(())
 }

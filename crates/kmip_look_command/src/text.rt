@@ -1,19 +1,12 @@
 //! What is written of all keys.
-ghost use Rattle.std.specs.Prelude.{◌≡◌, ◌++◌, ℕ, IfOk, OnOk, filter, length, not, string_bytes};
-ghost use Rattle.kmip_look_command.specs.LookText.{
-  are_all_finished,
-  finished_count,
-  is_finished,
-  look_lines,
-  look_text,
-  sum_text,
-  verdicts_on,
-};
+ghost use Rattle.std.specs.Prelude.{◌≡◌, ◌++◌, IfOk, OnOk, not};
+ghost use Rattle.kmip_look_command.specs.LookText.{are_all_finished, look_lines, look_text, verdicts_on};
 
 use crate::line::push_line;
 use kmip_client::Verdict;
 use kmip_look::Looked;
 use kmip_plan::Key;
+use kmip_runs::{finished_count, sum_line};
 use kmip_ttlv::NoMemory;
 use std::alloc::Global;
 
@@ -31,8 +24,9 @@ pub(crate) fn push_looked(
         ≡ text.old.items ++ look_text keys.now lookeds.now) }
     ensures refused { IfOk result (λ r. r ≡ not (are_all_finished keys.now lookeds.now)) }
 {
-    let finished = finished_count(alloc, keys, lookeds)?;
-    let sum = sum_text(alloc, finished, keys.len())?;
+    let verdicts = verdicts_on(alloc, keys, lookeds)?;
+    let finished = finished_count(verdicts.as_slice());
+    let sum = sum_line(alloc, keys, verdicts.as_slice())?;
     push_lines(alloc, keys, lookeds, text)?;
     text.extend_from_slice(sum.as_bytes())?;
     Ok(finished != keys.len())
@@ -61,27 +55,20 @@ fn push_lines(
     Ok(())
 }
 
-/// The last line.
+/// The verdict on each key of a plan, by what a look says of it.
 ///
 /// # Errors
 /// Where there is no memory.
-fn sum_text(alloc: Global, finished: usize, count: usize) -> Result<String, NoMemory>
-    ensures { IfOk result (λ line. string_bytes line ≡ sum_text finished count) }
-{
-    let line = format!(in alloc; "finished {finished} of {count}\n")?;
-    Ok(line)
-}
-
-/// How many of the keys are finished.
-///
-/// # Errors
-/// Where there is no memory.
-fn finished_count(alloc: Global, keys: &[Key], lookeds: &[Looked]) -> Result<usize, NoMemory>
-    ensures { IfOk result (λ count. count ≡ finished_count keys.now lookeds.now) }
+pub fn verdicts_on(
+    alloc: Global,
+    keys: &[Key],
+    lookeds: &[Looked],
+) -> Result<Vec<Verdict>, NoMemory>
+    ensures { IfOk result (λ verdicts. verdicts.items ≡ verdicts_on keys.now lookeds.now) }
 {
     let mut verdicts = Vec::new(alloc);
     push_verdicts(keys, lookeds, &mut verdicts)?;
-    Ok(count_finished(verdicts.as_slice()))
+    Ok(verdicts)
 }
 
 /// Appends the verdicts on the keys.
@@ -105,24 +92,4 @@ fn push_verdicts(
         left = behind;
     }
     Ok(())
-}
-
-/// How many of the verdicts are that a key is finished.
-fn count_finished(verdicts: &[Verdict]) -> usize
-    ensures { result ≡ length (filter is_finished verdicts.now) }
-{
-    verdicts
-        .iter()
-        .filter(|verdict| is_finished(**verdict))
-        .count()
-}
-
-/// Whether the verdict is that the key is finished.
-fn is_finished(verdict: Verdict) -> bool
-    ensures { result ≡ is_finished verdict }
-{
-    match verdict {
-        Verdict::Finished => true,
-        Verdict::Working | Verdict::Conflict(_) => false,
-    }
 }

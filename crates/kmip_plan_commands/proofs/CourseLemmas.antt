@@ -1,7 +1,8 @@
 -- What has come of a run is what its exchanges did.
-use Rattle.std.proofs.Common.{◌≡◌, ◌≢◌, ◌∙◌, ℕ, Bool, true, false, List, Option, Result, Ok, Err, IfOk, inl, inr, refl, subst, sym, [], append-nil}
+use Rattle.std.proofs.Common.{◌≡◌, ◌≢◌, ◌∙◌, ℕ, Bool, true, false, List, Option, Some, None, Result, Ok, Err, IfErr, IfOk, refl, subst, sym, [], append-nil}
 use Rattle.std.proofs.lemmas.List.Elements.{All-nil}
 use Rattle.std.specs.Io.KnownBytes.{Appends}
+use Rattle.kmip_choices.specs.declared.report.Report.{Report}
 use Rattle.kmip_message_commands.specs.declared.command_fault.CommandFault.{CommandFault}
 use Rattle.kmip_plan.specs.Reading.{FailsPlan}
 use Rattle.kmip_plan.specs.declared.plan_fault.PlanFault.{PlanFault}
@@ -12,18 +13,23 @@ use Rattle.kmip_client.specs.Held.{Held}
 use Rattle.kmip_client.specs.declared.knowledge.Knowledge.{Knowledge}
 use Rattle.kmip_protocol.specs.Past.{Past}
 use Rattle.kmip_protocol.specs.Seen.{Seen}
-use Rattle.kmip_runs.specs.Driving.{IsGood, IsQuestion}
+use Rattle.kmip_runs.specs.Driving.{IsBorneOut, IsGood, IsQuestion}
 use Rattle.kmip_runs.specs.Headline.{GoodLink}
 use Rattle.kmip_runs.specs.declared.stop.Stop.{Stop}
 use Rattle.kmip_runs.specs.declared.stop.Stop.TheVariants as stops
 use Rattle.kmip_progress.specs.declared.progress_fault.ProgressFault.{ProgressFault}
 use Rattle.kmip_runs.specs.Saved.{AreSaved, IsInMemory, Snapshot}
 use Rattle.kmip_runs.specs.declared.save_fault.SaveFault.{SaveFault}
+use Rattle.kmip_runs.specs.declared.save_fault.SaveFault.TheVariants as faults
 use Rattle.kmip_runs.specs.CarriesOut.{CarriesOut, Stage}
 use Rattle.kmip_plan_commands.specs.Course.{AsksFew, Came, IsGoodStart, IsTrueText, RunState, run_state}
 use Rattle.kmip_plan_commands.specs.Runs.{RunsOver}
 use Rattle.kmip_plan_commands.specs.Checking.{is_memory, plan_refusal_text}
-use Rattle.kmip_plan_commands.specs.RunText.{Outcome, TellsEither, TellsRun, TellsRunFrom, Writes, begin_knowns}
+use Rattle.kmip_plan_commands.specs.PrivateRuns.{EndsExchanges}
+use Rattle.kmip_plan_commands.specs.RunEnds.{EndsFrom, EndsRun, Outcome}
+use Rattle.kmip_plan_commands.specs.RunText.{WritesEnd, is_end_refused, run_end_text}
+use Rattle.kmip_plan_commands.specs.declared.run_end.RunEnd.{RunEnd}
+use Rattle.kmip_plan_commands.specs.declared.run_end.RunEnd.TheVariants.{Refused, Unwritten, Stopped}
 
 abbrev ended : Result Stop SaveFault → Result Stop SaveFault
 ended r = r
@@ -127,49 +133,74 @@ came_for limit most good other old new keys knowns o f c =
       outlasts = λ h. c.outlasts (f h);
     }
 
--- what is told of a run has come of it, where a lesser premise will do
-tells_for : (one other : Outcome → Type 0) (keys : List Key) (path : List ℕ) (limit : ℕ) (refused : Bool) (text : List ℕ)
-    → ((o : Outcome) → one o → other o)
-    → TellsEither one keys path limit refused text → TellsEither other keys path limit refused text
-tells_for one other keys path limit refused text f (inl t) = inl (record {
-  knowns = t.knowns;
-  stop = t.stop;
-  exchanges = t.exchanges;
-  has_come = f _ t.has_come;
-  in_memory = t.in_memory;
-  stands = t.stands;
-  within = t.within;
-  refused_is = t.refused_is;
-  text_is = t.text_is;
-})
-tells_for one other keys path limit refused text f (inr t) = inr (record {
-  knowns = t.knowns;
-  exchanges = t.exchanges;
-  has_come = f _ t.has_come;
-  refused_is = t.refused_is;
-  text_is = t.text_is;
-})
-
 good_start : (a : ClientState) (x : Seen) (text : Option (List ℕ))
     → (IsTrueText x.past.objects a.keys text → Held x.past.objects a.keys a.knowns)
     → IsGoodStart text x a.keys → IsGood a x
 good_start a x text held g = record { honest_for = g.0.honest_for; sound = g.0.sound; held = held g.1 }
 
--- from what a progress says, what is told has come of the exchanges
-pub tells_start : (untouched : Type 0) (a : ClientState) (old new : RunState) (keys : List Key) (text : Option (List ℕ)) (path : List ℕ) (limit : ℕ) (read : Result (List Knowledge) ProgressFault) (refused : Bool) (told : List ℕ)
+-- what has come of the exchanges has come of the run that began with what a progress says
+came_start : (a : ClientState) (old new : RunState) (keys : List Key) (text : Option (List ℕ)) (limit : ℕ) (o : Outcome)
+    → a.keys ≡ keys → (IsTrueText old.link.past.objects keys text → Held old.link.past.objects a.keys a.knowns)
+    → Came limit a.batch (λ keys. IsGood a old.link) old new a.keys a.knowns o
+    → Came limit a.batch (IsGoodStart text old.link) old new keys a.knowns o
+came_start a old new keys text limit o same held c =
+    let H : List Key → Type 0 = λ keys. IsTrueText old.link.past.objects keys text → Held old.link.past.objects a.keys a.knowns in
+    let P : List Key → Type 0 = λ keys. Came limit a.batch (IsGoodStart text old.link) old new keys a.knowns o in
+    subst P same
+    (came_for limit a.batch (λ keys. IsGood a old.link) (IsGoodStart text old.link) old new a.keys a.knowns o (good_start a old.link text (subst H (sym same) held)) c)
+
+-- the end of a run whose exchanges ended so
+abbrev end_with : ClientState → Option Stop → ℕ → RunEnd
+end_with client (Some stop) exchanges = Stopped client stop exchanges
+end_with client None exchanges = Unwritten
+
+-- how exchanges ended from what a progress says is how the run ended
+ends_start : (untouched : Type 0) (a : ClientState) (old new : RunState) (keys : List Key) (text : Option (List ℕ)) (limit : ℕ) (read : Result (List Knowledge) ProgressFault) (client : ClientState) (stop : Option Stop) (made : ℕ)
     → a.keys ≡ keys → read ≡ Ok a.knowns
     → (IsTrueText old.link.past.objects keys text → Held old.link.past.objects a.keys a.knowns)
-    → TellsEither (Came limit a.batch (λ keys. IsGood a old.link) old new a.keys a.knowns) a.keys path limit refused told
-    → TellsRunFrom untouched (Came limit a.batch (IsGoodStart text old.link) old new keys) keys path limit read refused told
-tells_start untouched a old new keys text path limit read refused told same is held t =
-    let H : List Key → Type 0 = λ keys. IsTrueText old.link.past.objects keys text → Held old.link.past.objects a.keys a.knowns in
-    let came : Outcome → Type 0 = Came limit a.batch (λ keys. IsGood a old.link) old new a.keys a.knowns in
-    let other : Outcome → Type 0 = Came limit a.batch (IsGoodStart text old.link) old new a.keys a.knowns in
-    let P : List Key → Type 0 = λ keys. TellsRunFrom untouched (Came limit a.batch (IsGoodStart text old.link) old new keys) keys path limit read refused told in
-    let Q : Result (List Knowledge) ProgressFault → Type 0 = λ read. TellsRunFrom untouched (Came limit a.batch (IsGoodStart text old.link) old new a.keys) a.keys path limit read refused told in
-    let f : (o : Outcome) → came o → other o =
-    λ o c. came_for limit a.batch (λ keys. IsGood a old.link) (IsGoodStart text old.link) old new a.keys a.knowns o (good_start a old.link text (subst H (sym same) held)) c in
-    subst P same (subst Q (sym is) (tells_for came other a.keys path limit refused told f t))
+    → EndsExchanges (Came limit a.batch (λ keys. IsGood a old.link) old new a.keys a.knowns) a.keys limit client stop made
+    → EndsFrom untouched (Came limit a.batch (IsGoodStart text old.link) old new keys) keys limit read (end_with client stop made)
+ends_start untouched a old new keys text limit read client (Some stop) made same is held t =
+    let Q : Result (List Knowledge) ProgressFault → Type 0 = λ read. EndsFrom untouched (Came limit a.batch (IsGoodStart text old.link) old new keys) keys limit read (Stopped client stop made) in
+    subst Q (sym is)
+    (record {
+      keys_are = t.keys_are ∙ same;
+      has_come = came_start a old new keys text limit (outcome client.knowns (Ok stop) made) same held t.has_come;
+      in_memory = t.in_memory;
+      stands = subst (λ keys. IsBorneOut stop keys client.knowns) same t.stands;
+      within = t.within;
+    })
+ends_start untouched a old new keys text limit read client None made same is held t =
+    let Q : Result (List Knowledge) ProgressFault → Type 0 = λ read. EndsFrom untouched (Came limit a.batch (IsGoodStart text old.link) old new keys) keys limit read Unwritten in
+    subst Q (sym is)
+    (record { knowns = client.knowns; exchanges = made; has_come = came_start a old new keys text limit (outcome client.knowns (Err faults.Output) made) same held t })
+
+-- where there was a reason to stop, the run stopped
+pub ends_stopped : (untouched : Type 0) (a : ClientState) (old new : RunState) (keys : List Key) (text : Option (List ℕ)) (limit : ℕ) (read : Result (List Knowledge) ProgressFault) (client : ClientState) (told : Option Stop) (stop : Stop) (made : ℕ)
+    → told ≡ Some stop → a.keys ≡ keys → read ≡ Ok a.knowns
+    → (IsTrueText old.link.past.objects keys text → Held old.link.past.objects a.keys a.knowns)
+    → EndsExchanges (Came limit a.batch (λ keys. IsGood a old.link) old new a.keys a.knowns) a.keys limit client told made
+    → EndsFrom untouched (Came limit a.batch (IsGoodStart text old.link) old new keys) keys limit read (Stopped client stop made)
+ends_stopped untouched a old new keys text limit read client told stop made why same is held t =
+    subst (λ told. EndsFrom untouched (Came limit a.batch (IsGoodStart text old.link) old new keys) keys limit read (end_with client told made)) why
+    (ends_start untouched a old new keys text limit read client told made same is held t)
+
+-- where there was none, what was known could not be kept
+pub ends_unwritten : (untouched : Type 0) (a : ClientState) (old new : RunState) (keys : List Key) (text : Option (List ℕ)) (limit : ℕ) (read : Result (List Knowledge) ProgressFault) (client : ClientState) (told : Option Stop) (made : ℕ)
+    → told ≡ None → a.keys ≡ keys → read ≡ Ok a.knowns
+    → (IsTrueText old.link.past.objects keys text → Held old.link.past.objects a.keys a.knowns)
+    → EndsExchanges (Came limit a.batch (λ keys. IsGood a old.link) old new a.keys a.knowns) a.keys limit client told made
+    → EndsFrom untouched (Came limit a.batch (IsGoodStart text old.link) old new keys) keys limit read Unwritten
+ends_unwritten untouched a old new keys text limit read client told made why same is held t =
+    subst (λ told. EndsFrom untouched (Came limit a.batch (IsGoodStart text old.link) old new keys) keys limit read (end_with client told made)) why
+    (ends_start untouched a old new keys text limit read client told made same is held t)
+
+-- a progress that is refused is where the run ended
+pub ends_refused : (untouched : Type 0) (came : List Knowledge → Outcome → Type 0) (keys : List Key) (limit : ℕ) (read : Result (List Knowledge) ProgressFault) (fault : ProgressFault)
+    → untouched → read ≡ Err fault → EndsFrom untouched came keys limit read (Refused fault)
+ends_refused untouched came keys limit read fault kept is =
+    let Q : Result (List Knowledge) ProgressFault → Type 0 = λ read. EndsFrom untouched came keys limit read (Refused fault) in
+    subst Q (sym is) (kept, refl)
 
 -- and what a run over what the progress says promises of its link
 pub over_start : (a : ClientState) (x y : Seen) (keys : List Key) (text : Option (List ℕ)) (Whole : Type 0 → Type 0) → a.keys ≡ keys
@@ -184,15 +215,39 @@ over_start a x y keys text Whole same held o =
 pub asks_none : (keys : List Key) (most : ℕ) (past : Past) → AsksFew keys most past past
 asks_none keys most past = record { messages = []; sent_are = sym (append-nil past.sent); each = All-nil (IsQuestion keys most) }
 
--- ---- what is written for a text that was read
+-- where that is said, it is said too of a call that may end with a fault of its own
+pub over_printed : (good : Type 0) (keys : List Key) (most : ℕ) (old new : Seen) (result : Result Bool CommandFault)
+    → RunsOver good keys most old new (λ P. P) → RunsOver good keys most old new (λ P. IfOk result (λ refused. P))
+over_printed good keys most old new (Ok refused) o = record { safe = o.safe; few = o.few }
+over_printed good keys most old new (Err fault) o = record { safe = o.safe; few = λ honest. tt }
+
+-- ---- what is written of an end
+
+-- two facts of a fault
+pub both_of_fault : (result : Result Bool CommandFault) (P Q : CommandFault → Type 0) → IfErr result P → IfErr result Q → IfErr result (λ fault. P fault × Q fault)
+both_of_fault (Ok refused) P Q p q = tt
+both_of_fault (Err fault) P Q p q = (p, q)
+
+pub second_of_fault : (result : Result Bool CommandFault) (P Q : CommandFault → Type 0) → IfErr result (λ fault. P fault × Q fault) → IfErr result Q
+second_of_fault (Ok refused) P Q both = tt
+second_of_fault (Err fault) P Q both = both.1
+
+-- what is printed of the end of a run is what was written
+pub writes_end : (report : Report) (path : List ℕ) (ends : Result RunEnd PlanFault → Type 0) (end : RunEnd) (result : Result Bool CommandFault) (old new : Option (List ℕ))
+    → ends (Ok end)
+    → IfOk result (λ refused. (refused ≡ is_end_refused end) × Appends old new (run_end_text report path end))
+    → IfOk result (λ refused. WritesEnd report path ends refused old new)
+writes_end report path ends end (Ok refused) old new holds w = record { end = Ok end; ended = holds; refused_is = w.0; written = w.1 }
+writes_end report path ends end (Err fault) old new holds w = tt
 
 -- what is written for a plan is written for the text that it was read from
-pub writes_read : (untouched : Type 0) (came : List Key → List Knowledge → Outcome → Type 0) (read : Result (List Key) PlanFault) (keys : List Key) (saved : Option (List ℕ)) (path : List ℕ) (limit : ℕ) (result : Result Bool CommandFault) (old new : Option (List ℕ))
+pub writes_read : (untouched : Type 0) (came : List Key → List Knowledge → Outcome → Type 0) (read : Result (List Key) PlanFault) (keys : List Key) (saved : Option (List ℕ)) (limit : ℕ) (report : Report) (path : List ℕ) (result : Result Bool CommandFault) (old new : Option (List ℕ))
     → read ≡ Ok keys
-    → IfOk result (λ refused. Writes (TellsRunFrom untouched (came keys) keys path limit (begin_knowns keys saved) refused) old new)
-    → IfOk result (λ refused. Writes (TellsRun untouched came read saved path limit refused) old new)
-writes_read untouched came read keys saved path limit (Ok refused) old new is w = record { text = w.text; told = rw is w.told; written = w.written }
-writes_read untouched came read keys saved path limit (Err fault) old new is w = tt
+    → IfOk result (λ refused. WritesEnd report path (EndsRun untouched came (Ok keys) saved limit) refused old new)
+    → IfOk result (λ refused. WritesEnd report path (EndsRun untouched came read saved limit) refused old new)
+writes_read untouched came read keys saved limit report path result old new is w =
+    let Q : Result (List Key) PlanFault → Type 0 = λ read. IfOk result (λ refused. WritesEnd report path (EndsRun untouched came read saved limit) refused old new) in
+    subst Q (sym is) w
 
 abbrev read_as : Result (List Key) PlanFault → Result (List Key) PlanFault
 read_as r = r
@@ -221,11 +276,12 @@ read_fails (plan_faults.SameName place) read fails known = fails
 read_fails plan_faults.NoMemory read fails known = absurd cc
 
 -- the line of a refusal is written for a text that is no plan
-pub writes_refusal : (untouched : Type 0) (came : List Key → List Knowledge → Outcome → Type 0) (read : Result (List Key) PlanFault) (fault : PlanFault) (saved : Option (List ℕ)) (path : List ℕ) (limit : ℕ) (result : Result Bool CommandFault) (old new : Option (List ℕ))
+pub writes_refusal : (untouched : Type 0) (came : List Key → List Knowledge → Outcome → Type 0) (read : Result (List Key) PlanFault) (fault : PlanFault) (saved : Option (List ℕ)) (limit : ℕ) (report : Report) (path : List ℕ) (result : Result Bool CommandFault) (old new : Option (List ℕ))
     → untouched → FailsPlan fault read
     → IfOk result (λ refused. is_memory fault ≡ false)
     → IfOk result (λ refused. (refused ≡ true) × Appends old new (plan_refusal_text fault))
-    → IfOk result (λ refused. Writes (TellsRun untouched came read saved path limit refused) old new)
-writes_refusal untouched came read fault saved path limit (Ok refused) old new kept fails known w =
-    record { text = plan_refusal_text fault; told = rw (read_fails fault read fails known) (kept, w.0, refl); written = w.1 }
-writes_refusal untouched came read fault saved path limit (Err f) old new kept fails known w = tt
+    → IfOk result (λ refused. WritesEnd report path (EndsRun untouched came read saved limit) refused old new)
+writes_refusal untouched came read fault saved limit report path (Ok refused) old new kept fails known w =
+    let Q : Result (List Key) PlanFault → Type 0 = λ read. EndsRun untouched came read saved limit (Err fault) in
+    record { end = Err fault; ended = subst Q (sym (read_fails fault read fails known)) (kept, refl); refused_is = w.0; written = w.1 }
+writes_refusal untouched came read fault saved limit report path (Err f) old new kept fails known w = tt

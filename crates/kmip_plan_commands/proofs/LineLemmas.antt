@@ -3,7 +3,7 @@ use Rattle.std.proofs.Common.{◌≡◌, ℕ, List, ◌++◌, codes, ap, sym, �
 use Rattle.std.specs.Fmt.{decimal}
 use Rattle.kmip_progress.specs.Faults.{progress_fault_name, progress_fault_number}
 use Rattle.kmip_progress.specs.declared.progress_fault.ProgressFault.{ProgressFault}
-use Rattle.kmip_plan_commands.specs.RunText.{progress_refusal_text}
+use Rattle.kmip_plan_commands.specs.ProgressRefusals.{progress_refusal_text}
 
 five : (a b c d e : List ℕ) → a ++ (b ++ (c ++ (d ++ e))) ≡ a ++ b ++ c ++ d ++ e
 five a b c d e =

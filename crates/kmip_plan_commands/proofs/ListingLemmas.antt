@@ -6,8 +6,8 @@ use Rattle.kmip_plan.specs.declared.key.Key.{Key}
 use Rattle.kmip_progress.specs.declared.known.Known.{Known}
 use Rattle.kmip_client.specs.Knowledge.{chain_length}
 use Rattle.kmip_client.specs.declared.verdict.Verdict.{Verdict}
-use Rattle.kmip_runs.specs.Reporting.{verdict_word}
-use Rattle.kmip_plan_commands.specs.Listing.{identifier_text, list_line, without_end}
+use Rattle.kmip_runs.specs.Reporting.{identifier_text, verdict_word}
+use Rattle.kmip_plan_commands.specs.Listing.{list_line, without_end}
 
 -- a line without its line feed is what stands before that
 without : (line : List ℕ) → without_end (line ++ codes "\n") ≡ line

@@ -21,7 +21,7 @@ use Rattle.kmip_runs.specs.Refusals.{HasRisen}
 use Rattle.kmip_runs.specs.Saved.{AreSaved, IsLeft, IsWhole, snapshot}
 use Rattle.kmip_runs.specs.declared.save_fault.SaveFault.TheVariants as faults
 use Rattle.kmip_runs.specs.Keeping.{Kept}
-use Rattle.kmip_plan_commands.specs.RunText.{Outcome}
+use Rattle.kmip_plan_commands.specs.RunEnds.{Outcome}
 
 -- Nothing was sent, and nothing was kept.
 abbrev pub AreUntouched : {L K : Type 0} → L → L → K → K → Type 0

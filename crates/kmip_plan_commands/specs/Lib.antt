@@ -6,8 +6,12 @@ pub mod Checking
 pub mod Simulating
 -- What `run` writes, what its exchanges come to, and what stays safe.
 
--- what is written for a plan, a progress and the exchanges that were made
+-- how a run ended, for a plan, a progress and the exchanges that were made
+pub mod RunEnds
+-- what is written of the end of a run
 pub mod RunText
+-- what is written of a progress that is refused
+pub mod ProgressRefusals
 -- what came of the exchanges, and what stays safe over an honest link
 pub mod Course
 -- what a run promises

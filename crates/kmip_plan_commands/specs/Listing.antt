@@ -1,24 +1,18 @@
--- What `list` writes for what was read of a plan and of a progress.
+-- What `list` writes for what was read of a plan and of a progress, and `run` of what its client knows.
 -- Source: own (text): what the program prints.
-use Rattle.std.specs.Prelude.{ℕ, ◌-◌, Bool, true, false, List, [], ◌∷◌, ◌++◌, length, take, codes, Option, Some, None, Result, Ok, Err}
-use Rattle.kmip_ttlv.specs.Showing.{plain_text}
+use Rattle.std.specs.Prelude.{ℕ, ◌-◌, Bool, true, false, List, [], ◌∷◌, ◌++◌, length, take, codes, Result, Ok, Err}
 use Rattle.kmip_plan.specs.declared.plan_fault.PlanFault.{PlanFault}
 use Rattle.kmip_plan.specs.declared.key.Key.{Key}
 use Rattle.kmip_progress.specs.Reading.{read_text}
 use Rattle.kmip_progress.specs.declared.progress_fault.ProgressFault.{ProgressFault}
 use Rattle.kmip_progress.specs.declared.known.Known.{Known}
-use Rattle.kmip_client.specs.Saving.{resume}
+use Rattle.kmip_client.specs.Clients.{ClientState}
+use Rattle.kmip_client.specs.Saving.{progress, resume}
 use Rattle.kmip_client.specs.Verdicts.{verdicts_of}
 use Rattle.kmip_client.specs.declared.verdict.Verdict.{Verdict}
-use Rattle.kmip_runs.specs.Reporting.{report_line, sum_line}
+use Rattle.kmip_runs.specs.Reporting.{identifier_text, report_line, sum_line}
 use Rattle.kmip_plan_commands.specs.Checking.{plan_refusal_text}
-use Rattle.kmip_plan_commands.specs.RunText.{progress_refusal_text}
-
--- An identifier in plain characters, so that a server's own words forge no line; a hyphen where none is
--- known.
-abbrev pub identifier_text : Option (List ℕ) → List ℕ
-identifier_text None = codes "-"
-identifier_text (Some identifier) = plain_text identifier
+use Rattle.kmip_plan_commands.specs.ProgressRefusals.{progress_refusal_text}
 
 -- A line without its line feed.
 abbrev pub without_end : List ℕ → List ℕ
@@ -40,9 +34,13 @@ list_lines (key ∷ keys) (known ∷ saved) (verdict ∷ verdicts) = list_line k
 abbrev pub list_text_by : List Verdict → List Key → List Known → List ℕ
 list_text_by verdicts keys saved = list_lines keys saved verdicts ++ sum_line keys verdicts
 
--- The listing of a progress. The verdicts are those of a run that begins with it.
+-- The listing of what a client knows: the counts and identifiers that are kept of it, by its verdicts.
+abbrev pub client_listing : ClientState → List ℕ
+client_listing client = list_text_by (verdicts_of client.keys client.knowns) client.keys (progress client)
+
+-- The listing of a progress: that of a client that begins with it.
 abbrev pub list_text : List Key → List Known → List ℕ
-list_text keys saved = list_text_by (verdicts_of keys (resume keys saved).knowns) keys saved
+list_text keys saved = client_listing (resume keys saved)
 
 -- What is written for a plan, by what was read of the progress: the listing, or the line of the fault.
 abbrev pub progress_listing : List Key → Result (List Known) ProgressFault → List ℕ

@@ -5,7 +5,7 @@ ghost use Rattle.kmip_client.specs.Clients.{ClientState};
 ghost use Rattle.kmip_client.specs.Held.{Held};
 ghost use Rattle.kmip_progress.specs.Reading.{GivesProgress};
 ghost use Rattle.kmip_plan_commands.specs.Course.{IsTrueText};
-ghost use Rattle.kmip_plan_commands.specs.RunText.{begin_knowns};
+ghost use Rattle.kmip_plan_commands.specs.RunEnds.{begin_knowns};
 
 use kmip_client::Client;
 use kmip_plan::Plan;

@@ -4,10 +4,9 @@ ghost use Rattle.std.specs.Io.KnownBytes.{Appends};
 ghost use Rattle.kmip_plan.specs.Reading.{plan_read};
 ghost use Rattle.kmip_progress.specs.Reading.{read_text};
 ghost use Rattle.kmip_progress.specs.Suiting.{Suits};
-ghost use Rattle.kmip_runs.specs.Reporting.{sum_line, verdict_word};
 ghost use Rattle.kmip_message_commands.specs.Printing.{IfFailed, IfWhole, UnlessOutput, fault_line};
 ghost use Rattle.kmip_plan_commands.specs.Listing.{
-  identifier_text,
+  client_listing,
   is_listing_refused,
   is_progress_refused,
   list_line,
@@ -19,13 +18,13 @@ ghost use Rattle.kmip_plan_commands.specs.Listing.{
 };
 
 use crate::push_refusal;
-use crate::telling::progress_refusal_text;
-use kmip_client::{Clash, Client, Verdict};
+use crate::telling::push_progress_refusal;
+use kmip_client::{Client, Verdict};
 use kmip_message_commands::{CommandFault, ExitStatus, finished, push_text, send};
 use kmip_plan::{Key, Plan, chain_length, read_plan};
 use kmip_progress::{Known, Progress, ProgressFault};
-use kmip_runs::finished_count;
-use kmip_ttlv::{NoMemory, Text, plain_text};
+use kmip_runs::{identifier_text, sum_line, verdict_word};
+use kmip_ttlv::NoMemory;
 use std::alloc::Global;
 use std::io::Write;
 
@@ -142,8 +141,7 @@ fn push_progress(
         }
         Err(ProgressFault::NoMemory) => Err(NoMemory),
         Err(fault) => {
-            let line = progress_refusal_text(alloc, fault)?;
-            push_text(line.as_bytes(), text)?;
+            push_progress_refusal(alloc, fault, text)?;
             Ok(true)
         }
     }
@@ -160,8 +158,21 @@ fn push_saved(
     ensures { OnOk result (text.new.items ≡ text.old.items ++ list_text plan.now saved.now) }
 {
     let client = Client::resume(alloc, plan, saved)?;
+    push_client_listing(alloc, &client, text)
+}
+
+/// Appends the listing of what a client knows.
+pub(crate) fn push_client_listing(
+    alloc: Global,
+    client: &Client<'_>,
+    text: &mut Vec<u8>,
+) -> Result<(), NoMemory>
+    ensures { OnOk result (text.new.items ≡ text.old.items ++ client_listing client.now) }
+{
     let verdicts = client.verdicts(alloc)?;
-    push_text_by(alloc, verdicts.as_slice(), plan.keys(), saved.known(), text)
+    let saved = client.progress(alloc)?;
+    let keys = client.plan().keys();
+    push_text_by(alloc, verdicts.as_slice(), keys, saved.known(), text)
 }
 
 /// Appends the listing by these verdicts.
@@ -219,41 +230,5 @@ fn list_line(alloc: Global, key: &Key, known: &Known, verdict: Verdict) -> Resul
     let word = verdict_word(verdict);
     let identifier = identifier_text(alloc, &known.identifier)?;
     let line = format!(in alloc; "{name} {target} {done}/{steps} {word} {identifier}\n")?;
-    Ok(line)
-}
-
-/// How a verdict is printed, as in the report of `run`.
-fn verdict_word(verdict: Verdict) -> &'static str
-    ensures { result.now ≡ verdict_word verdict }
-{
-    match verdict {
-        Verdict::Working => "working",
-        Verdict::Finished => "finished",
-        Verdict::Conflict(Clash::Attributes) => "conflict attributes",
-        Verdict::Conflict(Clash::State) => "conflict state",
-        Verdict::Conflict(Clash::TwoObjects) => "conflict two-objects",
-    }
-}
-
-/// An identifier in plain characters, and a hyphen where none is known.
-fn identifier_text(alloc: Global, identifier: &Option<Text>) -> Result<String, NoMemory>
-    ensures { IfOk result (λ text. string_bytes text ≡ identifier_text identifier.now) }
-{
-    match identifier {
-        Some(identifier) => plain_text(alloc, identifier.as_str()),
-        None => {
-            let text = String::from_str(alloc, "-")?;
-            Ok(text)
-        }
-    }
-}
-
-/// The last line, as in the report of `run`.
-fn sum_line(alloc: Global, keys: &[Key], verdicts: &[Verdict]) -> Result<String, NoMemory>
-    ensures { IfOk result (λ line. string_bytes line ≡ sum_line keys.now verdicts.now) }
-{
-    let finished = finished_count(verdicts);
-    let count = keys.len();
-    let line = format!(in alloc; "finished {finished} of {count}\n")?;
     Ok(line)
 }

@@ -1,8 +1,11 @@
 //! What a run is given.
+use kmip_choices::Report;
 
 /// What a run is given.
 #[derive(Clone, Copy, Debug)]
 pub struct RunInput<'a> {
+    /// In which form its end is printed.
+    pub report: Report,
     /// Where what is known is kept, as it is named where it cannot be written.
     pub path: &'a str,
     /// How many exchanges may be made at most.

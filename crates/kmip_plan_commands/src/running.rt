@@ -1,35 +1,28 @@
-//! The command `run`: a plan is carried out over a link, and what is known is kept after each exchange.
+//! The command `run`: a plan is carried out over a link, and how that ended is printed.
 ghost use Rattle.std.specs.Prelude.{◌≡◌, false, true, IfErr, IfOk, IsTrue, option_map};
 ghost use Rattle.std.specs.Io.KnownBytes.{Appends};
 ghost use Rattle.kmip_messages.specs.Members.{may_have};
 ghost use Rattle.kmip_plan.specs.Reading.{plan_read};
 ghost use Rattle.kmip_message_commands.specs.Private.{Fails};
 ghost use Rattle.kmip_plan_commands.specs.Checking.{is_memory, plan_refusal_text};
-ghost use Rattle.kmip_plan_commands.specs.PrivateRuns.{TellsOfClient, call_on_printer, call_told};
-ghost use Rattle.kmip_plan_commands.specs.Runs.{Runs, RunsPlan, RunsText, call_ended, call_in_memory, run_change, run_start};
+ghost use Rattle.kmip_plan_commands.specs.PrivateRuns.{call_on_printer};
+ghost use Rattle.kmip_plan_commands.specs.RunText.{is_end_refused, run_end_text};
+ghost use Rattle.kmip_plan_commands.specs.Runs.{RunsPlan, RunsText, call_ended, call_in_memory, call_on_writer, run_change, run_start};
 
-use crate::beginning::begin;
+use crate::carrying_out::run_to_end;
+use crate::ending::push_run_end;
 use crate::push_refusal;
+use crate::run_end::RunEnd;
 use crate::run_input::RunInput;
-use crate::telling::{progress_refusal_text, run_text, unwritten_text};
-use kmip_client::Client;
 use kmip_client::laws::onward_is_an_order;
 use kmip_message_commands::{CommandFault, ExitStatus, Printed, Printer, finished};
 use kmip_plan::{Plan, PlanFault, read_plan};
-use kmip_progress::ProgressFault;
 use kmip_protocol::Link;
-use kmip_runs::{Keeper, Patience, SaveFault, Stop, carry_out};
+use kmip_runs::{Keeper, Patience};
 use kmip_ttlv::NoMemory;
 use std::alloc::Global;
 use std::io::Write;
 use std::mem;
-
-/// The text of a run, and whether something was refused, not written or left unfinished.
-#[derive(Drop)]
-struct Told {
-    text: Vec<u8>,
-    refused: bool,
-}
 
 /// Does what `run` does, and prints the line of a fault. `Done` where nothing was refused, not kept or
 /// left unfinished, and else `Refused`; `Failed` with the fault.
@@ -46,11 +39,11 @@ pub fn run_run<L: Link, K: Keeper, E: Patience, W: Write>(
     // The `batch` of the input is a number from 1 to 8.
     requires { IsTrue (may_have input.now.batch) }
     ensures { RunsText (plan_read plan.now)
-        (run_start (option_map (λ text. text.now) saved.entry) input.now.path.now
-        input.now.batch input.now.limit)
+        (run_start (option_map (λ text. text.now) saved.entry) input.now.batch input.now.limit)
         (run_change L.seen K.kept E.has_given_up link.old link.new keeper.old keeper.new
         patience.old patience.new)
-        (call_ended result (W.contents writer.old) (W.contents writer.new)) }
+        (call_ended input.now.report input.now.path.now result
+        (W.contents writer.old) (W.contents writer.new)) }
 {
     let ended = run(alloc, plan, input, saved, link, keeper, patience, writer);
     finished(ended, writer)
@@ -70,29 +63,14 @@ pub fn run_plan<L: Link, K: Keeper, E: Patience, W: Write>(
     // The `batch` of the input is a number from 1 to 8.
     requires { IsTrue (may_have input.now.batch) }
     ensures { RunsPlan plan.now
-        (run_start (option_map (λ text. text.now) saved.entry) input.now.path.now
-        input.now.batch input.now.limit)
+        (run_start (option_map (λ text. text.now) saved.entry) input.now.batch input.now.limit)
         (run_change L.seen K.kept E.has_given_up link.old link.new keeper.old keeper.new
         patience.old patience.new)
-        (call_ended result (W.contents writer.old) (W.contents writer.new)) }
+        (call_ended input.now.report input.now.path.now result
+        (W.contents writer.old) (W.contents writer.new)) }
 {
     let ended = run_plan_to(alloc, plan, input, saved, link, keeper, patience, writer);
     finished(ended, writer)
-}
-
-/// Prints what is told of a run, and says whether something was refused, not written or left
-/// unfinished.
-///
-/// # Errors
-/// The fault of the printer.
-fn print_told<P: Printer>(told: &Told, printer: &mut P) -> Result<bool, CommandFault>
-    ensures text { IfOk result (λ r. (r ≡ told.now.refused)
-        × Appends (P.contents printer.old) (P.contents printer.new) told.now.text.items) }
-    ensures broken { IfErr result (λ fault. Fails fault P.own_fault P.IsWhole
-        (P.contents printer.old) (P.contents printer.new)) }
-{
-    printer.print(told.text.as_slice())?;
-    Ok(told.refused)
 }
 
 /// Carries out the text of a plan over the link, from nothing or from what the text of a saved progress
@@ -100,10 +78,10 @@ fn print_told<P: Printer>(told: &Told, printer: &mut P) -> Result<bool, CommandF
 /// each further exchange, and says whether it is made. Each message asks about at most as many keys as
 /// the input says.
 ///
-/// It writes the report of the keys, and a line that says why it stopped and after how many exchanges.
-/// Where what was known could not be kept, it writes one line that says so. Where the plan is refused,
-/// or else the progress, it writes the line of the refusal; then nothing is asked, and nothing is kept.
-/// Nothing is written before the run has ended.
+/// It writes how each key stands, in the form that the input says, and a line that says why it stopped
+/// and after how many exchanges. Where what was known could not be kept, it writes one line that says
+/// so. Where the plan is refused, or else the progress, it writes the line of the refusal; then nothing
+/// is asked, and nothing is kept. Nothing is written before the run has ended.
 ///
 /// The result is true where something was refused, not kept, or left unfinished.
 ///
@@ -127,12 +105,12 @@ pub fn run<L: Link, K: Keeper, E: Patience, W: Write>(
 ) -> Result<bool, CommandFault>
     // The `batch` of the input is a number from 1 to 8.
     requires { IsTrue (may_have input.now.batch) }
-    ensures { Runs (plan_read plan.now)
-        (run_start (option_map (λ text. text.now) saved.entry) input.now.path.now
-        input.now.batch input.now.limit)
+    ensures { RunsText (plan_read plan.now)
+        (run_start (option_map (λ text. text.now) saved.entry) input.now.batch input.now.limit)
         (run_change L.seen K.kept E.has_given_up link.old link.new keeper.old keeper.new
         patience.old patience.new)
-        result (W.contents writer.old) (W.contents writer.new) }
+        (call_on_writer input.now.report input.now.path.now result
+        (W.contents writer.old) (W.contents writer.new)) }
 {
     run_to(alloc, plan, input, saved, link, keeper, patience, writer)
 }
@@ -154,11 +132,11 @@ pub fn run_bytes<L: Link, K: Keeper, E: Patience>(
     // The `batch` of the input is a number from 1 to 8.
     requires { IsTrue (may_have input.now.batch) }
     ensures { RunsText (plan_read plan.now)
-        (run_start (option_map (λ text. text.now) saved.entry) input.now.path.now
-        input.now.batch input.now.limit)
+        (run_start (option_map (λ text. text.now) saved.entry) input.now.batch input.now.limit)
         (run_change L.seen K.kept E.has_given_up link.old link.new keeper.old keeper.new
         patience.old patience.new)
-        (call_in_memory result output.old.items output.new.items) }
+        (call_in_memory input.now.report input.now.path.now result
+        output.old.items output.new.items) }
 {
     let mut printed = Printed {
         text: mem::replace(output, Vec::new(alloc)),
@@ -197,12 +175,11 @@ fn run_to<L: Link, K: Keeper, E: Patience, P: Printer>(
 ) -> Result<bool, CommandFault>
     requires { IsTrue (may_have input.now.batch) }
     ensures { RunsText (plan_read plan.now)
-        (run_start (option_map (λ text. text.now) saved.entry) input.now.path.now
-        input.now.batch input.now.limit)
+        (run_start (option_map (λ text. text.now) saved.entry) input.now.batch input.now.limit)
         (run_change L.seen K.kept E.has_given_up link.old link.new keeper.old keeper.new
         patience.old patience.new)
-        (call_on_printer result P.own_fault P.IsWhole (P.contents printer.old)
-        (P.contents printer.new)) }
+        (call_on_printer input.now.report input.now.path.now result P.own_fault P.IsWhole
+        (P.contents printer.old) (P.contents printer.new)) }
 {
     onward_is_an_order();
     match read_plan(alloc, plan) {
@@ -234,7 +211,7 @@ fn print_refusal<P: Printer>(
     Ok(true)
 }
 
-/// Carries out a plan, and prints what is told of it.
+/// Carries out a plan, and prints how that ended.
 ///
 /// # Errors
 ///
@@ -251,91 +228,35 @@ fn run_plan_to<L: Link, K: Keeper, E: Patience, P: Printer>(
 ) -> Result<bool, CommandFault>
     requires { IsTrue (may_have input.now.batch) }
     ensures { RunsPlan plan.now
-        (run_start (option_map (λ text. text.now) saved.entry) input.now.path.now
-        input.now.batch input.now.limit)
+        (run_start (option_map (λ text. text.now) saved.entry) input.now.batch input.now.limit)
         (run_change L.seen K.kept E.has_given_up link.old link.new keeper.old keeper.new
         patience.old patience.new)
-        (call_on_printer result P.own_fault P.IsWhole (P.contents printer.old)
-        (P.contents printer.new)) }
+        (call_on_printer input.now.report input.now.path.now result P.own_fault P.IsWhole
+        (P.contents printer.old) (P.contents printer.new)) }
 {
-    let told = told_of_plan(alloc, plan, input, saved, link, keeper, patience)?;
-    print_told(&told, printer)
+    let end = run_to_end(alloc, plan, input, saved, link, keeper, patience)?;
+    print_end(alloc, input, &end, printer)
 }
 
-/// What is told of a run of this plan.
+/// Prints the end of a run, and says whether something was refused, not kept or left unfinished.
 ///
 /// # Errors
-/// Where there is no memory.
-fn told_of_plan<L: Link, K: Keeper, E: Patience>(
-    alloc: Global,
-    plan: &Plan,
-    input: &RunInput<'_>,
-    saved: Option<&str>,
-    link: &mut L,
-    keeper: &mut K,
-    patience: &mut E,
-) -> Result<Told, NoMemory>
-    requires { IsTrue (may_have input.now.batch) }
-    ensures { RunsPlan plan.now
-        (run_start (option_map (λ text. text.now) saved.entry) input.now.path.now
-        input.now.batch input.now.limit)
-        (run_change L.seen K.kept E.has_given_up link.old link.new keeper.old keeper.new
-        patience.old patience.new)
-        (call_told result) }
-{
-    onward_is_an_order();
-    match begin(alloc, plan, saved) {
-        Ok(client) => {
-            let mut client = client;
-            client.set_batch(input.batch);
-            let told = told_of_exchanges(alloc, &mut client, input, link, keeper, patience)?;
-            Ok(told)
-        }
-        Err(ProgressFault::NoMemory) => Err(NoMemory),
-        Err(fault) => {
-            let text = progress_refusal_text(alloc, fault)?;
-            Ok(Told {
-                text: text.into_bytes(),
-                refused: true,
-            })
-        }
-    }
-}
-
-/// What is told of exchanges from what the client knows.
 ///
-/// # Errors
-/// Where there is no memory.
-fn told_of_exchanges<L: Link, K: Keeper, E: Patience>(
+/// `NoMemory`, and the fault of the printer.
+fn print_end<P: Printer>(
     alloc: Global,
-    client: &mut Client<'_>,
     input: &RunInput<'_>,
-    link: &mut L,
-    keeper: &mut K,
-    patience: &mut E,
-) -> Result<Told, NoMemory>
-    ensures { TellsOfClient client.old input.now.path.now input.now.limit
-        (run_change L.seen K.kept E.has_given_up link.old link.new keeper.old keeper.new
-        patience.old patience.new)
-        (call_told result) }
+    end: &RunEnd<'_>,
+    printer: &mut P,
+) -> Result<bool, CommandFault>
+    ensures text { IfOk result (λ r. (r ≡ is_end_refused end.now)
+        × Appends (P.contents printer.old) (P.contents printer.new)
+        (run_end_text input.now.report input.now.path.now end.now)) }
+    ensures broken { IfErr result (λ fault. Fails fault P.own_fault P.IsWhole
+        (P.contents printer.old) (P.contents printer.new)) }
 {
-    let (ended, exchanges) = carry_out(alloc, client, link, keeper, patience, input.limit);
-    match ended {
-        Ok(Stop::NoMemory) | Err(SaveFault::NoMemory) => Err(NoMemory),
-        Ok(stop) => {
-            let text = run_text(alloc, client, stop, exchanges)?;
-            let refused = !stop.is_all_finished();
-            Ok(Told {
-                text: text.into_bytes(),
-                refused,
-            })
-        }
-        Err(SaveFault::Output) => {
-            let text = unwritten_text(alloc, input.path)?;
-            Ok(Told {
-                text: text.into_bytes(),
-                refused: true,
-            })
-        }
-    }
+    let mut told = Vec::new(alloc);
+    push_run_end(alloc, input.report, input.path, end, &mut told)?;
+    printer.print(told.as_slice())?;
+    Ok(end.is_refused())
 }

@@ -1,17 +1,28 @@
-//! What is printed of a run.
+//! The lines that a run ends with.
 ghost use Rattle.std.specs.Prelude.{◌≡◌, ◌++◌, OnOk, IfOk, string_bytes};
-ghost use Rattle.kmip_client.specs.Verdicts.{counts_of, verdicts_of};
-ghost use Rattle.kmip_runs.specs.Reporting.{report_text};
-ghost use Rattle.kmip_plan_commands.specs.RunText.{progress_refusal_text, stop_line, unwritten_text};
+ghost use Rattle.kmip_plan_commands.specs.ProgressRefusals.{progress_refusal_text};
+ghost use Rattle.kmip_plan_commands.specs.RunText.{stop_line, unwritten_text};
 
-use kmip_client::Client;
+use kmip_message_commands::push_text;
 use kmip_progress::ProgressFault;
-use kmip_runs::{Stop, report};
+use kmip_runs::Stop;
 use kmip_ttlv::NoMemory;
 use std::alloc::Global;
 
+/// Appends the line of a progress that is refused.
+pub(crate) fn push_progress_refusal(
+    alloc: Global,
+    fault: ProgressFault,
+    text: &mut Vec<u8>,
+) -> Result<(), NoMemory>
+    ensures { OnOk result (text.new.items ≡ text.old.items ++ progress_refusal_text fault) }
+{
+    let line = progress_refusal_text(alloc, fault)?;
+    push_text(line.as_bytes(), text)
+}
+
 /// The line of a progress that is refused.
-pub(crate) fn progress_refusal_text(alloc: Global, fault: ProgressFault) -> Result<String, NoMemory>
+fn progress_refusal_text(alloc: Global, fault: ProgressFault) -> Result<String, NoMemory>
     ensures { IfOk result (λ text. string_bytes text ≡ progress_refusal_text fault) }
 {
     let number = fault.number();
@@ -20,30 +31,34 @@ pub(crate) fn progress_refusal_text(alloc: Global, fault: ProgressFault) -> Resu
     Ok(text)
 }
 
+/// Appends the line of a progress that could not be written.
+pub(crate) fn push_unwritten(alloc: Global, path: &str, text: &mut Vec<u8>) -> Result<(), NoMemory>
+    ensures { OnOk result (text.new.items ≡ text.old.items ++ unwritten_text path.now) }
+{
+    let line = unwritten_text(alloc, path)?;
+    push_text(line.as_bytes(), text)
+}
+
 /// The line of a progress that could not be written.
 #[tactic(auto, unfolding(crate::specs::RunText::unwritten_text))]
-pub(crate) fn unwritten_text(alloc: Global, path: &str) -> Result<String, NoMemory>
+fn unwritten_text(alloc: Global, path: &str) -> Result<String, NoMemory>
     ensures { IfOk result (λ text. string_bytes text ≡ unwritten_text path.now) }
 {
     let text = format!(in alloc; "cannot write {path}\n")?;
     Ok(text)
 }
 
-/// The report of what the client knows, and the line of the stop.
-pub(crate) fn run_text(
+/// Appends the line of the stop.
+pub(crate) fn push_stop(
     alloc: Global,
-    client: &Client<'_>,
     stop: Stop,
     exchanges: usize,
-) -> Result<String, NoMemory>
-    ensures { IfOk result (λ text. string_bytes text ≡ report_text client.now.keys
-        (counts_of client.now.knowns) (verdicts_of client.now.keys client.now.knowns)
-        ++ stop_line stop exchanges) }
+    text: &mut Vec<u8>,
+) -> Result<(), NoMemory>
+    ensures { OnOk result (text.new.items ≡ text.old.items ++ stop_line stop exchanges) }
 {
-    let mut text = report(alloc, client)?;
     let line = stop_line(alloc, stop, exchanges)?;
-    text.push_str(line.as_str())?;
-    Ok(text)
+    push_text(line.as_bytes(), text)
 }
 
 /// The line of the stop.

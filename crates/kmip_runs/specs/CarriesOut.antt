@@ -24,9 +24,13 @@ pub record Stage : Type 1 where
   pub keeper : Kept
   pub is_tired : Bool
 
+-- The stage of these parts.
+abbrev pub stage : Seen → ClientState → Kept → Bool → Stage
+stage link client keeper is_tired = record { link = link; client = client; keeper = keeper; is_tired = is_tired }
+
 -- What is seen at a stage, but for patience.
 abbrev pub situation : Stage → Situation
-situation stage = record { client = stage.client; link = stage.link; keeper = stage.keeper }
+situation moment = record { client = moment.client; link = moment.link; keeper = moment.keeper }
 
 -- What carrying out a plan promises where all was good before (`IsGood`).
 pub record CarriesOutWell (most : ℕ) (old : Stage) (stopped : Result Stop SaveFault) (made : ℕ) (new : Stage) : Type 0 where

@@ -1,7 +1,8 @@
 -- What is reported of the keys of a plan: a line for each key, with how many of its steps are done and how it
 -- stands, and a line that counts the finished keys.
 -- Source: own (text).
-use Rattle.std.specs.Prelude.{ℕ, Bool, true, false, List, [], ◌∷◌, ◌++◌, length, filter, codes, decimal}
+use Rattle.std.specs.Prelude.{ℕ, Bool, true, false, List, [], ◌∷◌, ◌++◌, length, filter, codes, decimal, Option, Some, None}
+use Rattle.kmip_ttlv.specs.Showing.{plain_text}
 use Rattle.kmip_plan.specs.TargetWords.{target_word}
 use Rattle.kmip_plan.specs.declared.key.Key.{Key}
 use Rattle.kmip_client.specs.Knowledge.{chain_length}
@@ -16,6 +17,11 @@ verdict_word Finished = codes "finished"
 verdict_word (Conflict Attributes) = codes "conflict attributes"
 verdict_word (Conflict State) = codes "conflict state"
 verdict_word (Conflict TwoObjects) = codes "conflict two-objects"
+
+-- an identifier in plain characters, so that a server's own words forge no line; a hyphen where none is known
+abbrev pub identifier_text : Option (List ℕ) → List ℕ
+identifier_text None = codes "-"
+identifier_text (Some identifier) = plain_text identifier
 
 -- the line of a key: its name, its target, how many of its steps are done, and its verdict
 abbrev pub report_line : Key → ℕ → Verdict → List ℕ

@@ -2,7 +2,7 @@
 ghost use Rattle.std.specs.Prelude.{◌≡◌, ◌≢◌, ◌≤◌, ◌<◌, ◌++◌, ◌∷◌, [], length, Ok, Err, IfErr, IsTrue, OnErr, OnOk, false};
 ghost use Rattle.kmip_client.specs.Saving.{progress};
 ghost use Rattle.kmip_progress.specs.Texts.{progress_text};
-ghost use Rattle.kmip_runs.specs.CarriesOut.{CarriesOut};
+ghost use Rattle.kmip_runs.specs.CarriesOut.{CarriesOut, stage};
 ghost use Rattle.kmip_runs.specs.PrivateCarried.{CarryingLaws, MakesExchangesInTurn, MakesOneExchange};
 ghost use Rattle.kmip_runs.specs.Refusals.{HasRisen};
 
@@ -52,17 +52,10 @@ pub fn carry_out<L: Link, K: Keeper, P: Patience>(
     patience: &mut P,
     limit: usize,
 ) -> (Result<Stop, SaveFault>, usize)
-    ensures { CarriesOut limit (record {
-      link = L.seen link.old;
-      client = client.old;
-      keeper = K.kept keeper.old;
-      is_tired = P.has_given_up patience.old;
-    }) result.0 result.1 (record {
-      link = L.seen link.new;
-      client = client.new;
-      keeper = K.kept keeper.new;
-      is_tired = P.has_given_up patience.new;
-    }) }
+    ensures { CarriesOut limit
+        (stage (L.seen link.old) client.old (K.kept keeper.old) (P.has_given_up patience.old))
+        result.0 result.1
+        (stage (L.seen link.new) client.new (K.kept keeper.new) (P.has_given_up patience.new)) }
 {
     laws_below();
     let _plan = client.plan();
@@ -102,17 +95,10 @@ fn exchange_in_turn<L: Link, K: Keeper, P: Patience>(
     patience: &mut P,
     limit: usize,
 ) -> (Result<Stop, SaveFault>, usize)
-    ensures { MakesExchangesInTurn limit (record {
-      link = L.seen link.old;
-      client = client.old;
-      keeper = K.kept keeper.old;
-      is_tired = P.has_given_up patience.old;
-    }) result.0 result.1 (record {
-      link = L.seen link.new;
-      client = client.new;
-      keeper = K.kept keeper.new;
-      is_tired = P.has_given_up patience.new;
-    }) }
+    ensures { MakesExchangesInTurn limit
+        (stage (L.seen link.old) client.old (K.kept keeper.old) (P.has_given_up patience.old))
+        result.0 result.1
+        (stage (L.seen link.new) client.new (K.kept keeper.new) (P.has_given_up patience.new)) }
 {
     laws_below();
     let _plan = client.plan();

@@ -3,6 +3,7 @@ ghost use Rattle.std.specs.Prelude.{◌≡◌, ◌++◌, IfOk, OnOk, string_byte
 ghost use Rattle.kmip_client.specs.Verdicts.{counts_of, verdicts_of};
 ghost use Rattle.kmip_runs.specs.Reporting.{
   verdict_word,
+  identifier_text,
   report_line,
   report_lines,
   is_finished,
@@ -13,8 +14,8 @@ ghost use Rattle.kmip_runs.specs.Reporting.{
 
 use kmip_client::{Clash, Client, Verdict};
 use kmip_plan::{Key, chain_length};
-use kmip_ttlv::NoMemory;
-use std::alloc::{AllocError, Global};
+use kmip_ttlv::{NoMemory, Text, plain_text};
+use std::alloc::Global;
 
 /// The report of what a client knows, exactly as `report_text` states it: a line for each key, with its name,
 /// its target, how many of the steps to it are done and how it stands; and a last line that counts the
@@ -29,7 +30,8 @@ pub fn report(alloc: Global, client: &Client<'_>) -> Result<String, NoMemory>
     let counts = client.counts(alloc)?;
     let verdicts = client.verdicts(alloc)?;
     let keys = client.plan().keys();
-    Ok(report_of(alloc, keys, counts.as_slice(), verdicts.as_slice())?)
+    let text = report_of(alloc, keys, counts.as_slice(), verdicts.as_slice())?;
+    Ok(text)
 }
 
 /// The report of these counts and verdicts.
@@ -38,7 +40,7 @@ pub(crate) fn report_of(
     keys: &[Key],
     counts: &[usize],
     verdicts: &[Verdict],
-) -> Result<String, AllocError>
+) -> Result<String, NoMemory>
     ensures { IfOk result (λ text. string_bytes text
         ≡ report_text keys.now counts.now verdicts.now) }
 {
@@ -56,7 +58,7 @@ fn push_lines(
     keys: &[Key],
     counts: &[usize],
     verdicts: &[Verdict],
-) -> Result<(), AllocError>
+) -> Result<(), NoMemory>
     ensures { OnOk result (string_bytes text.new
         ≡ string_bytes text.old ++ report_lines keys.now counts.now verdicts.now) }
 {
@@ -78,12 +80,7 @@ fn push_lines(
 }
 
 /// The line of a key.
-fn report_line(
-    alloc: Global,
-    key: &Key,
-    done: usize,
-    verdict: Verdict,
-) -> Result<String, AllocError>
+fn report_line(alloc: Global, key: &Key, done: usize, verdict: Verdict) -> Result<String, NoMemory>
     ensures { IfOk result (λ line. string_bytes line ≡ report_line key.now done verdict) }
 {
     let name = key.attrs.name.as_str();
@@ -94,8 +91,8 @@ fn report_line(
     Ok(line)
 }
 
-/// How a verdict is printed.
-fn verdict_word(verdict: Verdict) -> &'static str
+/// How a verdict is printed. Takes no memory.
+pub fn verdict_word(verdict: Verdict) -> &'static str
     ensures { result.now ≡ verdict_word verdict }
 {
     match verdict {
@@ -107,8 +104,28 @@ fn verdict_word(verdict: Verdict) -> &'static str
     }
 }
 
-/// The last line.
-fn sum_line(alloc: Global, keys: &[Key], verdicts: &[Verdict]) -> Result<String, AllocError>
+/// An identifier in plain characters, and a hyphen where none is known.
+///
+/// # Errors
+/// Where there is no memory for it.
+pub fn identifier_text(alloc: Global, identifier: &Option<Text>) -> Result<String, NoMemory>
+    ensures { IfOk result (λ text. string_bytes text ≡ identifier_text identifier.now) }
+{
+    match identifier {
+        Some(identifier) => plain_text(alloc, identifier.as_str()),
+        None => {
+            let text = String::from_str(alloc, "-")?;
+            Ok(text)
+        }
+    }
+}
+
+/// The last line of a report: how many of the verdicts are that a key is finished, and how many keys
+/// there are.
+///
+/// # Errors
+/// Where there is no memory for it.
+pub fn sum_line(alloc: Global, keys: &[Key], verdicts: &[Verdict]) -> Result<String, NoMemory>
     ensures { IfOk result (λ line. string_bytes line ≡ sum_line keys.now verdicts.now) }
 {
     let finished = finished_count(verdicts);

@@ -164,6 +164,7 @@ fn run(
     let settings = Settings::of(words)?;
     let plan = fs::read_to_string(rt, settings.plan.unwrap_or(case.file))?;
     let input = RunInput {
+        report: settings.report,
         path: "over there",
         limit: settings.limit,
         batch: settings.batch,

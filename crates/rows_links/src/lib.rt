@@ -44,10 +44,11 @@
 //!     told                 how many messages were sent, what was told of exchanges and of ends of runs,
 //!                          and for how many milliseconds the link slept and has to wait
 //!
-//! A setting is `of PLAN`, the file of another plan; `limit NUMBER` of exchanges, else 10,000; `about
-//! NUMBER`, how many keys a message asks about at most, else 1; `room NUMBER`, how many texts can be kept,
-//! else 10; `writer NUMBER`, a writer with room for so many bytes, of which nothing is printed; or `in short`:
-//! of what is written and of the texts that are kept the count is printed, with a checksum, and the last lines.
+//! A setting is `of PLAN`, the file of another plan; `with identifiers`, the form in which its end is
+//! printed, else the plain one; `limit NUMBER` of exchanges, else 10,000; `about NUMBER`, how many keys a
+//! message asks about at most, else 1; `room NUMBER`, how many texts can be kept, else 10; `writer NUMBER`,
+//! a writer with room for so many bytes, of which nothing is printed; or `in short`: of what is written and
+//! of the texts that are kept the count is printed, with a checksum, and the last lines.
 #![tactic(auto)]
 
 mod alone;

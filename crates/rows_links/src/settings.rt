@@ -1,5 +1,6 @@
 //! What a run is given, as the words of a line say it.
 
+use kmip_plan_commands::Report;
 use std::test::Fail;
 
 /// What a run is given beside its link and what it begins with.
@@ -7,6 +8,8 @@ use std::test::Fail;
 pub(crate) struct Settings<'w> {
     /// The file of its plan, where that is another one than the block's.
     pub(crate) plan: Option<&'w str>,
+    /// In which form its end is printed.
+    pub(crate) report: Report,
     /// How many exchanges it may make.
     pub(crate) limit: usize,
     /// How many keys a message asks about at most.
@@ -24,6 +27,7 @@ impl<'w> Settings<'w> {
     pub(crate) fn of(words: &'w str) -> Result<Self, Fail> {
         let mut settings = Settings {
             plan: None,
+            report: Report::Plain,
             limit: 10_000,
             batch: 1,
             room: 10,
@@ -41,6 +45,7 @@ impl<'w> Settings<'w> {
         match word {
             "" => {}
             "of" => self.plan = Some(given),
+            "with" if given == "identifiers" => self.report = Report::Identifiers,
             "limit" => self.limit = given.parse()?,
             "about" => self.batch = given.parse()?,
             "room" => self.room = given.parse()?,

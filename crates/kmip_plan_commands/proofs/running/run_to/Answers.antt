@@ -5,14 +5,14 @@ use Rattle.kmip_plan_commands.proofs.running.run_to.Goals as goal
 
 pub returns-in-Ok : goal.returns-in-Ok
 returns-in-Ok g c = record {
-  text = writes_read _ _ _ _ _ _ _ _ _ _ c.in-Ok.ensures.exact c.run_plan_to.ensures.text;
+  text = writes_read _ _ _ _ _ _ _ _ _ _ _ c.in-Ok.ensures.exact c.run_plan_to.ensures.text;
   broken = c.run_plan_to.ensures.broken;
   planned = of_what_was_read _ _ _ c.in-Ok.ensures.exact c.run_plan_to.ensures.over;
 }
 
 pub returns-in-Err : goal.returns-in-Err
 returns-in-Err g c = record {
-  text = writes_refusal _ _ _ _ _ _ _ _ _ _ (refl, refl) c.in-Err.ensures.exact c.print_refusal.ensures.known c.print_refusal.ensures.text;
+  text = writes_refusal _ _ _ _ _ _ _ _ _ _ _ (refl, refl) c.in-Err.ensures.exact c.print_refusal.ensures.known c.print_refusal.ensures.text;
   broken = c.print_refusal.ensures.broken;
   planned = search rules;
 }
