@@ -15,5 +15,7 @@ mod telling;
 mod unread;
 mod wording;
 
+pub use looking::why_text;
 pub use premise::{PREMISES, Premise, finding_of};
 pub use running::{probe_bytes, run_probe};
+pub use wording::{are_all_kept, flaw_text, sum_text};

@@ -121,7 +121,7 @@ fn used_text(alloc: Global, name: &str, uid: &str) -> Result<String, NoMemory>
 ///
 /// # Errors
 /// Where there is no memory.
-fn why_text(
+pub fn why_text(
     alloc: Global,
     outcome: Option<&Outcome>,
     unread: Option<Unread>,

@@ -10,11 +10,11 @@ use kmip_probe::{Finding, Findings, Flaw};
 use kmip_ttlv::{NoMemory, plain_text};
 use std::alloc::Global;
 
-/// How a premise is broken, in words.
+/// How a premise is broken, in words. An identifier of the server's stands in them in plain characters.
 ///
 /// # Errors
 /// Where there is no memory.
-fn flaw_text(alloc: Global, flaw: &Flaw) -> Result<String, NoMemory>
+pub fn flaw_text(alloc: Global, flaw: &Flaw) -> Result<String, NoMemory>
     ensures { IfOk result (λ text. string_bytes text ≡ flaw_text flaw.now) }
 {
     let text = match flaw {
@@ -77,8 +77,8 @@ fn is_broken(finding: &Finding) -> bool
     matches!(finding, Finding::Broken(_))
 }
 
-/// Whether every premise is kept.
-pub(crate) fn are_all_kept(findings: &Findings) -> bool
+/// Whether every premise is seen to be kept.
+pub fn are_all_kept(findings: &Findings) -> bool
     ensures { result ≡ are_all_kept findings.now }
 {
     PREMISES
@@ -110,8 +110,9 @@ fn is_unsafe(findings: &Findings, premise: Premise) -> bool
     !premise.is_for_progress() && is_broken(finding_of(findings, premise))
 }
 
-/// The line that sums up.
-fn sum_text(findings: &Findings) -> &'static str
+/// The line that sums up what was found of all premises: the promise holds, it does not, keys may stay
+/// unfinished, or not all could be told. It ends by a line feed.
+pub fn sum_text(findings: &Findings) -> &'static str
     ensures { result.now ≡ sum_text findings.now }
 {
     if are_all_kept(findings) {

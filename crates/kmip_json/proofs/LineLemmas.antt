@@ -1,0 +1,64 @@
+-- Lines of documents, and the pairs that their members are.
+use Rattle.std.proofs.Common.{◌≡◌, ℕ, suc, ◌+◌, List, [], ◌∷◌, ◌++◌, map, drop, Some, None, Result, OnOk, Bor, refl, sym, ap, ap₂, subst, ◌∙◌, arith, append_assoc, zero}
+use Rattle.std.proofs.lemmas.List.{map-append}
+use Rattle.std.specs.List.{slice_get}
+use Rattle.serde_json.specs.Data.{Data}
+use Rattle.kmip_objects.specs.Lifecycle.{step_word}
+use Rattle.kmip_objects.specs.declared.step.Step.{Step}
+use Rattle.kmip_plan.specs.Chains.{chain, step_at}
+use Rattle.kmip_plan.specs.declared.target.Target.{Target}
+use Rattle.kmip_json.specs.declared.member.Member.{Member}
+use Rattle.kmip_json.specs.Documents.{document, members}
+use Rattle.kmip_json.specs.PrivateMembers.{pair_of}
+
+-- the document of members that are these pairs
+pub line_by : {T E : Type 0} (result : Result T E) (old new : List ℕ) {ps qs : List (List ℕ × Data)} → ps ≡ qs
+    → OnOk result (new ≡ old ++ document (members ps)) → OnOk result (new ≡ old ++ document (members qs))
+line_by result old new same written = subst (λ (ps : List (List ℕ × Data)). OnOk result (new ≡ old ++ document (members ps))) same written
+
+-- one member more at the end
+pub pushed : (ms more : List Member) (m : Member) (pairs : List (List ℕ × Data)) (pair : List ℕ × Data) → map pair_of ms ≡ pairs → pair_of m ≡ pair
+    → more ≡ ms ++ m ∷ [] → map pair_of more ≡ pairs ++ pair ∷ []
+pushed ms more m pairs pair is last longer =
+    ap (map pair_of) longer ∙ map-append pair_of ms (m ∷ []) ∙ ap₂ (λ ps p. ps ++ p ∷ []) is last
+
+-- one word more at the end
+pub word_pushed : (old new : List (Bor (List ℕ))) (word : Bor (List ℕ)) (step : Step) → new ≡ old ++ word ∷ [] → word.now ≡ step_word step
+    → map (λ (w : Bor (List ℕ)). w.now) new ≡ map (λ (w : Bor (List ℕ)). w.now) old ++ step_word step ∷ []
+word_pushed old new word step longer says =
+    ap (map (λ (w : Bor (List ℕ)). w.now)) longer
+    ∙ map-append (λ (w : Bor (List ℕ)). w.now) old (word ∷ [])
+    ∙ ap (λ x. map (λ (w : Bor (List ℕ)). w.now) old ++ x ∷ []) says
+
+-- the next step of a chain
+step_here : (steps : List Step) (i : ℕ) (step : Step) → slice_get steps i ≡ Some step
+    → map step_word (drop i steps) ≡ step_word step ∷ map step_word (drop (suc i) steps)
+step_here [] i step e = absurd cc
+step_here (s ∷ steps) zero step e = let same : s ≡ step = cc in ap (λ x. step_word x ∷ map step_word steps) same
+step_here (s ∷ steps) (suc i) step e = step_here steps i step e
+
+step_past : (steps : List Step) (i : ℕ) → slice_get steps i ≡ None → map step_word (drop i steps) ≡ map step_word (drop (suc i) steps)
+step_past [] zero e = refl
+step_past [] (suc i) e = refl
+step_past (s ∷ steps) zero e = absurd cc
+step_past (s ∷ steps) (suc i) e = step_past steps i e
+
+pub words_next : (target : Target) (i : ℕ) (step : Step) (done more whole : List (List ℕ)) → step_at target (i + 1) ≡ Some step
+    → done ++ map step_word (drop i (chain target)) ≡ whole → more ≡ done ++ step_word step ∷ []
+    → more ++ map step_word (drop (i + 1) (chain target)) ≡ whole
+words_next target i step done more whole e so_far is =
+    let here : suc i ≡ i + 1 = omega arith in
+    subst (λ j. more ++ map step_word (drop j (chain target)) ≡ whole) here
+    (ap (λ ws. ws ++ map step_word (drop (suc i) (chain target))) is
+    ∙ append_assoc done (step_word step ∷ []) (map step_word (drop (suc i) (chain target)))
+    ∙ ap (λ ws. done ++ ws) (sym (step_here (chain target) i step (ap (step_at target) here ∙ e)))
+    ∙ so_far)
+
+pub words_past : (target : Target) (i : ℕ) (done more whole : List (List ℕ)) → step_at target (i + 1) ≡ None
+    → done ++ map step_word (drop i (chain target)) ≡ whole → more ≡ done → more ++ map step_word (drop (i + 1) (chain target)) ≡ whole
+words_past target i done more whole e so_far is =
+    let here : suc i ≡ i + 1 = omega arith in
+    subst (λ j. more ++ map step_word (drop j (chain target)) ≡ whole) here
+    (ap (λ ws. ws ++ map step_word (drop (suc i) (chain target))) is
+    ∙ ap (λ ws. done ++ ws) (sym (step_past (chain target) i (ap (step_at target) here ∙ e)))
+    ∙ so_far)

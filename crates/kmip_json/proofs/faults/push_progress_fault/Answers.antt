@@ -1,0 +1,17 @@
+-- The members are the pairs of the fault.
+use Rattle.std.proofs.Common.{ap, ◌∙◌}
+use Rattle.serde_json.specs.Data.{string}
+use Rattle.kmip_json.specs.Documents.{count}
+use Rattle.kmip_json.specs.FaultJson.{progress_fault_line}
+use Rattle.kmip_json.proofs.LineLemmas.{line_by}
+use Rattle.kmip_json.proofs.PairLemmas.{last, more, said_as}
+use Rattle.kmip_json.proofs.faults.push_progress_fault.Goals as goal
+
+pub returns-clause-text : goal.returns-clause-text
+unfolding progress_fault_line
+returns-clause-text c =
+    let said =
+    more c.text.ensures
+    (more (said_as c.count.ensures (ap count (c.from.ensures ∙ c.number.ensures)))
+    (last (said_as c.text-2.ensures (ap string c.name.ensures)))) in
+    line_by c.push_document.result c.args.text.now.items c.push_document.new.text.items said c.push_document.ensures

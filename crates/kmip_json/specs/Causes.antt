@@ -1,0 +1,32 @@
+-- What stands in the way of a run, and its word.
+-- Source: own (text): what the program prints.
+use Rattle.std.specs.Prelude.{ℕ, nat_lt, Bool, true, false, List, codes, Option, Some, None, if◌then◌else◌}
+use Rattle.std.specs.List.{list_any}
+use Rattle.kmip_client.specs.declared.verdict.Verdict.{Verdict}
+use Rattle.kmip_client.specs.declared.verdict.Verdict.TheVariants as verdicts
+use Rattle.kmip_runs.specs.Stops.{is_all_finished}
+use Rattle.kmip_runs.specs.declared.stop.Stop.{Stop}
+use Rattle.kmip_json.specs.declared.cause.Cause.{Cause}
+use Rattle.kmip_json.specs.declared.cause.Cause.TheVariants.{Unreachable, Refused, Conflict}
+use Rattle.kmip_plan_commands.specs.declared.run_tally.RunTally.{RunTally}
+
+-- The word for a cause.
+abbrev pub cause_word : Cause → List ℕ
+cause_word Unreachable = codes "unreachable"
+cause_word Refused = codes "refused"
+cause_word Conflict = codes "conflict"
+
+-- The verdict is that a key is in conflict.
+abbrev pub is_conflict : Verdict → Bool
+is_conflict (verdicts.Conflict clash) = true
+is_conflict verdict = false
+
+-- What stands in the way of a run that ended so: nothing where each key is finished. Else it is the first of
+-- these: a key in conflict, a question that was refused, an exchange that brought no reply.
+abbrev pub cause_of : Stop → List Verdict → RunTally → Option Cause
+cause_of stop verdicts tally =
+    if is_all_finished stop then None
+    else if list_any is_conflict verdicts then Some Conflict
+    else if nat_lt 0 tally.refused then Some Refused
+    else if nat_lt 0 tally.lost then Some Unreachable
+    else None

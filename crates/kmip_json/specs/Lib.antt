@@ -1,0 +1,26 @@
+-- What a line of a report says as a document of JSON.
+
+-- the document of some members, byte for byte
+pub mod Documents
+-- what `check` says of a plan
+pub mod CheckJson
+-- what `list` says of a plan and a progress
+pub mod ListJson
+-- what stands in the way of a run, and its word
+pub mod Causes
+-- what `run` says of a run that ended
+pub mod RunJson
+-- the line of a fault
+pub mod FaultJson
+-- what `look` says of the keys of a plan
+pub mod LookJson
+-- what `probe` says of a server
+pub mod ProbeJson
+-- what holds of every document: it is read back
+pub mod Laws
+-- private: what the values and the members of the code are as data
+pub mod PrivateMembers
+-- private: what only the clauses of private functions cite
+pub mod Private
+-- private: what the answers of a probe say, once keys were made
+pub mod PrivateProbing

@@ -1,0 +1,58 @@
+-- What `run` says of a run that ended, as documents.
+-- Source: own (text): what the program prints.
+use Rattle.std.specs.Prelude.{ℕ, ◌-◌, ◌^◌, min, List, [], ◌∷◌, ◌++◌, length, drop, slice_index, sum, codes, option_map}
+use Rattle.serde_json.specs.Data.{string}
+use Rattle.kmip_plan.specs.declared.key.Key.{Key}
+use Rattle.kmip_progress.specs.declared.known.Known.{Known}
+use Rattle.kmip_client.specs.Clients.{ClientState}
+use Rattle.kmip_client.specs.Saving.{progress}
+use Rattle.kmip_client.specs.Verdicts.{verdicts_of}
+use Rattle.kmip_client.specs.declared.verdict.Verdict.{Verdict}
+use Rattle.kmip_runs.specs.Reporting.{finished_count}
+use Rattle.kmip_runs.specs.Stops.{stop_name}
+use Rattle.kmip_runs.specs.declared.stop.Stop.{Stop}
+use Rattle.kmip_json.specs.Causes.{cause_of, cause_word}
+use Rattle.kmip_json.specs.Documents.{count, document, members, text_or_null}
+use Rattle.kmip_json.specs.ListJson.{key_pairs}
+use Rattle.kmip_plan_commands.specs.declared.run_tally.RunTally.{RunTally}
+
+-- The line of a key: what `list` says of it, and how many of its steps this run made.
+unfoldable pub run_line : Key → Known → Verdict → ℕ → List ℕ
+run_line key known verdict made =
+    document (members (key_pairs key known verdict ++ (codes "steps", count made) ∷ []))
+
+-- The lines of the keys, in the order of the plan. A key that has no count of steps counts 0.
+abbrev pub run_key_lines : List Key → List Known → List Verdict → List ℕ → List ℕ
+run_key_lines [] knowns verdicts steps = []
+run_key_lines (key ∷ keys) [] verdicts steps = []
+run_key_lines (key ∷ keys) (known ∷ knowns) [] steps = []
+run_key_lines (key ∷ keys) (known ∷ knowns) (verdict ∷ verdicts) steps =
+    run_line key known verdict (slice_index steps 0) ++ run_key_lines keys knowns verdicts (drop 1 steps)
+
+-- The sum of the counts of steps, or the greatest number of 64 bits where the sum does not fit.
+abbrev pub all_steps : List ℕ → ℕ
+all_steps steps = min (sum steps) (2 ^ 64 - 1)
+
+-- The last line: how the run ended, what was counted, and what stands in the way.
+unfoldable pub end_line : List Verdict → List Key → Stop → RunTally → List ℕ
+end_line verdicts keys stop tally = document (members (
+    (codes "end", string (stop_name stop))
+    ∷ (codes "finished", count (finished_count verdicts))
+    ∷ (codes "of", count (length keys))
+    ∷ (codes "exchanges", count tally.exchanges)
+    ∷ (codes "lost", count tally.lost)
+    ∷ (codes "refused", count tally.refused)
+    ∷ (codes "unreadable", count tally.unreadable)
+    ∷ (codes "steps", count (all_steps tally.steps.items))
+    ∷ (codes "milliseconds", count tally.milliseconds)
+    ∷ (codes "cause", text_or_null (option_map cause_word (cause_of stop verdicts tally)))
+    ∷ []))
+
+-- The lines by these verdicts.
+abbrev pub run_lines_by : List Verdict → List Key → List Known → Stop → RunTally → List ℕ
+run_lines_by verdicts keys knowns stop tally =
+    run_key_lines keys knowns verdicts tally.steps.items ++ end_line verdicts keys stop tally
+
+-- What `run` says of a run that left this client.
+abbrev pub run_lines : ClientState → Stop → RunTally → List ℕ
+run_lines c stop tally = run_lines_by (verdicts_of c.keys c.knowns) c.keys (progress c) stop tally

@@ -1,0 +1,37 @@
+//! The reports of the commands as documents of JSON, one a line.
+//!
+//! A document is an object. Its members stand in the order in which a person reads them, and JSON
+//! leaves that order free. Names, identifiers and words of a server stand in it as they are: JSON
+//! escapes what would break a line.
+#![tactic(auto)]
+
+mod bytes;
+mod cause;
+mod checking;
+mod datum;
+mod document;
+mod fault;
+mod faults;
+mod key_members;
+pub mod laws;
+mod listing;
+#[cfg(test)]
+mod look_tests;
+mod looking;
+mod member;
+mod optional;
+#[cfg(test)]
+mod probe_tests;
+mod probing;
+mod running;
+#[cfg(test)]
+mod tests;
+
+pub use cause::Cause;
+pub use checking::{push_check, push_prolongs};
+pub use fault::Fault;
+pub use faults::{NO_MEMORY_LINE, push_fault, push_plan_fault, push_progress_fault};
+pub use listing::push_list;
+pub use looking::push_look;
+pub use probing::{push_making, push_premises, push_probe, push_probe_end, unbegun_line};
+pub use running::push_run;

@@ -1,0 +1,187 @@
+//! Lines that were worked out by hand from RFC 8259, for names that JSON has to escape.
+
+use crate::{
+    Cause, Fault, NO_MEMORY_LINE, push_check, push_fault, push_list, push_plan_fault,
+    push_progress_fault, push_prolongs, push_run,
+};
+use kmip_client::Client;
+use kmip_objects::KeyAttrs;
+use kmip_plan::{Key, Plan, PlanFault, Target, read_plan};
+use kmip_plan_commands::RunTally;
+use kmip_progress::{Known, Progress, ProgressFault, suits};
+use kmip_runs::Stop;
+use kmip_ttlv::{NoMemory, Text};
+use std::alloc::Global;
+use std::process::Abort;
+use std::test::Fail;
+
+/// A plan of two keys. The name of the first has a quotation mark and a backslash.
+const PLAN: &str = r#"
+[[key]]
+name = 'a"b\c'
+algorithm = "AES"
+length = 256
+usage = ["encrypt", "decrypt"]
+target = "active"
+
+[[key]]
+name = "second"
+algorithm = "HMAC-SHA256"
+length = 256
+usage = ["mac-generate"]
+target = "discarded"
+"#;
+
+const CHECK_LINES: [&str; 3] = [
+    r#"{"key":"a\"b\\c\u001f","algorithm":"AES","length":256,"usage":12,"target":"active","steps":["Create","Activate"]}"#,
+    r#"{"key":"k","algorithm":null,"length":64,"usage":511,"target":"created","steps":["Create"]}"#,
+    r#"{"key":"d","algorithm":"HMAC-SHA256","length":256,"usage":384,"target":"destroyed","steps":["Create","Activate","Revoke","Destroy"]}"#,
+];
+
+const LIST_LINES: [&str; 3] = [
+    r#"{"key":"a\"b\\c","target":"active","done":2,"of":2,"verdict":"finished","identifier":"17\n"}"#,
+    r#"{"key":"second","target":"discarded","done":0,"of":2,"verdict":"working","identifier":null}"#,
+    r#"{"finished":1,"of":2}"#,
+];
+
+const RUN_LINES: [&str; 3] = [
+    r#"{"key":"a\"b\\c","target":"active","done":2,"of":2,"verdict":"finished","identifier":"17\n","steps":2}"#,
+    r#"{"key":"second","target":"discarded","done":0,"of":2,"verdict":"working","identifier":null,"steps":0}"#,
+    r#"{"end":"Limit","finished":1,"of":2,"exchanges":23,"lost":3,"refused":0,"unreadable":4,"steps":2,"milliseconds":412,"cause":"unreachable"}"#,
+];
+
+const FAULT_LINES: [&str; 6] = [
+    r#"{"fault":"plan refused","number":7,"name":"BadLength","field":null,"key":613,"line":4903}"#,
+    r#"{"fault":"plan refused","number":5,"name":"Unknown","field":"\"\\\t","key":0,"line":null}"#,
+    r#"{"fault":"progress refused","number":2,"name":"Cut"}"#,
+    r#"{"fault":"cannot read","at":"/etc/plan.toml","why":"no such file or directory","cause":null}"#,
+    r#"{"fault":"no answer","at":null,"why":null,"cause":"refused"}"#,
+    r#"{"fault":"no memory"}"#,
+];
+
+/// Each line stands in the text, in this order and with a line feed, and nothing else does.
+pub(crate) fn assert_lines(
+    rt: &impl Abort,
+    alloc: Global,
+    text: &[u8],
+    lines: &[&str],
+) -> Result<(), NoMemory> {
+    let mut expected = Vec::new(alloc);
+    for line in lines {
+        expected.extend_from_slice(line.as_bytes())?;
+        expected.push(b'\n')?;
+    }
+    assert!(rt; text == expected.as_slice(), "in {text:?}");
+    Ok(())
+}
+
+/// A key with this name, of which the Revocation Reason Code is 0.
+pub(crate) fn key(
+    alloc: Global,
+    name: &str,
+    algorithm: u32,
+    length: i32,
+    usage: i32,
+    target: Target,
+) -> Result<Key, NoMemory> {
+    let name = Text::copied(alloc, name)?;
+    let attrs = KeyAttrs {
+        name,
+        algorithm,
+        length,
+        usage,
+    };
+    Ok(Key {
+        attrs,
+        target,
+        reason: 0,
+    })
+}
+
+#[test]
+fn writes_what_is_checked(rt: HostRuntime) -> Result<(), Fail> {
+    let alloc = rt.alloc();
+    let keys = [
+        key(alloc, "a\"b\\c\u{1f}", 3, 256, 12, Target::Active)?,
+        key(alloc, "k", 1, 64, 511, Target::Created)?,
+        key(alloc, "d", 9, 256, 384, Target::Destroyed)?,
+    ];
+    let mut text = Vec::new(alloc);
+    push_check(alloc, &keys, &mut text)?;
+    assert_lines(&rt, alloc, text.as_slice(), &CHECK_LINES)?;
+    let mut text = Vec::new(alloc);
+    push_prolongs(alloc, true, &mut text)?;
+    push_prolongs(alloc, false, &mut text)?;
+    let lines = [r#"{"prolongs":true}"#, r#"{"prolongs":false}"#];
+    assert_lines(&rt, alloc, text.as_slice(), &lines)?;
+    Ok(())
+}
+
+/// The first key is done, under an identifier with a line feed; nothing is known of the second.
+fn saved(alloc: Global) -> Result<Progress, NoMemory> {
+    let identifier = Text::copied(alloc, "17\n")?;
+    let known = vec![in alloc;
+        Known {
+            identifier: Some(identifier),
+            done: 2
+        },
+        Known {
+            identifier: None,
+            done: 0
+        },
+    ]?;
+    Ok(Progress::new(known))
+}
+
+#[test]
+fn writes_what_is_known(rt: HostRuntime) -> Result<(), Fail> {
+    let alloc = rt.alloc();
+    let plan: Plan = read_plan(alloc, PLAN)?;
+    let saved = saved(alloc)?;
+    assert!(rt; suits(&plan, &saved));
+    let mut text = Vec::new(alloc);
+    push_list(alloc, &plan, &saved, &mut text)?;
+    assert_lines(&rt, alloc, text.as_slice(), &LIST_LINES)?;
+    let client = Client::resume(alloc, &plan, &saved)?;
+    let tally = RunTally {
+        exchanges: 23,
+        lost: 3,
+        unreadable: 4,
+        refused: 0,
+        milliseconds: 412,
+        steps: vec![in alloc; 2u64]?,
+    };
+    let mut text = Vec::new(alloc);
+    push_run(alloc, &client, Stop::Limit, &tally, &mut text)?;
+    assert_lines(&rt, alloc, text.as_slice(), &RUN_LINES)?;
+    Ok(())
+}
+
+#[test]
+fn writes_what_went_wrong(rt: HostRuntime) -> Result<(), Fail> {
+    let alloc = rt.alloc();
+    let mut text = Vec::new(alloc);
+    push_plan_fault(alloc, &PlanFault::BadLength(613), Some(4903), &mut text)?;
+    let word = Text::copied(alloc, "\"\\\t")?;
+    push_plan_fault(alloc, &PlanFault::Unknown(word, 0), None, &mut text)?;
+    push_progress_fault(alloc, ProgressFault::Cut, &mut text)?;
+    let unread = Fault {
+        fault: "cannot read",
+        at: Some("/etc/plan.toml"),
+        why: Some("no such file or directory"),
+        cause: None,
+    };
+    push_fault(alloc, &unread, &mut text)?;
+    let unanswered = Fault {
+        fault: "no answer",
+        at: None,
+        why: None,
+        cause: Some(Cause::Refused),
+    };
+    push_fault(alloc, &unanswered, &mut text)?;
+    text.extend_from_slice(NO_MEMORY_LINE.as_bytes())?;
+    assert_lines(&rt, alloc, text.as_slice(), &FAULT_LINES)?;
+    let wanting = push_plan_fault(alloc, &PlanFault::NoMemory, None, &mut text);
+    assert!(rt; wanting.is_err());
+    Ok(())
+}
