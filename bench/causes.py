@@ -26,6 +26,8 @@ target = "active"
 CHECKED = 'k1 AES 256 0000000c active: Create Activate\n'
 FINISHED = 'k1 active 2/2 finished\nfinished 1 of 1\nstop AllFinished 3\n'
 ALL_KNOWN = 'kmip-progress 2\nk1 active - 2 31\nend 1\n'
+SIMULATED = ('run 1 AllFinished 3\nk1 active 2/2 finished\nfinished 1 of 1\n'
+             'ask 1 Locate k1\nask 2 Create k1\nask 3 Activate k1\nrecord 1 k1 Active\n')
 # A Structure with nothing in it.
 ITEM = '4200080100000000\n'
 
@@ -39,6 +41,9 @@ TAKEN = 'Address already in use (os error 98)'
 NO_FILE_LEFT = 'Too many open files (os error 24)'
 UNKNOWN_EFFECT = 'what was asked last may have taken effect'
 
+# The environment without the variables that stand for options.
+AROUND = {name: value for name, value in os.environb.items() if not name.startswith(b'KMIPCTL_')}
+
 CHECK = ('check', '--plan', 'plan.toml')
 CHECK_AFTER = (*CHECK, '--after', 'plan.toml')
 SIM = ('sim', '--plan', 'plan.toml', '--script', 'empty.script')
@@ -49,10 +54,14 @@ SERVE = ('serve', '--port', '0', '--connections', '0')
 
 WANTED = '--connect wants an IPv4 address and a port, as 192.0.2.7:5696; '
 NO_ADDRESS_AND_PORT = "error: the value of '--connect <ADDRESS>' is no IPv4 address and port, as 127.0.0.1:5696\n"
+NO_ADDRESS_IN_VARIABLE = 'error: the value of KMIPCTL_CONNECT is no IPv4 address and port, as 127.0.0.1:5696\n'
+TWO_SERVERS = ('error: KMIPCTL_CONNECT and KMIPCTL_SOCKET are both set: unset one, '
+               'or give --connect, --socket or --loopback\n')
 SERVERS = '<--connect <ADDRESS>|--socket <PATH>|--loopback>'
 HELP = "\nFor more information, try '--help'.\n"
 RUN_USAGE = f'\nUsage: kmipctl run [OPTIONS] --plan <PATH> --progress <PATH> {SERVERS}\n{HELP}'
 PROBE_USAGE = f'\nUsage: kmipctl probe [OPTIONS] --name-prefix <PREFIX> {SERVERS}\n{HELP}'
+CHECK_USAGE = f'\nUsage: kmipctl check [OPTIONS] --plan <PATH>\n{HELP}'
 
 
 class Causes:
@@ -91,8 +100,9 @@ class Causes:
         print(f'{what}: skipped, {lacking}')
         self.skipped += 1
 
-    def run(self, words, **more):
-        return subprocess.run([self.program, *words], cwd=self.folder, text=True, timeout=30,
+    def run(self, words, said=(), **more):
+        """A run in an environment with these variables."""
+        return subprocess.run([self.program, *words], cwd=self.folder, text=True, timeout=30, env=AROUND | dict(said),
                               stdin=more.pop('stdin', subprocess.DEVNULL), **more)
 
     def case(self, what, words, printed, told, status=1, **more):
@@ -248,6 +258,88 @@ class Causes:
                       [f'standard input: {FOLDER}'], stdin=folder)
             os.close(folder)
 
+    def plans_of_input(self):
+        """Plans on standard input."""
+        self.start()
+        rows = [
+            (('check', '--plan', '-'), CHECKED, [], 0),
+            (('check', '--plan', '-', '--after', 'plan.toml'), f'{CHECKED}prolongs\n', [], 0),
+            (('sim', '--plan', '-', '--script', 'empty.script'), SIMULATED, [], 0),
+            (('run', '--plan', '-', '--progress', 'p', '--loopback'), FINISHED, [], 0),
+            (('look', '--plan', '-', '--loopback'), 'k1 active - none to do: Create Activate\nfinished 0 of 1\n', [], 1),
+        ]
+        for words, printed, told, status in rows:
+            with open(self.path('plan.toml')) as plan:
+                self.case(' '.join(words), words, printed, told, status=status, stdin=plan)
+        words = ('list', '--plan', '-', '--progress', 'p')
+        with open(self.path('plan.toml')) as plan:
+            done = self.run(words, stdin=plan, capture_output=True)
+        self.look(' '.join(words), (done.returncode, 0), (done.stdout, 'k1 active 2/2 finished 1\nfinished 1 of 1\n'))
+        self.unread_input()
+        self.named_as_input()
+
+    def unread_input(self):
+        words, unread = ('check', '--plan', '-'), 'cannot read standard input\n'
+        folder = os.open(self.folder, os.O_RDONLY)
+        self.case('a plan from a folder', words, unread, [f'standard input: {FOLDER}'], stdin=folder)
+        os.close(folder)
+        self.put('input', b'# \xff\n')
+        with open(self.path('input')) as given:
+            self.case('input that is no text', words, unread, ['standard input: it is no UTF-8 text'], stdin=given)
+        os.truncate(self.path('input'), 16_777_217)
+        for more in (words, ('run', '--plan', '-', '--progress', 'p', '--loopback')):
+            with open(self.path('input')) as given:
+                self.case(f'{" ".join(more)} of too much', more, 'longer than 16777216 bytes: standard input\n',
+                          ['standard input: it has more than 16777216 bytes; see what stands there'], stdin=given)
+        self.put('input', '[[key]]\n')
+        missing = 'standard input:1: key 1: there is no name: a key needs name, algorithm, length, usage and target'
+        for more in (words, (*words, '--after', 'plan.toml'), ('sim', '--plan', '-', '--script', 'empty.script'),
+                     ('list', '--plan', '-', '--progress', 'p'), ('look', '--plan', '-', '--loopback')):
+            with open(self.path('input')) as given:
+                self.case(f'{" ".join(more)} of no plan', more, 'plan refused: 4 Missing name at key 1\n', [missing],
+                          stdin=given)
+        self.put('input', PLAN.replace('k1', 'k2'))
+        with open(self.path('input')) as given:
+            self.case('input that does not prolong a file', (*words, '--after', 'plan.toml'),
+                      CHECKED.replace('k1', 'k2') + 'prolongs not\n',
+                      ['standard input: "k1" of plan.toml is not there: each of its keys keeps its place'],
+                      stdin=given)
+
+    def named_as_input(self):
+        """A file that is called as standard input is read by another path, and by this one where it is no plan's."""
+        self.put('-', PLAN)
+        self.case('check --plan ./-', ('check', '--plan', './-'), CHECKED, [], status=0)
+        self.case('check --after -', (*CHECK, '--after', '-'), f'{CHECKED}prolongs\n', [], status=0)
+        self.put('-', '')
+        self.case('sim --script -', ('sim', '--plan', 'plan.toml', '--script', '-'), SIMULATED, [], status=0)
+        os.remove(self.path('-'))
+        self.case('run --progress -', (*RUN, '--progress', '-'), FINISHED, [], status=0)
+        self.look('a progress of that name', (self.text('-'), ALL_KNOWN))
+
+    def variables(self):
+        """Variables in the place of options."""
+        self.start()
+        wrong = 'KMIPCTL_CONNECT wants an IPv4 address and a port, as 192.0.2.7:5696; '
+        name = '"kms:5696" has a name: look it up first, or name a tunnel\'s --socket'
+        run = ('run', '--plan', 'plan.toml', '--progress', 'p')
+        both = {b'KMIPCTL_CONNECT': b'127.0.0.1:1', b'KMIPCTL_SOCKET': b's'}
+        rows = [
+            (('check',), {b'KMIPCTL_PLAN': b'plan.toml'}, CHECKED, [], 0),
+            (('check', '--plan', 'plan.toml'), {b'KMIPCTL_PLAN': b'\xff'}, CHECKED, [], 0),
+            ((*RUN, '--progress', 'p'), {**both, b'KMIPCTL_PROGRESS': b'q'}, FINISHED, [], 0),
+            (('check',), {b'KMIPCTL_PLAN': b'\xff'}, f'error: the value of KMIPCTL_PLAN is not UTF-8\n{CHECK_USAGE}', [], 2),
+            (run, both, TWO_SERVERS + RUN_USAGE, [], 2),
+            (run, {b'KMIPCTL_CONNECT': b'kms:5696'}, NO_ADDRESS_IN_VARIABLE + RUN_USAGE, [wrong + name], 2),
+            (PROBE[:-1], {b'KMIPCTL_CONNECT': b'192.0.2.7'}, NO_ADDRESS_IN_VARIABLE + PROBE_USAGE,
+             [f'{wrong}"192.0.2.7" has no port: add one, as :5696'], 2),
+            (PROBE[:-1], {b'KMIPCTL_SOCKET': b's' * 108}, f'cannot connect {"s" * 108}\n',
+             [f'{"s" * 108}: path must be shorter than SUN_LEN; give a shorter path'], 1),
+        ]
+        for words, said, printed, told, status in rows:
+            shown = ' '.join(f'{name.decode()}={value!r}' for name, value in said.items())
+            self.case(f'{shown} {" ".join(words)}', words, printed, told, status=status, said=said)
+        self.look('no file of the progress in its variable', (os.path.exists(self.path('q')), False))
+
     def closed_streams(self):
         """Nothing that is printed may land in a file that is opened."""
         for what in ('0<&-', '1>&-', '2>&-', '0<&- 1>&- 2>&-'):
@@ -289,13 +381,20 @@ class Causes:
             (('show', '--canon'), 'one item in hexadecimal a line'),
         ]
         for words, what in rows:
-            master, slave = pty.openpty()
-            # Ctrl-D at the beginning of a line.
-            os.write(master, b'\x04')
-            with os.fdopen(slave) as terminal:
-                self.case(f'{" ".join(words) or "no word"} at a terminal', words, '',
-                          [f'reading from the terminal: {what}; end with Ctrl-D'], status=0, stdin=terminal)
-            os.close(master)
+            self.at_terminal(words, '', [f'reading from the terminal: {what}; end with Ctrl-D'], status=0)
+        self.at_terminal(('check', '--plan', '-'), 'plan refused: 2 NoKeys\n',
+                         ['reading from the terminal: a plan; end with Ctrl-D',
+                          'standard input: there is no key: a plan has at least one [[key]]'], status=1)
+
+    def at_terminal(self, words, printed, told, status):
+        """A command at a terminal at which nothing is typed."""
+        master, slave = pty.openpty()
+        # Ctrl-D at the beginning of a line.
+        os.write(master, b'\x04')
+        with os.fdopen(slave) as terminal:
+            self.case(f'{" ".join(words) or "no word"} at a terminal', words, printed, told, status=status,
+                      stdin=terminal)
+        os.close(master)
 
 
 def fill_up(zeros, file):
@@ -317,6 +416,8 @@ def main():
     causes.sockets()
     causes.outputs()
     causes.inputs()
+    causes.plans_of_input()
+    causes.variables()
     causes.closed_streams()
     causes.addresses()
     causes.terminals()

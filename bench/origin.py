@@ -1,6 +1,6 @@
 #!/usr/bin/env python3
 """Runs `kmipctl run` on progress files that were kept elsewhere: against other servers, for other keys, or by
-a version that did not note where.
+a version that did not note where. It also looks at the metrics that runs write.
 
     bench/origin.py PROGRAM FOLDER
 
@@ -8,11 +8,14 @@ Each row prints what it looks at and `ok`, or what went wrong. Sockets on 127.0.
 The exit status is 0 where all is as it has to be.
 """
 
+import hashlib
 import os
 import re
 import shutil
+import socket
 import subprocess
 import sys
+import threading
 import time
 
 KEY = '''[[key]]
@@ -26,6 +29,14 @@ PLAN = KEY.format('k1', 'AES', 256, '"encrypt", "decrypt"', 'active')
 FINISHED = 'k1 active 2/2 finished\nfinished 1 of 1\nstop AllFinished {}\n'
 ALONE = '1 of 1 finished by {} alone, kept {} against {}; --afresh looks\n'
 GONE = 'a server in the process of its run (--loopback)'
+# What the metrics of each run have, beside how long it took and when a run last finished.
+COUNTED = ['keys{verdict="finished"}', 'keys{verdict="working"}', 'keys{verdict="conflict"}',
+           'exchanges{outcome="answered"}', 'exchanges{outcome="lost"}', 'exchanges{outcome="unreadable"}',
+           'refused', 'steps', 'run_in_progress']
+TIME = 'last_finish_timestamp_seconds'
+UNWRITTEN = '{}: {}; the metrics are not written, and nothing else changes; {}\n'
+# A whole Response Message with nothing in it.
+NO_REPLY = bytes.fromhex('42007b0100000000')
 WAYS = ('--believe: that is the same server under another name; '
         '--afresh: begin from nothing, and keep {0} as {0}.before\n')
 
@@ -268,16 +279,178 @@ class Origins:
         self.look('an origin that cannot be written', (status, printed, self.read('progress')),
                   (1, f'cannot write {self.progress}.origin\n', None))
 
+    def metrics(self, *words, name='run.prom', **more):
+        """What a run prints and its status, and the metrics that it leaves: what is counted, and the last finish."""
+        path = os.path.join(self.folder, name)
+        status, printed, _ = self.run('--metrics', path, *words, **more)
+        return (status, printed.splitlines()[-1]), *self.measured(name)
+
+    def measured(self, name='run.prom'):
+        """What is counted in a file of metrics, and the last finish; none where it is not whole."""
+        lines = (self.read(name) or '').splitlines()
+        values = dict(line.removeprefix('kmipctl_').rsplit(' ', 1) for line in lines if not line.startswith('#'))
+        digest = hashlib.sha256(self.read('plan.toml').encode()).hexdigest()[:16]
+        heads = [f'# {word} kmipctl_{name}' for name in dict.fromkeys(key.split('{')[0] for key in values)
+                 for word in ('HELP', 'TYPE')]
+        is_whole = values.pop(f'plan_info{{digest="{digest}"}}', '') == '1' and values.pop('run_milliseconds', '').isdigit()
+        time_of = values.pop(TIME, None)
+        if not is_whole or list(values) != COUNTED or [' '.join(line.split()[:3]) for line in lines if line[0] == '#'] != heads:
+            return None, lines
+        return [int(value) for value in values.values()], time_of and int(time_of)
+
+    def measured_runs(self):
+        """The metrics of runs that finish, and of runs that do not."""
+        self.begin()
+        where = ('--connect', f'127.0.0.1:{self.serve()}')
+        self.look('metrics of a run that does not finish', self.metrics(*where, '--limit', '2'),
+                  ((1, 'stop Limit 2'), [0, 1, 0, 2, 0, 0, 0, 1, 0], None))
+        start = int(time.time())
+        done, counted, finish = self.metrics(*where)
+        self.look('of one that goes on from there: a step is its own', (done, counted),
+                  ((0, 'stop AllFinished 2'), [1, 0, 0, 2, 0, 0, 0, 1, 0]))
+        self.look('it tells when it finished', finish is not None and start <= finish <= time.time(), True)
+        path = os.path.join(self.folder, 'run.prom')
+        self.look('anyone may read it', os.stat(path).st_mode & 0o777, 0o644 & ~self.mask())
+        self.look('and nothing lies beside it', [name for name in os.listdir(self.folder) if 'run.prom' in name], ['run.prom'])
+        self.write('run.prom', re.sub(r'^(kmipctl_last_finish\S*) \d+', r'\1 1000000000', self.read('run.prom'), flags=re.M))
+        self.look('a run that does not finish keeps the time', self.metrics(*where, '--afresh', '--limit', '1'),
+                  ((1, 'stop Limit 1'), [0, 1, 0, 1, 0, 0, 0, 0, 0], 1000000000))
+        self.look('one that finds all done took no step', self.metrics(*where, '--afresh')[:2],
+                  ((0, 'stop AllFinished 2'), [1, 0, 0, 2, 0, 0, 0, 0, 0]))
+        self.look('one that asks nothing is finished too', self.metrics(*where)[:2],
+                  ((0, 'stop AllFinished 0'), [1, 0, 0, 0, 0, 0, 0, 0, 0]))
+        for text in ('', 'something else\n', f'kmipctl_{TIME} soon\n'):
+            self.write('run.prom', text)
+            self.look('no time is kept of no such file', self.metrics(*where, '--afresh', '--limit', '1'),
+                      ((1, 'stop Limit 1'), [0, 1, 0, 1, 0, 0, 0, 0, 0], None))
+        self.write('progress', 'something else\n')
+        self.look('a run that refuses its progress leaves the file', self.metrics(*where),
+                  ((1, 'progress refused: 2 Cut'), [0, 1, 0, 1, 0, 0, 0, 0, 0], None))
+
+    def mask(self):
+        mask = os.umask(0)
+        os.umask(mask)
+        return mask
+
+    def measured_trouble(self):
+        """The metrics of runs whose replies are lost, or are none."""
+        self.begin()
+        with socket.create_server(('127.0.0.1', 0)) as free:
+            nobody = f'127.0.0.1:{free.getsockname()[1]}'
+        self.look('metrics of a run where nobody listens', self.metrics('--connect', nobody, '--limit', '2'),
+                  ((1, 'stop Limit 2'), [0, 1, 0, 0, 2, 0, 0, 0, 0], None))
+        with Peer(lambda number, request: NO_REPLY) as peer:
+            self.look('of one whose replies cannot be read', self.metrics('--connect', peer.address, '--limit', '2'),
+                      ((1, 'stop Limit 2'), [0, 1, 0, 0, 0, 2, 0, 0, 0], None))
+        server = self.serve()
+        with Peer(lambda number, request: asked(server, request, is_lost=number == 1)) as peer:
+            self.look('a Create whose reply is lost is a step', self.metrics('--connect', peer.address)[:2],
+                      ((0, 'stop AllFinished 5'), [1, 0, 0, 4, 1, 0, 0, 2, 0]))
+
+    def measured_kill(self):
+        """What a run leaves that is killed while it waits for a reply."""
+        self.begin()
+        self.write('run.prom', f'kmipctl_{TIME} 1000000000\n')
+        heard = threading.Event()
+        with Peer(lambda number, request: heard.set() or b'') as peer:
+            words = [self.program, 'run', '--plan', self.plan, '--progress', self.progress, '--connect', peer.address,
+                     '--metrics', os.path.join(self.folder, 'run.prom')]
+            running = subprocess.Popen(words, stdout=subprocess.DEVNULL, stderr=subprocess.DEVNULL)
+            is_heard = heard.wait(30)
+            running.kill()
+            running.wait()
+        self.look('a run was killed while it waited', is_heard, True)
+        self.look('its metrics say that it goes on', self.measured(), ([0, 1, 0, 0, 0, 0, 0, 0, 1], 1000000000))
+        self.look('the next run ends', self.metrics('--loopback', '--afresh')[:2],
+                  ((0, 'stop AllFinished 3'), [1, 0, 0, 3, 0, 0, 0, 2, 0]))
+
+    def unmeasured(self):
+        """Metrics that cannot be written change nothing else."""
+        self.begin()
+        os.mkdir(os.path.join(self.folder, 'folder'))
+        for name, why, remedy in (('none/run.prom', 'No such file or directory (os error 2)', 'see whether its folder is there'),
+                                  ('folder', 'Is a directory (os error 21)', 'see what stands there')):
+            path = os.path.join(self.folder, name)
+            self.look(f'metrics to {name}', self.run('--loopback', '--afresh', '--metrics', path),
+                      (0, FINISHED.format(3), UNWRITTEN.format(path, why, remedy)))
+        known = self.read('progress')
+        why = 'it is the plan or the progress'
+        for name in ('plan.toml', 'progress'):
+            path = os.path.join(self.folder, name)
+            self.look(f'metrics to {name}', self.run('--loopback', '--afresh', '--metrics', path),
+                      (0, FINISHED.format(3), UNWRITTEN.format(path, why, 'name another file')))
+        self.look('both stay', (self.read('plan.toml'), self.read('progress')), (PLAN, known))
+        os.mkdir(os.path.join(self.folder, 'run.prom.new'))
+        status, printed, told = self.run('--loopback', '--afresh', '--limit', '2', '--metrics', os.path.join(self.folder, 'run.prom'))
+        self.look('a run that does not finish', (status, printed, told.count('the metrics are not written')),
+                  (1, 'k1 active 1/2 working\nfinished 0 of 1\nstop Limit 2\n', 1))
+
     def all(self):
         for case in (self.rehearsal, self.other_port, self.other_attributes, self.destroyed, self.taken_further,
                      self.unknown_origin, self.refused_progress, self.killed, self.socket_links, self.nothing_known,
-                     self.listings, self.no_room):
+                     self.listings, self.no_room, self.measured_runs, self.measured_trouble, self.measured_kill,
+                     self.unmeasured):
             case()
         for server in self.servers:
             server.kill()
             server.wait()
         print(f'{self.wrong} wrong')
         return 1 if self.wrong else 0
+
+
+class Peer:
+    """A server on 127.0.0.1 that answers each message by what a call gives for its number and its bytes; where that
+    is nothing it closes the connection, but of `b''`, after which it only waits."""
+
+    def __init__(self, answer):
+        self.answer, self.count = answer, 0
+        self.socket = socket.create_server(('127.0.0.1', 0))
+        self.address = f'127.0.0.1:{self.socket.getsockname()[1]}'
+
+    def __enter__(self):
+        threading.Thread(target=self.serve, daemon=True).start()
+        return self
+
+    def __exit__(self, *_):
+        self.socket.close()
+
+    def serve(self):
+        try:
+            while True:
+                connection = self.socket.accept()[0]
+                threading.Thread(target=self.answer_all, args=(connection,), daemon=True).start()
+        except OSError:
+            pass
+
+    def answer_all(self, connection):
+        with connection:
+            while request := message_of(connection):
+                reply = self.answer(self.count, request)
+                self.count += 1
+                if reply is None:
+                    return
+                connection.sendall(reply)
+
+
+def message_of(connection):
+    """The next message of a connection; nothing where it has ended."""
+    message, size = b'', 8
+    while len(message) < size:
+        piece = connection.recv(size - len(message))
+        if not piece:
+            return b''
+        message += piece
+        if len(message) == 8:
+            size += int.from_bytes(message[4:], 'big')
+    return message
+
+
+def asked(port, request, is_lost):
+    """What the server at a port replies; none where that is to be lost."""
+    with socket.create_connection(('127.0.0.1', port)) as connection:
+        connection.sendall(request)
+        reply = message_of(connection)
+    return None if is_lost else reply
 
 
 def main():

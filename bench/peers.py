@@ -403,6 +403,31 @@ class Peers:
         self.look('and that can', (status == 0, status), (printed == FINISHED.format(3), printed),
                   (self.known() == ALL_KNOWN, self.known()))
 
+    def waiting_runs(self):
+        """A run that is to wait for the one that has its progress waits so long, or until that one has ended."""
+        self.forget()
+        waiting, in_use = f'waiting for {self.progress}: another run has it\n', f'progress in use: {self.progress}\n'
+        server, port = self.serve('--connections', '1000000')
+        words = self.words(('--connect', f'127.0.0.1:{listening(silent)}'), '--limit', '1', '--timeout', '4')
+        with subprocess.Popen(words, stdout=subprocess.DEVNULL, stderr=subprocess.DEVNULL) as first:
+            time.sleep(0.5)
+            status, printed, took = self.run(('--loopback',), '--lock-wait', '0')
+            self.look('a run that is not to wait for another', (status == 1, status), (printed == in_use, printed),
+                      (self.told == '', self.told), (took < 0.5, took))
+            status, printed, took = self.run(('--loopback',), '--lock-wait', '1')
+            self.look('a run that waits for another for a second', (status == 1, status), (printed == in_use, printed),
+                      (self.told == waiting, self.told), (1 <= took < 2, took))
+            is_at_work = first.poll() is None
+            status, printed, took = self.run(('--connect', f'127.0.0.1:{port}'), '--lock-wait', '60')
+            self.look('a run that waits for the end of another', (is_at_work, 'the other has ended'),
+                      (status == 0, status), (printed == FINISHED.format(3), printed), (self.told == waiting, self.told),
+                      (0.5 < took < 4, took), (first.wait() == 1, first.returncode))
+        status, printed, _ = self.run(('--connect', f'127.0.0.1:{port}'), '--lock-wait', '60', '--verbose')
+        self.look('a run that need not wait', (status == 0, status), (printed == FINISHED.format(0), printed),
+                  ('waiting' not in self.told, self.told))
+        server.kill()
+        server.wait()
+
     def no_client(self):
         words = [self.program, 'serve', '--port', '0', '--connections', '0']
         done = subprocess.run(words, capture_output=True, text=True, timeout=10)
@@ -466,6 +491,7 @@ def main():
     peers.hanging_probes()
     peers.told_exchanges()
     peers.files()
+    peers.waiting_runs()
     peers.no_client()
     peers.taken_port()
     peers.bad_clients()

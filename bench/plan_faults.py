@@ -4,14 +4,22 @@
     bench/plan_faults.py PROGRAM FOLDER
 
 Each row is a plan and what has to come of it: standard output, the exit status, and standard error whole.
-What is wanted was written by hand from the rules of a plan. The last line counts the rows, and those that
-went wrong. The exit status is 0 where none did.
+What is wanted was written by hand from the rules of a plan. The schema of `check --json-schema` has to refuse
+the same plans, but for what a schema cannot say. The last line counts the rows, and those that went wrong. The
+exit status is 0 where none did.
 """
 
+import json
 import os
 import shutil
 import subprocess
 import sys
+import tomllib
+
+sys.dont_write_bytecode = True
+sys.path.insert(0, os.path.join(os.path.dirname(os.path.realpath(__file__)), '../tools'))
+
+from plan_schema import Validator
 
 NAMES = 'a string of 1 to 64 printing ASCII characters, without spaces'
 ALGORITHMS = '"AES" or "HMAC-SHA256"'
@@ -160,6 +168,9 @@ REFUSED = [
      f':6: key 1 "a": the target is "gone": it may be {TARGETS}'),
 ]
 
+# What a schema cannot say: that a text is no TOML, that a name is there twice, and that 256.0 is no 256.
+BEYOND_A_SCHEMA = {'a string without its end', 'a field twice', 'a name twice', 'a length that is a float'}
+
 REVOKED = 'revoked: Create Activate Revoke'
 
 # The name of the row, the new plan, the old one, what is printed of the new one, and what stands behind its path.
@@ -238,6 +249,29 @@ class Trial:
             path = self.written('plan.toml', text)
             self.look(row, ['check', '--plan', path], f'plan refused: {fault}\n', f'{path}{why}\n')
 
+    def schema(self):
+        """The schema refuses what `check` refuses, and no plan that is one."""
+        done = subprocess.run([self.program, 'check', '--json-schema'], stdin=subprocess.DEVNULL, capture_output=True)
+        self.note('check --json-schema', (done.returncode, done.stderr), (0, b''))
+        validator = Validator(json.loads(done.stdout))
+        plans = [(row, text, row not in BEYOND_A_SCHEMA) for row, text, _, _ in REFUSED]
+        plans += [(row, text, False) for row, new, old, _, _ in PROLONGS_NOT for text in (new, old)]
+        plans += [(row, text, False) for row, text, _, _ in OF_ANOTHER_PLAN]
+        for row, text, is_refused in plans:
+            try:
+                value = tomllib.loads(text)
+            except tomllib.TOMLDecodeError:
+                self.note(f'{row}, no TOML', row in BEYOND_A_SCHEMA, True)
+            else:
+                self.note(f'{row}, by the schema', not validator.fits(value, validator.whole), is_refused)
+
+    def note(self, row, is_so, wanted):
+        """Compares what is so with what has to be."""
+        self.rows += 1
+        if is_so != wanted:
+            print(f'{row}:\n    is     {is_so!r}\n    wanted {wanted!r}')
+            self.wrong += 1
+
     def prolongings(self):
         for row, new, old, printed_keys, why in PROLONGS_NOT:
             new, old = self.written('new.toml', new), self.written('old.toml', old)
@@ -284,6 +318,7 @@ def main():
     os.makedirs(folder)
     trial = Trial(program, folder)
     trial.faults()
+    trial.schema()
     trial.prolongings()
     trial.progresses()
     trial.commands()

@@ -460,6 +460,7 @@ def commands_of(tools):
         Command(tools, ["show"], life),
         Command(tools, ["show", "--canon"], life),
         Command(tools, ["check", "--plan", plan], shown="check"),
+        Command(tools, ["check", "--plan", "-"], plan, shown="check --plan -"),
         Command(tools, ["check", "--plan", next_year, "--after", plan], shown="check --after"),
         sim("nothing lost", active, tools.file("empty.script", "")),
         sim("a reply lost and an old one", active, loses),

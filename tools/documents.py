@@ -9,6 +9,7 @@ from links import check_links
 from message_rows import check_messages
 from mistakes import check_mistakes
 from own_numbers import check_own_numbers
+from plan_schema import check_plan_schema
 from prose import check_prose, documents
 from sources import CRATES
 from uses import check_uses
@@ -21,7 +22,7 @@ def check(repository):
     """Prints what does not fit, and returns the exit status: 1 where there is something."""
     faults = check_comments(repository) + check_headline(repository) + check_own_numbers() + check_layers()
     faults += check_links() + check_names() + check_messages() + check_mistakes(repository) + check_ways() + check_prose()
-    faults += check_uses(repository)
+    faults += check_uses(repository) + check_plan_schema()
     print(f'{faults} places to look at' if faults else 'nothing to look at')
     return 1 if faults else 0
 

@@ -25,6 +25,7 @@ SIZES = {
     'CONTRIBUTING.md': (12_000, None),
     'SECURITY.md': (1_000, None),
     'docs/ARCHITECTURE.md': (10_000, None),
+    'docs/AUTOMATION.md': (6_000, None),
     'docs/DECISIONS.md': (10_000, None),
     'docs/MEASURED.md': (6_000, None),
     'docs/MISTAKES.md': (10_000, None),

@@ -1,18 +1,20 @@
 //! What `run` tells on standard error: how far it is, what goes wrong, and what was left undone.
 
 use crate::answers::push_answer_about;
-use crate::exchange::{Exchange, name_of};
+use crate::exchange::{Exchange, name_of, place_of};
 use crate::progress_line::ProgressLine;
 use crate::reach::Reach;
+use crate::score::Score;
 use crate::silence::Silence;
 use crate::stage::Stage;
+use crate::standing::Standing;
 use crate::story::Story;
 use crate::wire::Wire;
 use kmip_batch_items::Request;
 use kmip_choices::{Peer, RunOptions};
 use kmip_client::Client;
 use kmip_plan::{Key, Plan};
-use kmip_plan_commands::{Spent, begin};
+use kmip_plan_commands::{RunTally, Spent, begin};
 use kmip_protocol::LinkFault;
 use kmip_trace::{operation_word, push_answer};
 use kmip_ttlv::{NoMemory, plain_text};
@@ -41,10 +43,11 @@ pub struct Account<'a> {
     reach: RefCell<Reach>,
     /// What was heard of each key, in the order of the plan.
     stories: RefCell<Vec<Story>>,
+    score: RefCell<Score>,
 }
 
 impl<'a> Account<'a> {
-    /// Of a run of this plan that begins now.
+    /// Of a run of this plan that begins now, with the text of this progress.
     ///
     /// # Errors
     /// Where there is no memory.
@@ -52,9 +55,11 @@ impl<'a> Account<'a> {
         rt: &'a HostRuntime,
         options: &'a RunOptions,
         plan: &'a Plan,
+        saved: Option<&str>,
     ) -> Result<Self, NoMemory> {
         let peer = peer_text(rt.alloc(), &options.peer)?;
         let stories = stories_of(rt.alloc(), plan.count())?;
+        let score = Score::new(rt.alloc(), plan, saved)?;
         let now = Instant::now(rt).ok();
         Ok(Account {
             rt,
@@ -73,6 +78,7 @@ impl<'a> Account<'a> {
             }),
             reach: RefCell::new(Reach::new()),
             stories: RefCell::new(stories),
+            score: RefCell::new(score),
         })
     }
 
@@ -118,6 +124,7 @@ impl<'a> Account<'a> {
         match Exchange::of(alloc, request, answered, &self.wire) {
             Ok(exchange) => {
                 self.spend(&exchange);
+                self.count(&exchange);
                 let _ = self.tell_reach(exchange.silence, now);
                 let _ = self.keep(&exchange);
                 if self.options.is_verbose {
@@ -125,7 +132,7 @@ impl<'a> Account<'a> {
                     self.tell_strangers(&exchange, answered.unwrap_or(None));
                 }
             }
-            Err(NoMemory) => {}
+            Err(NoMemory) => self.fall_short(),
         }
     }
 
@@ -134,7 +141,48 @@ impl<'a> Account<'a> {
         if let Ok(mut stories) = self.stories.try_borrow_mut() {
             know_stages(client, stories.as_mut_slice());
         }
+        self.know_courses(client);
         self.standing.show(client, self.spent.get());
+    }
+
+    /// What is counted of the run, which has come so far as the client knows.
+    ///
+    /// # Errors
+    /// Where there is no memory, or there was none to read an exchange.
+    pub fn tally(&self, client: &Client<'_>) -> Result<RunTally, NoMemory> {
+        self.know_courses(client);
+        self.tally_so_far()
+    }
+
+    /// What is counted of the run, by what was known after its last exchange.
+    ///
+    /// # Errors
+    /// Where there is no memory, or there was none to read an exchange.
+    pub fn tally_so_far(&self) -> Result<RunTally, NoMemory> {
+        let milliseconds = millis_of(since(self.began, Instant::now(self.rt).ok()));
+        match self.score.try_borrow() {
+            Ok(score) => {
+                let (alloc, keys) = (self.rt.alloc(), self.plan.keys());
+                score.tally(alloc, keys, self.spent.get(), milliseconds)
+            }
+            Err(_) => Err(NoMemory), // never: nobody has it for longer than a call
+        }
+    }
+
+    /// How the keys stand by what is known; none where the progress that the run is to begin with is
+    /// refused.
+    pub fn standing(&self) -> Option<Standing> {
+        match self.score.try_borrow() {
+            Ok(score) => score.standing(),
+            Err(_) => None, // never: nobody has it for longer than a call
+        }
+    }
+
+    /// Takes what the client knows into what is counted.
+    fn know_courses(&self, client: &Client<'_>) {
+        if let Ok(mut score) = self.score.try_borrow_mut() {
+            score.know(client);
+        }
     }
 
     /// Ends the line that says how far the run is, where there is one.
@@ -158,6 +206,20 @@ impl<'a> Account<'a> {
             refused: spent.refused.saturating_add(exchange.refusals()),
             seconds: since(self.began, Instant::now(self.rt).ok()).as_secs(),
         });
+    }
+
+    /// Counts what an exchange asked, and what came of it.
+    fn count(&self, exchange: &Exchange) {
+        if let Ok(mut score) = self.score.try_borrow_mut() {
+            score.count(self.plan.keys(), exchange);
+        }
+    }
+
+    /// There was no memory to read an exchange.
+    fn fall_short(&self) {
+        if let Ok(mut score) = self.score.try_borrow_mut() {
+            score.fall_short();
+        }
     }
 
     /// Tells where the server begins or ceases to answer, and where it does not for another reason than
@@ -245,11 +307,7 @@ impl<'a> Account<'a> {
             (None, Some(silence)) => self.push_silence(silence, &mut line)?,
             (None, None) => line.push_str("no answer in the reply")?,
         }
-        let took = since(self.exchange_began.get(), now);
-        let took = took
-            .as_secs()
-            .saturating_mul(1000)
-            .saturating_add(u64::from(took.subsec_millis()));
+        let took = millis_of(since(self.exchange_began.get(), now));
         let took = format!(in alloc; " ({took} ms)")?;
         line.push_str(took.as_str())?;
         Ok(line)
@@ -369,6 +427,13 @@ fn since(then: Option<Instant>, now: Option<Instant>) -> Duration {
     }
 }
 
+/// So long, in whole milliseconds.
+fn millis_of(time: Duration) -> u64 {
+    time.as_secs()
+        .saturating_mul(1000)
+        .saturating_add(u64::from(time.subsec_millis()))
+}
+
 /// Takes what the client knows of each key for the stage of its story.
 fn know_stages(client: &Client<'_>, stories: &mut [Story]) {
     let count = client.plan().count();
@@ -392,13 +457,10 @@ fn keep_request(
     exchange: &Exchange,
     request: &Request,
 ) -> Result<(), NoMemory> {
-    let name = name_of(request);
-    let Some(place) = keys
-        .iter()
-        .position(|key| key.attrs.name.as_str().as_bytes() == name)
-    else {
+    let Some(place) = place_of(keys, request) else {
         return Ok(());
     };
+    let name = name_of(request);
     if place < stories.len() {
         let operation = request.ask.operation();
         stories[place].hear(alloc, operation, name, exchange.answer(request))?;

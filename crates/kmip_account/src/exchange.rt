@@ -4,6 +4,7 @@ use crate::silence::Silence;
 use crate::wire::Wire;
 use kmip_batch_items::{MessageFault, Outcome, Reply, Request};
 use kmip_messages::read_reply;
+use kmip_plan::Key;
 use kmip_probe::version_in;
 use kmip_protocol::LinkFault;
 use kmip_trace::requests_in;
@@ -79,6 +80,11 @@ impl Exchange {
             .count()
     }
 
+    /// Whether a message came that is no reply.
+    pub(crate) fn is_unreadable(&self) -> bool {
+        matches!(self.silence, Some(Silence::Unreadable(_, _)))
+    }
+
     /// Whether a reply came to what was not asked.
     pub(crate) fn has_stranger(&self) -> bool {
         self.replies.iter().any(|reply| !self.is_asked(reply))
@@ -117,6 +123,13 @@ fn id_bytes(id: &Option<Bytes>) -> &[u8] {
         Some(id) => id.as_slice(),
         None => &[],
     }
+}
+
+/// The place from 0 of the key that a request is about, where it is among these.
+pub(crate) fn place_of(keys: &[Key], request: &Request) -> Option<usize> {
+    let name = name_of(request);
+    keys.iter()
+        .position(|key| key.attrs.name.as_str().as_bytes() == name)
 }
 
 /// The name of the key that a request is about: it stands in its id after the operation.

@@ -1,14 +1,16 @@
 //! The options of the commands, and what stands after them.
 
 use crate::absent::Absent;
+use crate::environment::Environment;
 use crate::help::{
-    AFRESH, AFTER, BATCH, BELIEVE, CANON, CONNECT, CONNECTIONS, DIAGRAM, GIVE_UP, LIMIT,
-    LOOK_GIVE_UP, LOOPBACK, NAME_PREFIX, NOW, PLAN, PORT, PROGRESS, SCRIPT, SERVE_TIMEOUT, SOCKET,
-    STREAM, THEN, TIMEOUT, TRACE, VERBOSE, WAIT,
+    AFRESH, AFTER, BATCH, BELIEVE, CANON, CONNECT, CONNECTIONS, DIAGRAM, GIVE_UP, IDENTIFIERS,
+    JSON_SCHEMA, LIMIT, LOCK_WAIT, LOOK_GIVE_UP, LOOPBACK, METRICS, NAME_PREFIX, NOW, PLAN, PORT,
+    PROGRESS, SCRIPT, SERVE_TIMEOUT, SOCKET, STREAM, THEN, TIMEOUT, TRACE, VERBOSE, WAIT,
 };
+use crate::setting::Setting;
 use crate::value::Value;
-use Absent::{Fine, Means, Wrong};
-use Value::{Flag, FlagUnless, Number, Text};
+use Absent::{Fine, Means, Wrong, WrongUnlessSaid};
+use Value::{Flag, FlagAlone, FlagUnless, FlagWith, Number, Text};
 use clap::builder::ValueParser;
 use clap::{Arg, ArgAction};
 use kmip_batch_items::standard::MOST_QUESTIONS;
@@ -23,7 +25,8 @@ pub(crate) const MOST_SECONDS: u64 = 3_600;
 /// The longest first wait, in milliseconds (own).
 const MOST_WAIT: u64 = 60_000;
 
-/// The longest time after which a run gives up, in seconds (own): a day.
+/// The longest time after which a run gives up, and for which it waits for another, in seconds (own): a
+/// day.
 const MOST_GIVE_UP: u64 = 86_400;
 
 /// The latest time, in seconds since the start of 1970.
@@ -38,7 +41,12 @@ const STREAM_OPTION: CommandOption = CommandOption("stream", Flag, Fine, STREAM)
 
 const CANON_OPTION: CommandOption = CommandOption("canon", Flag, Fine, CANON);
 
-const PLAN_OPTION: CommandOption = CommandOption("plan", Text("PATH"), Wrong, PLAN);
+const PLAN_OPTION: CommandOption = CommandOption(
+    "plan",
+    Text("PATH"),
+    WrongUnlessSaid(Setting::Plan),
+    PLAN,
+);
 
 const AFTER_OPTION: CommandOption = CommandOption("after", Text("PATH"), Fine, AFTER);
 
@@ -50,7 +58,12 @@ const TRACE_OPTION: CommandOption = CommandOption("trace", Flag, Fine, TRACE);
 
 const DIAGRAM_OPTION: CommandOption = CommandOption("diagram", FlagUnless("trace"), Fine, DIAGRAM);
 
-const PROGRESS_OPTION: CommandOption = CommandOption("progress", Text("PATH"), Wrong, PROGRESS);
+const PROGRESS_OPTION: CommandOption = CommandOption(
+    "progress",
+    Text("PATH"),
+    WrongUnlessSaid(Setting::Progress),
+    PROGRESS,
+);
 
 const BELIEVE_OPTION: CommandOption = CommandOption("believe", Flag, Fine, BELIEVE);
 
@@ -61,6 +74,13 @@ const CONNECT_OPTION: CommandOption = CommandOption("connect", Text("ADDRESS"), 
 const SOCKET_OPTION: CommandOption = CommandOption("socket", Text("PATH"), Fine, SOCKET);
 
 const LOOPBACK_OPTION: CommandOption = CommandOption("loopback", Flag, Fine, LOOPBACK);
+
+const RUN_LOOPBACK_OPTION: CommandOption = CommandOption(
+    "loopback",
+    FlagWith("progress"),
+    Fine,
+    LOOPBACK,
+);
 
 const LIMIT_OPTION: CommandOption = CommandOption(
     "limit",
@@ -97,7 +117,25 @@ const GIVE_UP_OPTION: CommandOption = CommandOption(
     GIVE_UP,
 );
 
+const LOCK_WAIT_OPTION: CommandOption = CommandOption(
+    "lock-wait",
+    Number("SECONDS", 0, MOST_GIVE_UP),
+    Means("0"),
+    LOCK_WAIT,
+);
+
 const VERBOSE_OPTION: CommandOption = CommandOption("verbose", Flag, Fine, VERBOSE);
+
+const IDENTIFIERS_OPTION: CommandOption = CommandOption("identifiers", Flag, Fine, IDENTIFIERS);
+
+const METRICS_OPTION: CommandOption = CommandOption("metrics", Text("FILE"), Fine, METRICS);
+
+const JSON_SCHEMA_OPTION: CommandOption = CommandOption(
+    "json-schema",
+    FlagAlone,
+    Fine,
+    JSON_SCHEMA,
+);
 
 const NAME_PREFIX_OPTION: CommandOption = CommandOption(
     "name-prefix",
@@ -133,7 +171,11 @@ pub(crate) const ANSWER_OPTIONS: [CommandOption; 1] = [STREAM_OPTION];
 
 pub(crate) const SHOW_OPTIONS: [CommandOption; 1] = [CANON_OPTION];
 
-pub(crate) const CHECK_OPTIONS: [CommandOption; 2] = [PLAN_OPTION, AFTER_OPTION];
+pub(crate) const CHECK_OPTIONS: [CommandOption; 3] = [
+    PLAN_OPTION,
+    AFTER_OPTION,
+    JSON_SCHEMA_OPTION,
+];
 
 pub(crate) const SIM_OPTIONS: [CommandOption; 6] = [
     PLAN_OPTION,
@@ -144,20 +186,23 @@ pub(crate) const SIM_OPTIONS: [CommandOption; 6] = [
     DIAGRAM_OPTION,
 ];
 
-pub(crate) const RUN_OPTIONS: [CommandOption; 13] = [
+pub(crate) const RUN_OPTIONS: [CommandOption; 16] = [
     PLAN_OPTION,
     PROGRESS_OPTION,
     BELIEVE_OPTION,
     AFRESH_OPTION,
     CONNECT_OPTION,
     SOCKET_OPTION,
-    LOOPBACK_OPTION,
+    RUN_LOOPBACK_OPTION,
     LIMIT_OPTION,
     BATCH_OPTION,
     TIMEOUT_OPTION,
     WAIT_OPTION,
     GIVE_UP_OPTION,
+    LOCK_WAIT_OPTION,
     VERBOSE_OPTION,
+    IDENTIFIERS_OPTION,
+    METRICS_OPTION,
 ];
 
 pub(crate) const LIST_OPTIONS: [CommandOption; 2] = [PLAN_OPTION, PROGRESS_OPTION];
@@ -197,17 +242,22 @@ pub(crate) const SERVE_OPTIONS: [CommandOption; 5] = [
     VERBOSE_OPTION,
 ];
 
-/// The option, for the parser of command lines.
-pub(crate) fn arg_of<'a>(alloc: Global, option: &CommandOption) -> Result<Arg<'a>, AllocError> {
+/// The option, for the parser of command lines. It has to be there unless the environment has its value.
+pub(crate) fn arg_of<'a>(
+    alloc: Global,
+    option: &CommandOption,
+    environment: &Environment,
+) -> Result<Arg<'a>, AllocError> {
     let CommandOption(name, value, absent, help) = *option;
     let arg = with_value(Arg::new(alloc, name).long(name).help(help), value)?;
-    Ok(with_absent(arg, absent))
+    Ok(with_absent(arg, absent, environment))
 }
 
 /// The option with what it means that it is absent.
-fn with_absent<'a>(arg: Arg<'a>, absent: Absent) -> Arg<'a> {
+fn with_absent<'a>(arg: Arg<'a>, absent: Absent, environment: &Environment) -> Arg<'a> {
     match absent {
         Wrong => arg.required(true),
+        WrongUnlessSaid(setting) => arg.required(!environment.has(setting)),
         Fine => arg,
         Means(value) => arg.default_value(value),
     }
@@ -218,6 +268,8 @@ fn with_value<'a>(arg: Arg<'a>, value: Value) -> Result<Arg<'a>, AllocError> {
     match value {
         Flag => Ok(arg.action(ArgAction::SetTrue)),
         FlagUnless(other) => arg.action(ArgAction::SetTrue).conflicts_with(other),
+        FlagAlone => Ok(arg.action(ArgAction::SetTrue).exclusive(true)),
+        FlagWith(other) => arg.action(ArgAction::SetTrue).requires_arg(other),
         Text(name) => Ok(arg.value_name(name)),
         Number(name, least, most) => Ok(
             arg.value_name(name)

@@ -12,6 +12,12 @@ A first look, with a server in the same process:
 Results stand on standard output, and so do faults of the command line. Standard error says why
 something fails, and what `run` does meanwhile. Without a command, kmipctl does `answer`.
 
+Environment: where an option is absent, its variable stands for it, if that is not empty:
+  KMIPCTL_PLAN      for --plan
+  KMIPCTL_PROGRESS  for --progress, but not of a run with --loopback
+  KMIPCTL_CONNECT   for --connect, where none of --connect, --socket and --loopback is there
+  KMIPCTL_SOCKET    for --socket, likewise; both at once are a fault of the command line
+
 Exit status:
   0  all is done: nothing was refused, and all keys are finished; of a probed server, that it keeps
      every rule; of `list`, that it was printed
@@ -78,6 +84,7 @@ and what may stand there. In a field that plans do not have, a byte that is no p
 printed as a backslash and two digits. These lines say that there is no text to check:
   cannot read PATH                  the file cannot be read, or is no UTF-8
   longer than 16777216 bytes: PATH  the file is too long
+With --plan - the plan is read from standard input, which such a line calls `standard input`.
 
 With --after it also says whether the plan prolongs an earlier one: `prolongs`, or `prolongs not`
 with exit status 1. A plan prolongs an earlier one where
@@ -85,7 +92,12 @@ with exit status 1. A plan prolongs an earlier one where
   - each has the algorithm, length and usage of before,
   - the steps to its earlier target are the first steps to its new one,
   - and where a Revoke is among these, its reason is the one of before.
-This plan is checked first, then the earlier one. The first fault is printed alone.";
+This plan is checked first, then the earlier one. The first fault is printed alone.
+
+With --json-schema no plan is checked. A schema of plans is printed (JSON Schema, draft 2020-12), and
+nothing else, for an editor that completes and marks what is typed:
+  kmipctl check --json-schema > plan.schema.json
+It refuses no plan that is one. Names that are there twice it cannot say, so check the plan.";
 
 pub(crate) const SIM: &str =
     "Plays a plan against a test server, over a network that follows a script";
@@ -159,7 +171,8 @@ The plan is checked first, then the further plan, then the script. The first fau
   plan refused: prolongs not                the further plan does not prolong the plan
   script refused: line 3                    line 0 means that `prolong` stands too often, or is missing";
 
-pub(crate) const PLAN: &str = "The file of the plan";
+pub(crate) const PLAN: &str =
+    "The file of the plan; - for standard input (a file of that name is ./-) [env: KMIPCTL_PLAN]";
 
 pub(crate) const SCRIPT: &str = "The file of the script: what the network does, a word a line";
 
@@ -187,7 +200,9 @@ before it asks for anything again. So no key is made twice, and no step is taken
 After each exchange it writes what is known to the progress file. Whenever the program is stopped,
 that file is absent or whole. After a stop of the machine it is so too, as far as the disk keeps what
 it was made to write. Where the file is there, the run goes on from it. Where the file is lost or
-older, nothing is lost: the run looks first. A second run on the file prints `progress in use: PATH`.
+older, nothing is lost: the run looks first. A second run on the file prints `progress in use: PATH`,
+or waits first for the other one to end (--lock-wait), of which it tells on standard error:
+  waiting for PATH: another run has it
 
 PATH.origin stands beside the progress file. It has the server that the file was kept against, and the
 attributes of the plan's keys. A run against another server does not believe the file. It prints
@@ -233,7 +248,17 @@ With --batch B a message asks about up to B keys, each once. A plan of many keys
 fewer exchanges then. What is promised is the same. Where a reply is lost, up to B keys are looked at
 again.
 
-With --loopback the server is one in this process with no object, which suits a first run.";
+With --metrics FILE the run writes metrics to FILE, in the text format of Prometheus: as it begins, once
+it has read its progress, and as it ends. They suit the textfile collector of node_exporter, which reads
+the files of a folder whose names end in `.prom`. At any instant FILE is absent or whole. What is counted
+is that of this run; the time at which a run last finished all keys is kept from run to run. Where FILE
+cannot be written, standard error says why, and nothing else changes, the exit status neither.
+
+With --loopback the server is one in this process with no object, which suits a first run.
+
+Where --plan is absent its variable stands for it, and so for --progress. Where none of --connect,
+--socket and --loopback is there, one of two variables says where the server is; both at once are a
+fault. With --loopback no variable stands for --progress: a rehearsal names its file.";
 
 pub(crate) const LIST: &str = "Lists what the progress file says of each key of a plan";
 
@@ -295,7 +320,8 @@ A rule has `could not be told` where the replies that would tell did not come, c
 refuse what was asked. The reasons may say why. The exit status is 0 only where every line says yes.
 
 With --verbose standard error has a line for each message that is sent. With --loopback the server is
-one in this process, which keeps all rules.";
+one in this process, which keeps all rules. Where none of --connect, --socket and --loopback is there,
+one of two variables says where the server is; both at once are a fault.";
 
 pub(crate) const LOOK: &str =
     "Looks how each key of a plan stands on a server, and changes nothing";
@@ -328,7 +354,9 @@ each time, and asks again. Where none came for some time (--give-up) nothing mor
 another look, or to a run, is not taken: each look marks its questions anew.
 
 The plan is checked first; a fault is printed as by `check`. With --verbose standard error has a line for
-each message that is sent. With --loopback the server is one in this process with no object.";
+each message that is sent. With --loopback the server is one in this process with no object. Where none
+of --connect, --socket and --loopback is there, one of two variables says where the server is; both at
+once are a fault.";
 
 pub(crate) const LOOK_GIVE_UP: &str =
     "After how many seconds without an answer nothing more is asked: 0 to 86400, 0 for never";
@@ -347,17 +375,18 @@ prints `cannot listen`.
 With --verbose standard error has a line for each message that is answered:
   Create k1: created as 1";
 
-pub(crate) const PROGRESS: &str = "The file in which what is known is kept";
+pub(crate) const PROGRESS: &str = "The file in which what is known is kept [env: KMIPCTL_PROGRESS]";
 
 pub(crate) const BELIEVE: &str =
     "Believe a progress file of another server: this one is the same under another name";
 
 pub(crate) const AFRESH: &str = "Begin from nothing, and keep the progress file as PATH.before";
 
-pub(crate) const CONNECT: &str = "The server's IPv4 address and port, as 127.0.0.1:5696";
+pub(crate) const CONNECT: &str =
+    "The server's IPv4 address and port, as 127.0.0.1:5696 [env: KMIPCTL_CONNECT]";
 
 pub(crate) const SOCKET: &str =
-    "The path of a Unix socket that the server, or a tunnel to it, is behind";
+    "The path of a Unix socket that the server, or a tunnel to it, is behind [env: KMIPCTL_SOCKET]";
 
 pub(crate) const LOOPBACK: &str = "Use a new server in this process, over a port of this machine";
 
@@ -374,7 +403,18 @@ pub(crate) const WAIT: &str =
 pub(crate) const GIVE_UP: &str =
     "After how many seconds without getting on the run ends: 0 to 86400, 0 for never";
 
+pub(crate) const LOCK_WAIT: &str =
+    "How many seconds to wait for a run that has the progress file: 0 to 86400, 0 for not at all";
+
 pub(crate) const VERBOSE: &str = "Tell each exchange on standard error, a line for each key";
+
+pub(crate) const IDENTIFIERS: &str =
+    "Print at the end the identifier of each key on the server too, as `list` does";
+
+pub(crate) const METRICS: &str =
+    "The file for metrics of the run, for node_exporter's textfile collector: a name that ends in .prom";
+
+pub(crate) const JSON_SCHEMA: &str = "Print a JSON Schema of plans for editors, and nothing else";
 
 pub(crate) const PORT: &str = "The port, 1 to 65535; 0 for one that the system picks";
 

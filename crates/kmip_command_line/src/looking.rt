@@ -1,35 +1,21 @@
 //! What the words of `look` ask for.
 
 use crate::command_option::MOST_SECONDS;
-use crate::network::{peer_of, wrong_value};
-use crate::subcommand::LOOK_COMMAND;
-use crate::wrong_value::WrongValue;
-use clap::{ArgMatches, Error};
+use crate::given::Given;
+use crate::network::peer_of;
+use crate::setting::Setting;
+use crate::unchosen::Unchosen;
 use kmip_choices::{Choice, LookOptions};
-use std::alloc::{AllocError, Global};
+use std::alloc::Global;
 
 /// What `look` is to do, by its words.
-pub(crate) fn look_choice(alloc: Global, options: &ArgMatches<'_>) -> Result<Choice, Error> {
-    match look_options(alloc, options)? {
-        Ok(options) => Ok(Choice::Look(options)),
-        Err(fault) => Err(wrong_value(alloc, &LOOK_COMMAND, "kmipctl look", fault)?),
-    }
-}
-
-/// What `look` is to do, or which of its words is wrong.
-fn look_options(
-    alloc: Global,
-    options: &ArgMatches<'_>,
-) -> Result<Result<LookOptions, WrongValue>, AllocError> {
-    let Some(peer) = peer_of(alloc, options)? else {
-        return Ok(Err(WrongValue::Address));
-    };
-    Ok(Ok(LookOptions {
-        plan: String::from_str(alloc, options.get_str("plan").unwrap_or(""))?,
-        peer,
-        batch: options.get_one::<u64>("batch").unwrap_or(1),
-        timeout: options.get_one::<u64>("timeout").unwrap_or(MOST_SECONDS),
-        give_up: options.get_one::<u64>("give-up").unwrap_or(0),
-        is_verbose: options.get_flag("verbose"),
+pub(crate) fn look_choice(alloc: Global, given: Given<'_, '_>) -> Result<Choice, Unchosen> {
+    Ok(Choice::Look(LookOptions {
+        peer: peer_of(alloc, given)?,
+        plan: given.setting(alloc, Setting::Plan)?,
+        batch: given.number("batch", 1),
+        timeout: given.number("timeout", MOST_SECONDS),
+        give_up: given.number("give-up", 0),
+        is_verbose: given.flag("verbose"),
     }))
 }

@@ -1,118 +1,125 @@
 //! What the words of `run`, `probe` and `serve` ask for.
 
 use crate::command_option::{MOST_COUNT, MOST_SECONDS};
-use crate::subcommand::{PROBE_COMMAND, RUN_COMMAND, Subcommand, command_of};
+use crate::environment::Environment;
+use crate::given::Given;
+use crate::setting::Setting;
+use crate::unchosen::Unchosen;
 use crate::wrong_value::WrongValue;
-use clap::error::ErrorKind;
-use clap::{ArgMatches, Error};
-use kmip_choices::{Choice, Peer, ProbeOptions, RunOptions, ServeOptions, Trust};
+use kmip_choices::{Choice, Peer, ProbeOptions, Report, RunOptions, ServeOptions, Trust};
 use kmip_probe::is_prefix;
 use std::alloc::{AllocError, Global};
 use std::net::SocketAddrV4;
 
 /// What `run` is to do, by its words.
-pub(crate) fn run_choice(alloc: Global, options: &ArgMatches<'_>) -> Result<Choice, Error> {
-    match run_options(alloc, options)? {
-        Ok(options) => Ok(Choice::Run(options)),
-        Err(fault) => Err(wrong_value(alloc, &RUN_COMMAND, "kmipctl run", fault)?),
-    }
-}
-
-/// What `probe` is to do, by its words.
-pub(crate) fn probe_choice(alloc: Global, options: &ArgMatches<'_>) -> Result<Choice, Error> {
-    match probe_options(alloc, options)? {
-        Ok(options) => Ok(Choice::Probe(options)),
-        Err(fault) => Err(wrong_value(alloc, &PROBE_COMMAND, "kmipctl probe", fault)?),
-    }
-}
-
-/// The usage fault of a command of which a value is wrong, under the words that the command is called by.
-pub(crate) fn wrong_value(
-    alloc: Global,
-    command: &Subcommand,
-    called: &str,
-    fault: WrongValue,
-) -> Result<Error, AllocError> {
-    let mut command = command_of(alloc, command)?.bin_name(called)?;
-    command.error(ErrorKind::ValueValidation, fault.text())
-}
-
-/// What `run` is to do, or which of its words is wrong.
-fn run_options(
-    alloc: Global,
-    options: &ArgMatches<'_>,
-) -> Result<Result<RunOptions, WrongValue>, AllocError> {
-    let Some(peer) = peer_of(alloc, options)? else {
-        return Ok(Err(WrongValue::Address));
-    };
-    Ok(Ok(RunOptions {
-        plan: String::from_str(alloc, options.get_str("plan").unwrap_or(""))?,
-        progress: String::from_str(alloc, options.get_str("progress").unwrap_or(""))?,
-        limit: options.get_one::<u64>("limit").unwrap_or(MOST_COUNT),
-        batch: options.get_one::<u64>("batch").unwrap_or(1),
-        peer,
-        trust: trust_of(options),
-        timeout: options.get_one::<u64>("timeout").unwrap_or(MOST_SECONDS),
-        wait: options.get_one::<u64>("wait").unwrap_or(0),
-        give_up: options.get_one::<u64>("give-up").unwrap_or(0),
-        is_verbose: options.get_flag("verbose"),
+pub(crate) fn run_choice(alloc: Global, given: Given<'_, '_>) -> Result<Choice, Unchosen> {
+    Ok(Choice::Run(RunOptions {
+        peer: peer_of(alloc, given)?,
+        plan: given.setting(alloc, Setting::Plan)?,
+        progress: given.setting(alloc, Setting::Progress)?,
+        limit: given.number("limit", MOST_COUNT),
+        batch: given.number("batch", 1),
+        trust: trust_of(given),
+        timeout: given.number("timeout", MOST_SECONDS),
+        wait: given.number("wait", 0),
+        give_up: given.number("give-up", 0),
+        lock_wait: given.number("lock-wait", 0),
+        is_verbose: given.flag("verbose"),
+        report: report_of(given),
+        metrics: text_of(alloc, given.options.get_str("metrics"))?,
     }))
 }
 
+/// The value of an option as a text of its own, where the option is there.
+fn text_of(alloc: Global, value: Option<&str>) -> Result<Option<String>, AllocError> {
+    match value {
+        Some(text) => Ok(Some(String::from_str(alloc, text)?)),
+        None => Ok(None),
+    }
+}
+
+/// In which form the end of a run is printed.
+fn report_of(given: Given<'_, '_>) -> Report {
+    if given.flag("identifiers") {
+        Report::Identifiers
+    } else {
+        Report::Plain
+    }
+}
+
 /// Which progress a run begins with, by the one of two words that is there, if any.
-fn trust_of(options: &ArgMatches<'_>) -> Trust {
-    if options.get_flag("believe") {
+fn trust_of(given: Given<'_, '_>) -> Trust {
+    if given.flag("believe") {
         Trust::Believe
-    } else if options.get_flag("afresh") {
+    } else if given.flag("afresh") {
         Trust::Afresh
     } else {
         Trust::Checked
     }
 }
 
-/// Where the server is, by the one of three words that is there; none where the address is none.
-pub(crate) fn peer_of(alloc: Global, options: &ArgMatches<'_>) -> Result<Option<Peer>, AllocError> {
-    if let Some(path) = options.get_str("socket") {
-        let path = String::from_str(alloc, path)?;
-        return Ok(Some(Peer::Unix(path)));
+/// Where the server is: by the one of three words that is there, or else by a variable.
+///
+/// # Errors
+/// Where the address is none, the variable is not to be taken, or there is no memory.
+pub(crate) fn peer_of(alloc: Global, given: Given<'_, '_>) -> Result<Peer, Unchosen> {
+    if given.flag("loopback") {
+        return Ok(Peer::Loopback);
     }
-    if options.get_flag("loopback") {
-        return Ok(Some(Peer::Loopback));
+    if let Some(path) = given.options.get_str("socket") {
+        return Ok(Peer::Unix(String::from_str(alloc, path)?));
     }
-    let address = options
-        .get_str("connect")
-        .unwrap_or("")
-        .parse::<SocketAddrV4>();
-    Ok(address.ok().map(Peer::Tcp))
+    match given.options.get_str("connect") {
+        Some(address) => Ok(tcp_peer(address, WrongValue::Address)?),
+        None => peer_said(alloc, given.environment),
+    }
 }
 
-/// What `probe` is to do, or which of its words is wrong.
-fn probe_options(
-    alloc: Global,
-    options: &ArgMatches<'_>,
-) -> Result<Result<ProbeOptions, WrongValue>, AllocError> {
-    let Some(peer) = peer_of(alloc, options)? else {
-        return Ok(Err(WrongValue::Address));
-    };
-    let prefix = String::from_str(alloc, options.get_str("name-prefix").unwrap_or(""))?;
-    if !is_prefix(prefix.as_str()) {
-        return Ok(Err(WrongValue::Prefix));
+/// Where the server is, by the one of two variables that is there.
+fn peer_said(alloc: Global, environment: &Environment) -> Result<Peer, Unchosen> {
+    if environment.has(Setting::Connect) && environment.has(Setting::Socket) {
+        return Err(Unchosen::Wrong(WrongValue::TwoServers));
     }
-    Ok(Ok(ProbeOptions {
+    if let Some(path) = environment.value(Setting::Socket)? {
+        return Ok(Peer::Unix(String::from_str(alloc, path)?));
+    }
+    let address = environment.value(Setting::Connect)?.unwrap_or("");
+    Ok(tcp_peer(address, WrongValue::AddressVariable)?)
+}
+
+/// The server at an address and a port.
+///
+/// # Errors
+/// This fault, where it is no IPv4 address and port.
+fn tcp_peer(address: &str, otherwise: WrongValue) -> Result<Peer, WrongValue> {
+    match address.parse::<SocketAddrV4>() {
+        Ok(address) => Ok(Peer::Tcp(address)),
+        Err(_) => Err(otherwise),
+    }
+}
+
+/// What `probe` is to do, by its words.
+pub(crate) fn probe_choice(alloc: Global, given: Given<'_, '_>) -> Result<Choice, Unchosen> {
+    let peer = peer_of(alloc, given)?;
+    let prefix = given.text(alloc, "name-prefix")?;
+    if !is_prefix(prefix.as_str()) {
+        return Err(Unchosen::Wrong(WrongValue::Prefix));
+    }
+    Ok(Choice::Probe(ProbeOptions {
         prefix,
         peer,
-        timeout: options.get_one::<u64>("timeout").unwrap_or(MOST_SECONDS),
-        is_verbose: options.get_flag("verbose"),
+        timeout: given.number("timeout", MOST_SECONDS),
+        is_verbose: given.flag("verbose"),
     }))
 }
 
 /// What `serve` is to do, by its words.
-pub(crate) fn serve_options(options: &ArgMatches<'_>) -> ServeOptions {
+pub(crate) fn serve_options(given: Given<'_, '_>) -> ServeOptions {
     ServeOptions {
-        port: options.get_one::<u16>("port").unwrap_or(0),
-        connections: options.get_one::<u64>("connections").unwrap_or(0),
-        now: options.get_one::<i64>("now").unwrap_or(0),
-        timeout: options.get_one::<u64>("timeout").unwrap_or(MOST_SECONDS),
-        is_verbose: options.get_flag("verbose"),
+        port: given.options.get_one::<u16>("port").unwrap_or(0),
+        connections: given.number("connections", 0),
+        now: given.options.get_one::<i64>("now").unwrap_or(0),
+        timeout: given.number("timeout", MOST_SECONDS),
+        is_verbose: given.flag("verbose"),
     }
 }

@@ -4,11 +4,14 @@ use crate::command_option::{
     ANSWER_OPTIONS, CHECK_OPTIONS, CommandOption, LIST_OPTIONS, LOOK_OPTIONS, PROBE_OPTIONS,
     RUN_OPTIONS, SERVE_OPTIONS, SHOW_OPTIONS, SIM_OPTIONS, arg_of,
 };
+use crate::environment::Environment;
 use crate::help::{
     ABOUT, AFTER_HELP, ANSWER, ANSWER_LONG, CHECK, CHECK_LONG, LIST, LIST_LONG, LOOK, LOOK_LONG,
     PROBE, PROBE_LONG, RUN, RUN_LONG, SERVE, SERVE_LONG, SHOW, SHOW_LONG, SIM, SIM_LONG,
 };
-use clap::{ArgGroup, Command};
+use crate::wrong_value::WrongValue;
+use clap::error::ErrorKind;
+use clap::{ArgGroup, Command, Error};
 use std::alloc::{AllocError, Global};
 
 /// The number of this version.
@@ -16,7 +19,7 @@ const VERSION: &str = "0.2.0";
 
 /// A command of the program.
 #[derive(Clone, Copy)]
-pub(crate) struct Subcommand {
+struct Subcommand {
     name: &'static str,
     /// Its help in a line, and in full.
     about: &'static str,
@@ -64,7 +67,7 @@ const SIM_COMMAND: Subcommand = Subcommand {
     keeps_progress: false,
 };
 
-pub(crate) const RUN_COMMAND: Subcommand = Subcommand {
+const RUN_COMMAND: Subcommand = Subcommand {
     name: "run",
     about: RUN,
     long_about: RUN_LONG,
@@ -82,7 +85,7 @@ const LIST_COMMAND: Subcommand = Subcommand {
     keeps_progress: false,
 };
 
-pub(crate) const PROBE_COMMAND: Subcommand = Subcommand {
+const PROBE_COMMAND: Subcommand = Subcommand {
     name: "probe",
     about: PROBE,
     long_about: PROBE_LONG,
@@ -91,7 +94,7 @@ pub(crate) const PROBE_COMMAND: Subcommand = Subcommand {
     keeps_progress: false,
 };
 
-pub(crate) const LOOK_COMMAND: Subcommand = Subcommand {
+const LOOK_COMMAND: Subcommand = Subcommand {
     name: "look",
     about: LOOK,
     long_about: LOOK_LONG,
@@ -122,20 +125,28 @@ const COMMANDS: [Subcommand; 9] = [
     SHOW_COMMAND,
 ];
 
-/// The program with its commands.
-pub(crate) fn program<'a>(alloc: Global) -> Result<Command<'a>, AllocError> {
+/// The program with its commands. An option that a command needs has to be there unless the environment
+/// has its value.
+pub(crate) fn program<'a>(
+    alloc: Global,
+    environment: &Environment,
+) -> Result<Command<'a>, AllocError> {
     let program = Command::new(alloc, "kmipctl")
         .version(VERSION)
         .about(ABOUT)
         .after_help(AFTER_HELP);
-    with_commands(alloc, program)
+    with_commands(alloc, program, environment)
 }
 
 /// The program with all commands.
-fn with_commands<'a>(alloc: Global, program: Command<'a>) -> Result<Command<'a>, AllocError> {
+fn with_commands<'a>(
+    alloc: Global,
+    program: Command<'a>,
+    environment: &Environment,
+) -> Result<Command<'a>, AllocError> {
     let mut program = program;
     for command in &COMMANDS {
-        program = with_command(alloc, program, command)?;
+        program = with_command(alloc, program, command, environment)?;
     }
     Ok(program)
 }
@@ -145,24 +156,45 @@ fn with_command<'a>(
     alloc: Global,
     program: Command<'a>,
     command: &Subcommand,
+    environment: &Environment,
 ) -> Result<Command<'a>, AllocError> {
-    let command = command_of(alloc, command)?;
+    let command = command_of(alloc, command, environment)?;
     program.subcommand(command)
 }
 
+/// The usage fault of the command of this name of which a value is wrong. Its usage is that of an
+/// environment that says nothing, as in the help.
+pub(crate) fn wrong_value(
+    alloc: Global,
+    name: &str,
+    fault: WrongValue,
+) -> Result<Error, AllocError> {
+    let text = format!(in alloc; "{fault}")?;
+    let called = format!(in alloc; "kmipctl {name}")?;
+    for command in &COMMANDS {
+        if command.name == name {
+            let command = command_of(alloc, command, &Environment::empty())?;
+            let mut command = command.bin_name(called.as_str())?;
+            return command.error(ErrorKind::ValueValidation, text.as_str());
+        }
+    }
+    program(alloc, &Environment::empty())?.error(ErrorKind::ValueValidation, text.as_str())
+}
+
 /// The command with its options and its help.
-pub(crate) fn command_of<'a>(
+fn command_of<'a>(
     alloc: Global,
     command: &Subcommand,
+    environment: &Environment,
 ) -> Result<Command<'a>, AllocError> {
     let mut made = Command::new(alloc, command.name)
         .about(command.about)
         .long_about(command.long_about);
     for option in command.options {
-        made = made.arg(arg_of(alloc, option)?)?;
+        made = made.arg(arg_of(alloc, option, environment)?)?;
     }
     if command.asks_a_server {
-        made = with_server(alloc, made)?;
+        made = with_server(alloc, made, environment)?;
     }
     if command.keeps_progress {
         made = with_trust(alloc, made)?;
@@ -176,17 +208,21 @@ fn with_trust<'a>(alloc: Global, command: Command<'a>) -> Result<Command<'a>, Al
     command.group(trust)
 }
 
-/// The command, in which one of three options has to say where the server is.
-fn with_server<'a>(alloc: Global, command: Command<'a>) -> Result<Command<'a>, AllocError> {
+/// The command, in which one of three options has to say where the server is, unless the environment
+/// does.
+fn with_server<'a>(
+    alloc: Global,
+    command: Command<'a>,
+    environment: &Environment,
+) -> Result<Command<'a>, AllocError> {
     let server = server_group(alloc)?;
-    command.group(server)
+    command.group(server.required(!environment.has_server()))
 }
 
-/// The three options, of which one has to be there.
+/// The three options that say where the server is, of which one may be there.
 fn server_group<'a>(alloc: Global) -> Result<ArgGroup<'a>, AllocError> {
-    let server = ArgGroup::new(alloc, "server")
+    ArgGroup::new(alloc, "server")
         .arg("connect")?
         .arg("socket")?
-        .arg("loopback")?;
-    Ok(server.required(true))
+        .arg("loopback")
 }

@@ -1,5 +1,5 @@
 //! What stands after an option.
-use Value::{Flag, FlagUnless, Number, Text};
+use Value::{Flag, FlagAlone, FlagUnless, FlagWith, Number, Text};
 
 /// What stands after an option.
 #[derive(Clone, Copy)]
@@ -8,6 +8,10 @@ pub(crate) enum Value {
     Flag,
     /// Nothing, and the option of this word may not be there beside it.
     FlagUnless(&'static str),
+    /// Nothing, and no other option may be there beside it, also where one has to be there else.
+    FlagAlone,
+    /// Nothing, and the option of this word has to be there beside it.
+    FlagWith(&'static str),
     /// A text, which the help calls so.
     Text(&'static str),
     /// A number, which the help calls so, from the first of these numbers to the second.

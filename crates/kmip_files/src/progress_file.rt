@@ -1,13 +1,13 @@
 //! The file of a progress.
 
-use crate::links::{file_behind, folder_of};
+use crate::links::file_behind;
 use crate::lock_fault::LockFault;
 use crate::progress_lock::ProgressLock;
-use crate::reading::text_of;
+use crate::reading::text_at;
+use crate::replacing::{replace, sync_folder_of};
 use std::alloc::Global;
-use std::fs::{self, File, Files, OpenFile, OpenOptions};
-use std::io::{self, ErrorKind, Write};
-use std::os::unix::fs::OpenOptionsExt;
+use std::fs::{self, File, Files};
+use std::io::{self, ErrorKind};
 
 /// Who may read and write the progress file and its lock (own): their owner alone.
 pub(crate) const OWNER_ALONE: u32 = 0o600;
@@ -64,7 +64,7 @@ impl<'a, R: Files + AllocGlobal> ProgressFile<'a, R> {
     /// Where it cannot be read or is no UTF-8, and `FileTooLarge` where it is longer than
     /// `MOST_PROGRESS_BYTES`.
     pub fn read(&self) -> io::Result<Option<String>> {
-        self.text_at(self.path.as_str())
+        text_at(self.rt, self.path.as_str())
     }
 
     /// The text of the file beside this one that says where this one was kept; `None` where there is
@@ -75,7 +75,7 @@ impl<'a, R: Files + AllocGlobal> ProgressFile<'a, R> {
     /// As of `read`.
     pub fn read_origin(&self) -> io::Result<Option<String>> {
         let path = self.origin_path()?;
-        self.text_at(path.as_str())
+        text_at(self.rt, path.as_str())
     }
 
     /// Gives the file this text, and returns once it is on the disk.
@@ -85,7 +85,7 @@ impl<'a, R: Files + AllocGlobal> ProgressFile<'a, R> {
     /// Where it cannot be written: the file is as it was before, or, where only the folder could not
     /// be brought to the disk, has the new text. Nothing stays beside it, if that can be removed.
     pub fn write(&self, text: &[u8]) -> io::Result<()> {
-        self.write_at(self.path.as_str(), text)
+        replace(self.rt, self.path.as_str(), OWNER_ALONE, text)
     }
 
     /// Gives the file beside this one that says where this one was kept this text, and returns once it
@@ -96,7 +96,7 @@ impl<'a, R: Files + AllocGlobal> ProgressFile<'a, R> {
     /// As of `write`.
     pub fn write_origin(&self, text: &[u8]) -> io::Result<()> {
         let path = self.origin_path()?;
-        self.write_at(path.as_str(), text)
+        replace(self.rt, path.as_str(), OWNER_ALONE, text)
     }
 
     /// Gives the file the path of `before_path`, in the place of one that stands there, and returns
@@ -108,7 +108,7 @@ impl<'a, R: Files + AllocGlobal> ProgressFile<'a, R> {
     pub fn put_aside(&self) -> io::Result<()> {
         let before = self.before_path()?;
         match fs::rename(self.rt, self.path.as_str(), before.as_str()) {
-            Ok(()) => self.sync_folder(),
+            Ok(()) => sync_folder_of(self.rt, self.path.as_str()),
             Err(error) if error.kind() == ErrorKind::NotFound => Ok(()),
             Err(error) => Err(error),
         }
@@ -142,49 +142,6 @@ impl<'a, R: Files + AllocGlobal> ProgressFile<'a, R> {
     pub fn lock_path(&self) -> io::Result<String> {
         let path = format!(in self.rt.alloc(); "{}.lock", self.path)?;
         Ok(path)
-    }
-
-    /// The text of the file at this path; `None` where there is no file.
-    fn text_at(&self, path: &str) -> io::Result<Option<String>> {
-        match text_of(self.rt, path, MOST_PROGRESS_BYTES) {
-            Ok(text) => Ok(Some(text)),
-            Err(error) if error.kind() == ErrorKind::NotFound => Ok(None),
-            Err(error) => Err(error),
-        }
-    }
-
-    /// Gives the file at this path this text, and returns once it is on the disk.
-    fn write_at(&self, path: &str, text: &[u8]) -> io::Result<()> {
-        let beside = format!(in self.rt.alloc(); "{path}.new")?;
-        if let Err(error) = self.replace_by(path, beside.as_str(), text) {
-            let _ = fs::remove_file(self.rt, beside.as_str());
-            return Err(error);
-        }
-        self.sync_folder()
-    }
-
-    /// Returns once the folder is on the disk.
-    fn sync_folder(&self) -> io::Result<()> {
-        fs::open(self.rt, folder_of(self.path.as_str()))?.sync_all()
-    }
-
-    /// Writes the text to a new file beside the file at this path, whose place it then takes.
-    fn replace_by(&self, path: &str, beside: &str, text: &[u8]) -> io::Result<()> {
-        self.write_beside(beside, text)?;
-        fs::rename(self.rt, beside, path)
-    }
-
-    /// Writes the text to a new file at this path, and brings it to the disk.
-    fn write_beside(&self, path: &str, text: &[u8]) -> io::Result<()> {
-        match fs::remove_file(self.rt, path) {
-            Err(error) if error.kind() != ErrorKind::NotFound => return Err(error),
-            _ => {}
-        }
-        let mut options = OpenOptions::new();
-        options.write(true).create_new(true).mode(OWNER_ALONE);
-        let mut file = options.open(self.rt, path)?;
-        file.write_all(text)?;
-        file.sync_all()
     }
 }
 

@@ -1,8 +1,9 @@
-//! The text of a file.
+//! The text of a file, or of standard input.
 
+use crate::progress_file::MOST_PROGRESS_BYTES;
 use std::alloc::Global;
 use std::fs::{self, Files};
-use std::io::{self, Error, ErrorKind, Read};
+use std::io::{self, Error, ErrorKind, Input, Read};
 
 /// The text of the file at this path, which has at most `most_bytes` bytes. Its length is judged before
 /// whether it is UTF-8.
@@ -10,9 +11,23 @@ use std::io::{self, Error, ErrorKind, Read};
 /// # Errors
 /// Where it cannot be read or is no UTF-8, and `FileTooLarge` where it is longer.
 pub fn text_of<R: Files + AllocGlobal>(rt: &R, path: &str, most_bytes: u64) -> io::Result<String> {
-    let file = fs::open(rt, path)?;
-    let mut bytes = Vec::new(rt.alloc());
-    file.take(most_bytes.saturating_add(1))
+    text_within(rt.alloc(), fs::open(rt, path)?, most_bytes)
+}
+
+/// The text of standard input to its end, likewise.
+///
+/// # Errors
+/// As of `text_of`.
+pub fn text_of_input<R: Input + AllocGlobal>(rt: &R, most_bytes: u64) -> io::Result<String> {
+    text_within(rt.alloc(), rt.reader(), most_bytes)
+}
+
+/// The text that a stream gives to its end, which has at most `most_bytes` bytes. No more than one byte
+/// more is read.
+fn text_within<S: Read + Drop>(alloc: Global, stream: S, most_bytes: u64) -> io::Result<String> {
+    let mut bytes = Vec::new(alloc);
+    stream
+        .take(most_bytes.saturating_add(1))
         .read_to_end(&mut bytes)?;
     if bytes.len() as u64 > most_bytes {
         return Err(Error::from(ErrorKind::FileTooLarge));
@@ -20,5 +35,18 @@ pub fn text_of<R: Files + AllocGlobal>(rt: &R, path: &str, most_bytes: u64) -> i
     match String::from_utf8(bytes) {
         Ok(text) => Ok(text),
         Err(_) => Err(Error::from(ErrorKind::InvalidData)),
+    }
+}
+
+/// The text of the file at this path, which has at most `MOST_PROGRESS_BYTES` bytes; `None` where there
+/// is no file.
+///
+/// # Errors
+/// As of `text_of`.
+pub(crate) fn text_at<R: Files + AllocGlobal>(rt: &R, path: &str) -> io::Result<Option<String>> {
+    match text_of(rt, path, MOST_PROGRESS_BYTES) {
+        Ok(text) => Ok(Some(text)),
+        Err(error) if error.kind() == ErrorKind::NotFound => Ok(None),
+        Err(error) => Err(error),
     }
 }

@@ -11,6 +11,8 @@ pub enum Cannot {
     Save,
     /// A path leads to no socket.
     Connect,
+    /// Metrics are not written, which changes nothing else.
+    Measure,
 }
 
 impl Cannot {
@@ -18,7 +20,7 @@ impl Cannot {
     pub(crate) fn text(self) -> &'static str {
         match self {
             Cannot::Read => "cannot read",
-            Cannot::Begin | Cannot::Save => "cannot write",
+            Cannot::Begin | Cannot::Save | Cannot::Measure => "cannot write",
             Cannot::Connect => "cannot connect",
         }
     }

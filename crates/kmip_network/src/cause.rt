@@ -2,7 +2,7 @@
 use crate::cannot::Cannot;
 use crate::remedy::Remedy;
 use std::fmt::{self, Display, Formatter};
-use std::io::Error;
+use std::io::{Error, ErrorKind};
 
 /// An error, and what an operator can do about it.
 #[derive(Drop)]
@@ -28,6 +28,24 @@ impl<'a> Display for Cause<'a> {
                 f,
                 "{error}; what was asked last may have taken effect: {remedy} and run again"
             ),
+            (Cannot::Measure, remedy) => write_unmeasured(error, remedy, f),
         }
+    }
+}
+
+/// Writes an error by which metrics are not written, and what to do, unless that is to find memory.
+fn write_unmeasured<W: fmt::Write>(
+    error: &Error,
+    remedy: Option<Remedy>,
+    f: &mut Formatter<W>,
+) -> fmt::Result {
+    write!(
+        f,
+        "{error}; the metrics are not written, and nothing else changes"
+    )?;
+    match remedy {
+        Some(remedy) => write!(f, "; {remedy}"),
+        None if error.kind() == ErrorKind::OutOfMemory => Ok(()),
+        None => f.write_str("; see what stands there"),
     }
 }

@@ -4,14 +4,15 @@ use crate::believing::progress_to_begin_with;
 use crate::cannot::Cannot;
 use crate::causes::tell_cause;
 use crate::linking::{loopback, tcp_link, unix_link};
+use crate::locking::locked;
+use crate::metrics_file::MetricsFile;
 use crate::plan_file::PlanFile;
 use crate::reading::plan_at;
-use crate::recalling::progress_file_at;
 use crate::told::standard_output;
 use crate::trouble::Trouble;
 use kmip_account::{Account, Teller, Watch};
 use kmip_choices::{Peer, RunOptions};
-use kmip_files::{LockFault, ProgressFile, ProgressLock};
+use kmip_files::ProgressFile;
 use kmip_message_commands::ExitStatus;
 use kmip_plan_commands::{RunInput, batch_of};
 use kmip_protocol::Link;
@@ -60,32 +61,10 @@ impl<'a> Keeper for FileKeeper<'a> {
 /// What ends it before anything is asked.
 pub fn run_plan(rt: &HostRuntime, options: &RunOptions) -> Result<ExitStatus, Trouble> {
     let plan = plan_at(rt, options.plan.as_str())?;
-    let (progress, lock) = locked(rt, options.progress.as_str())?;
+    let (progress, lock) = locked(rt, options.progress.as_str(), options.lock_wait)?;
     let status = run_on(rt, options, &plan, progress);
     drop(lock);
     status
-}
-
-/// The file at this path, of this run alone.
-///
-/// # Errors
-/// Where it cannot be had.
-fn locked<'a>(
-    rt: &'a HostRuntime,
-    path: &'a str,
-) -> Result<(ProgressFile<'a, HostRuntime>, ProgressLock), Trouble> {
-    let file = progress_file_at(rt, path)?;
-    match file.lock() {
-        Ok(lock) => Ok((file, lock)),
-        Err(LockFault::InUse) => {
-            let path = String::from_str(rt.alloc(), path)?;
-            Err(Trouble::InUse(path))
-        }
-        Err(LockFault::Io(error)) => {
-            let beside = file.lock_path()?;
-            Err(Trouble::at(rt, Cannot::Begin, beside.as_str(), error))
-        }
-    }
 }
 
 /// Carries out the plan, with what is kept in the progress file.
@@ -100,14 +79,22 @@ fn run_on(
         Some(text) => Some(text.as_str()),
         None => None,
     };
-    let account = Account::new(rt, options, &plan.plan)?;
+    let account = Account::new(rt, options, &plan.plan, saved)?;
+    let metrics = MetricsFile::of(rt, options, plan);
+    if let Some(metrics) = &metrics {
+        metrics.begin(&account);
+    }
     account.show_start(saved);
     let mut keeper = FileKeeper {
         file: progress,
         account: &account,
         refusals: 0,
     };
-    run_with(rt, options, saved, &mut keeper)
+    let status = run_with(rt, options, saved, &mut keeper);
+    if let Some(metrics) = &metrics {
+        metrics.end(&account, matches!(status, Ok(ExitStatus::Done)));
+    }
+    status
 }
 
 /// Carries out the plan over the link to the server that was named.
@@ -143,6 +130,7 @@ fn run_over<L: Link + Drop>(
     link: L,
 ) -> Result<ExitStatus, Trouble> {
     let input = RunInput {
+        report: options.report,
         path: options.progress.as_str(),
         limit: options.limit as usize,
         batch: batch_of(options.batch),

@@ -3,6 +3,7 @@ use crate::another_server::AnotherServer;
 use crate::believing::{destroyed_key, knows_anything};
 use crate::cannot::Cannot;
 use crate::origin::{Origin, server_text};
+use crate::reading::plan_name;
 use crate::recalling::{judge_attributes, origin_of};
 use crate::trouble::Trouble;
 use kmip_choices::{RunOptions, Trust};
@@ -74,7 +75,7 @@ impl<'a> Kept<'a> {
     /// Tells at which key the file is of another plan, if that is why it is refused.
     fn tell_other_plan(&self, saved: &str) {
         let options = self.options;
-        let (path, progress_path) = (options.plan.as_str(), options.progress.as_str());
+        let (path, progress_path) = (plan_name(options.plan.as_str()), options.progress.as_str());
         tell_other_plan(self.rt, path, self.text, progress_path, saved);
     }
 

@@ -1,10 +1,10 @@
 //! The commands `run`, `list`, `probe` and `serve` over sockets, files and standard streams.
 //!
-//! It also reads the texts of files. All is safe and total. `run_plan`, `list_progress`, `probe_server`,
-//! `serve`, `plan_at`, `text_at`, `Trouble::tell`, `tell_output`, `standard_input` and `standard_output`
-//! have no clause, as std tells a contract nothing of the bytes of sockets, files and streams. What they
-//! call is proved over every link, keeper and writer. The stored runs, `make storm` and `make peers` try
-//! them.
+//! It also reads the texts of files and of standard input. All is safe and total. `run_plan`, `list_progress`, `probe_server`,
+//! `serve`, `plan_at`, `plan_text_at`, `text_at`, `Trouble::tell`, `tell_output`, `tell_of_terminal`,
+//! `standard_input` and `standard_output` have no clause, as std tells a contract nothing of the bytes of
+//! sockets, files and streams. What they call is proved over every link, keeper and writer. The stored
+//! runs, `make storm` and `make peers` try them.
 //!
 //! Why no connection comes about, and what comes over one, is told or noted by a `Dial` around another
 //! and by streams around its own. These change nothing of what those answer. What `run` tells of its
@@ -26,9 +26,11 @@ mod kept;
 mod last_answer;
 mod linking;
 mod listing;
+mod locking;
 mod look_pause;
 mod look_watcher;
 mod looking;
+mod metrics_file;
 mod origin;
 mod overheard;
 mod plan_file;
@@ -50,7 +52,7 @@ pub use listing::list_progress;
 pub use looking::look_at_server;
 pub use plan_file::PlanFile;
 pub use probing::probe_server;
-pub use reading::{plan_at, text_at};
+pub use reading::{plan_at, plan_name, plan_text_at, text_at};
 pub use serving::serve;
-pub use told::{Told, standard_input, standard_output, tell_output};
+pub use told::{Told, standard_input, standard_output, tell_of_terminal, tell_output};
 pub use trouble::Trouble;

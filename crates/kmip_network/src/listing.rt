@@ -1,7 +1,7 @@
 //! The command `list`, over files.
 
 use crate::plan_file::PlanFile;
-use crate::reading::{plan_at, text_within};
+use crate::reading::{plan_at, plan_name, text_within};
 use crate::recalling::{judge_attributes, origin_of, progress_file_at};
 use crate::told::standard_output;
 use crate::trouble::Trouble;
@@ -29,7 +29,7 @@ pub fn list_progress(rt: &HostRuntime, options: &ListOptions) -> Result<ExitStat
     let mut writer = BufWriter::new(rt.alloc(), standard_output(rt))?;
     let status = run_list(rt.alloc(), plan.text.as_str(), saved.as_str(), &mut writer);
     if status == ExitStatus::Refused {
-        let plan_path = options.plan.as_str();
+        let plan_path = plan_name(options.plan.as_str());
         tell_other_plan(rt, plan_path, plan.text.as_str(), path, saved.as_str());
     }
     if status == ExitStatus::Done {

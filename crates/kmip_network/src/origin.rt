@@ -158,7 +158,10 @@ fn behind<'t>(line: Option<&'t str>, words: &str) -> Option<&'t str> {
 }
 
 /// The seconds since the start of 1970.
-fn now(rt: &HostRuntime) -> io::Result<u64> {
+///
+/// # Errors
+/// Where there is no clock.
+pub(crate) fn now(rt: &HostRuntime) -> io::Result<u64> {
     match SystemTime::now(rt)?.duration_since(UNIX_EPOCH) {
         Ok(since) => Ok(since.as_secs()),
         Err(_) => Ok(0),

@@ -1,25 +1,58 @@
-//! The texts of files, and of plans among them.
+//! The texts of files and of standard input, and of plans among them.
+ghost use Rattle.std.specs.Prelude.{◌≡◌, ◌≢◌, codes};
 
 use crate::plan_file::PlanFile;
+use crate::told::{STANDARD_INPUT, tell_of_terminal};
 use crate::trouble::Trouble;
-use kmip_files::{MOST_FILE_BYTES, text_of};
+use kmip_files::{MOST_FILE_BYTES, text_of, text_of_input};
 use kmip_plan::{PlanFault, read_plan};
 use std::io::{Error, ErrorKind};
 
-/// The plan in the file at this path.
+/// The path of a plan that stands for standard input.
+const INPUT_PATH: &str = "-";
+
+/// The plan in the file at this path, or on standard input where that is `-`.
 ///
 /// # Errors
 /// Why the file has no text, or its text is no plan.
 pub fn plan_at(rt: &HostRuntime, path: &str) -> Result<PlanFile, Trouble> {
-    let text = text_at(rt, path)?;
+    let text = plan_text_at(rt, path)?;
     match read_plan(rt.alloc(), text.as_str()) {
         Ok(plan) => Ok(PlanFile { text, plan }),
         Err(PlanFault::NoMemory) => Err(Trouble::Io(Error::from(ErrorKind::OutOfMemory))),
         Err(fault) => {
-            let path = String::from_str(rt.alloc(), path)?;
-            Err(Trouble::NoPlan(path, text, fault))
+            let name = String::from_str(rt.alloc(), plan_name(path))?;
+            Err(Trouble::NoPlan(name, text, fault))
         }
     }
+}
+
+/// What the place of a plan is called: `standard input` for the path `-`, and else as the path.
+pub fn plan_name(path: &str) -> &str
+    // That of standard input.
+    ensures input { path.now ≡ codes "-" → result.now ≡ codes "standard input" }
+    // That of a file.
+    ensures file { path.now ≢ codes "-" → result.now ≡ path.now }
+{
+    if path == INPUT_PATH {
+        STANDARD_INPUT
+    } else {
+        path
+    }
+}
+
+/// The text of the file at this path, or of standard input where that is `-`. Where standard input is a
+/// terminal, standard error has what is to be typed.
+///
+/// # Errors
+/// Why it has none, or one that is too long.
+pub fn plan_text_at(rt: &HostRuntime, path: &str) -> Result<String, Trouble> {
+    if path != INPUT_PATH {
+        return text_at(rt, path);
+    }
+    tell_of_terminal(rt, "a plan");
+    let text = text_of_input(rt, MOST_FILE_BYTES);
+    text.map_err(|error| Trouble::unread(rt, STANDARD_INPUT, MOST_FILE_BYTES, error))
 }
 
 /// The text of the file at this path.

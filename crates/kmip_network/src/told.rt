@@ -1,9 +1,10 @@
 //! Standard input and standard output, which tell on standard error why they fail.
 
 use crate::causes::tell_why;
-use std::io::{self, Error, ErrorKind, Input, Printer, Read, Write};
+use std::io::{self, Error, ErrorKind, Input, IsTerminal, Printer, Read, Write};
 
-const STANDARD_INPUT: &str = "standard input";
+/// What standard input is called.
+pub(crate) const STANDARD_INPUT: &str = "standard input";
 
 const STANDARD_OUTPUT: &str = "standard output";
 
@@ -33,6 +34,13 @@ pub fn standard_output(rt: &HostRuntime) -> Told<'_, Printer<'_, HostRuntime>> {
         name: STANDARD_OUTPUT,
         stream: io::writer(rt),
         is_told: false,
+    }
+}
+
+/// Tells on standard error what is to be typed, where standard input is a terminal.
+pub fn tell_of_terminal(rt: &HostRuntime, what: &str) {
+    if rt.stdin().is_terminal() {
+        let _ = rt.eprintln(format_args!("reading from the terminal: {what}; end with Ctrl-D"));
     }
 }
 

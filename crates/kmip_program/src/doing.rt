@@ -1,16 +1,17 @@
 //! The commands, over standard input, files and standard output.
 
+use crate::plan_schema::PLAN_SCHEMA;
 use kmip_choices::{Choice, Detail};
 use kmip_explaining::{tell_prolonging, tell_refusal};
 use kmip_message_commands::{ExitStatus, Form, run_answer, run_answer_stream, run_show};
 use kmip_network::{
-    Trouble, batch_of, list_progress, look_at_server, plan_at, probe_server, run_plan, serve,
-    standard_input, standard_output, text_at,
+    Trouble, batch_of, list_progress, look_at_server, plan_at, plan_name, plan_text_at,
+    probe_server, run_plan, serve, standard_input, standard_output, tell_of_terminal, text_at,
 };
 use kmip_plan_commands::{SimInput, check_after_bytes, run_check, run_check_after, run_sim};
 use kmip_ttlv::NoMemory;
 use std::io;
-use std::io::{BufReader, BufWriter, IsTerminal};
+use std::io::{BufReader, BufWriter};
 
 /// Does what is asked for, and says how the program ends.
 ///
@@ -37,14 +38,14 @@ pub(crate) fn execute(rt: &HostRuntime, choice: Choice) -> Result<ExitStatus, Tr
         Choice::Probe(options) => probe_server(rt, &options),
         Choice::Look(options) => look_at_server(rt, &options),
         Choice::Serve(options) => Ok(serve(rt, &options, &mut io::writer(rt))?),
+        Choice::PlanSchema => print_schema(rt),
     }
 }
 
-/// Tells on standard error what is to be typed, where standard input is a terminal.
-fn tell_of_terminal(rt: &HostRuntime, what: &str) {
-    if rt.stdin().is_terminal() {
-        let _ = rt.eprintln(format_args!("reading from the terminal: {what}; end with Ctrl-D"));
-    }
+/// The command `check --json-schema`: the schema of plans to standard output.
+fn print_schema(rt: &HostRuntime) -> Result<ExitStatus, Trouble> {
+    rt.print(PLAN_SCHEMA)?;
+    Ok(ExitStatus::Done)
 }
 
 /// The command `answer` from standard input to standard output.
@@ -74,13 +75,13 @@ fn show_input(rt: &HostRuntime, form: Form) -> Result<ExitStatus, Trouble> {
     Ok(run_show(rt.alloc(), form, &mut reader, &mut writer))
 }
 
-/// The command `check` from a file to standard output.
+/// The command `check` from a file or standard input to standard output.
 fn check_plan(rt: &HostRuntime, path: &str) -> Result<ExitStatus, Trouble> {
-    let plan = text_at(rt, path)?;
+    let plan = plan_text_at(rt, path)?;
     let mut writer = BufWriter::new(rt.alloc(), standard_output(rt))?;
     let status = run_check(rt.alloc(), plan.as_str(), &mut writer);
     if status == ExitStatus::Refused {
-        tell_refusal(rt, path, plan.as_str());
+        tell_refusal(rt, plan_name(path), plan.as_str());
     }
     Ok(status)
 }
@@ -96,7 +97,8 @@ fn check_plan_after(
     let mut writer = BufWriter::new(rt.alloc(), standard_output(rt))?;
     let status = run_check_after(rt.alloc(), plan.as_str(), earlier.as_str(), &mut writer);
     if status == ExitStatus::Refused {
-        tell_prolonging(rt, path, plan.as_str(), earlier_path, earlier.as_str());
+        let name = plan_name(path);
+        tell_prolonging(rt, name, plan.as_str(), earlier_path, earlier.as_str());
     }
     Ok(status)
 }
@@ -146,7 +148,8 @@ fn simulate_plans(
     if is_refused_after(rt, further.as_str(), plan.as_str())? {
         let status = simulate(rt, detail, batch, plan.as_str(), Some(further.as_str()), "")?;
         tell_refusal(rt, further_path, further.as_str());
-        tell_prolonging(rt, further_path, further.as_str(), path, plan.as_str());
+        let name = plan_name(path);
+        tell_prolonging(rt, further_path, further.as_str(), name, plan.as_str());
         return Ok(status);
     }
     let script = text_at(rt, script_path)?;

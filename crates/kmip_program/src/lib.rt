@@ -7,6 +7,8 @@
 #![tactic(auto)]
 
 mod doing;
+mod own_environment;
+mod plan_schema;
 mod running;
 mod streams;
 mod wrong_address;

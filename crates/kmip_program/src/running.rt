@@ -1,9 +1,10 @@
 //! The program: what its command line asks for, done.
 
 use crate::doing::execute;
+use crate::own_environment::process_environment;
 use crate::streams::open_closed_streams;
 use crate::wrong_address::WrongAddress;
-use kmip_command_line::{chosen, status_of};
+use kmip_command_line::{Environment, chosen, status_of};
 use kmip_message_commands::{CommandFault, ExitStatus};
 use kmip_network::Trouble;
 use kmip_ttlv::NoMemory;
@@ -11,9 +12,9 @@ use std::io::ErrorKind;
 use std::process::ExitCode;
 use std::{env, io};
 
-/// Runs the program: reads its command line, does what that asks for over standard streams, files and
-/// sockets, and returns the code to end with. Results, faults, help and usage faults are printed on
-/// standard output.
+/// Runs the program: reads its command line and its environment, does what they ask for over standard
+/// streams, files and sockets, and returns the code to end with. Results, faults, help and usage faults
+/// are printed on standard output.
 ///
 /// Standard error has what `run` shows while it works, and why a file, a socket or a stream fails. It
 /// also has where a plan is no TOML, what to give for a wrong address, what a terminal is asked for,
@@ -21,16 +22,25 @@ use std::{env, io};
 pub fn run_program(rt: &HostRuntime) -> ExitCode {
     open_closed_streams(rt);
     let status = match own_words(rt) {
-        Ok(words) => run_words(rt, words.as_slice()),
+        Ok(words) => run_own(rt, words.as_slice()),
         Err(error) if error.kind() == ErrorKind::InvalidData => without_words(rt),
         Err(error) => Trouble::from(error).tell(rt),
     };
     ExitCode::from(status.code())
 }
 
-/// Runs the program with these words, the first of which is its name, and returns how it ended.
-pub fn run_words(rt: &HostRuntime, words: &[String]) -> ExitStatus {
-    match run_command(rt, words) {
+/// Runs the program with these words, and with the environment of the process.
+fn run_own(rt: &HostRuntime, words: &[String]) -> ExitStatus {
+    match process_environment(rt) {
+        Ok(environment) => run_words(rt, words, &environment),
+        Err(want) => Trouble::from(want).tell(rt),
+    }
+}
+
+/// Runs the program with these words, the first of which is its name, and with this environment, and
+/// returns how it ended.
+pub fn run_words(rt: &HostRuntime, words: &[String], environment: &Environment) -> ExitStatus {
+    match run_command(rt, words, environment) {
         Ok(status) => status,
         Err(trouble) => trouble.tell(rt),
     }
@@ -52,8 +62,12 @@ fn own_words(rt: &HostRuntime) -> io::Result<Vec<String>> {
 }
 
 /// Does what the words ask for.
-fn run_command(rt: &HostRuntime, words: &[String]) -> Result<ExitStatus, Trouble> {
-    match chosen(rt.alloc(), words) {
+fn run_command(
+    rt: &HostRuntime,
+    words: &[String],
+    environment: &Environment,
+) -> Result<ExitStatus, Trouble> {
+    match chosen(rt.alloc(), words, environment) {
         Ok(choice) => execute(rt, choice),
         Err(error) => {
             let status = status_of(&error);
@@ -61,7 +75,7 @@ fn run_command(rt: &HostRuntime, words: &[String]) -> Result<ExitStatus, Trouble
                 return Err(Trouble::from(NoMemory));
             }
             if status == ExitStatus::Usage {
-                tell_address(rt, words);
+                tell_address(rt, words, environment);
             }
             rt.print(&error)?;
             Ok(status)
@@ -69,10 +83,10 @@ fn run_command(rt: &HostRuntime, words: &[String]) -> Result<ExitStatus, Trouble
     }
 }
 
-/// Tells on standard error what is wrong with the address among the words of a wrong command line, if
-/// it is wrong.
-fn tell_address(rt: &HostRuntime, words: &[String]) {
-    if let Some(address) = WrongAddress::among(words) {
+/// Tells on standard error what is wrong with the address among the words of a wrong command line, or
+/// in the environment where that is to be taken, if it is wrong.
+fn tell_address(rt: &HostRuntime, words: &[String], environment: &Environment) {
+    if let Some(address) = WrongAddress::among(words, environment) {
         let _ = rt.eprintln(address);
     }
 }

@@ -1,5 +1,6 @@
-//! What `--connect` wants, where it was given something else.
+//! What `--connect` or its variable wants, where it was given something else.
 
+use kmip_command_line::{CONNECT_VARIABLE, Environment, Variable};
 use std::fmt::{self, Display, Formatter};
 use std::net::{Ipv4Addr, Ipv6Addr, SocketAddrV4};
 
@@ -8,6 +9,9 @@ const CONNECT: &str = "--connect";
 
 /// The same with a value in one word.
 const CONNECT_WITH_VALUE: &str = "--connect=";
+
+/// The options that say where the server is.
+const SERVER_OPTIONS: [&str; 3] = [CONNECT, "--socket", "--loopback"];
 
 /// What a value has in the place of an IPv4 address and a port.
 #[derive(Clone, Copy)]
@@ -59,39 +63,48 @@ fn is_name(host: &str) -> bool {
         .any(|byte| byte.is_ascii_alphabetic() || !byte.is_ascii())
 }
 
-/// A value of `--connect` that is no IPv4 address and port.
+/// A value of `--connect` or of its variable that is no IPv4 address and port.
 #[derive(Clone, Copy)]
 pub(crate) struct WrongAddress<'a> {
+    /// The option or the variable.
+    name: &'static str,
     value: &'a str,
 }
 
 impl<'a> WrongAddress<'a> {
-    /// That of a command line, if it has one.
-    pub(crate) fn among(words: &'a [String]) -> Option<Self> {
-        let value = connect_value(words)?;
+    /// That of a command line, or else of the environment, if one has it.
+    pub(crate) fn among(words: &'a [String], environment: &'a Environment) -> Option<Self> {
+        if !asks_a_server(words) {
+            return None;
+        }
+        match connect_value(words) {
+            Some(value) => WrongAddress::of(CONNECT, value),
+            None => WrongAddress::of(CONNECT_VARIABLE, value_said(words, environment)?),
+        }
+    }
+
+    /// This value, where it is wrong.
+    fn of(name: &'static str, value: &'a str) -> Option<Self> {
         match value.parse::<SocketAddrV4>() {
             Ok(_) => None,
-            Err(_) => Some(WrongAddress { value }),
+            Err(_) => Some(WrongAddress { name, value }),
         }
     }
 }
 
 impl<'a> Display for WrongAddress<'a> {
     fn fmt<W: fmt::Write>(&self, f: &mut Formatter<W>) -> fmt::Result {
-        let value = self.value;
+        let (name, value) = (self.name, self.value);
         let instead = Instead::of(value).text();
         write!(
             f,
-            "{CONNECT} wants an IPv4 address and a port, as 192.0.2.7:5696; {value:?} {instead}"
+            "{name} wants an IPv4 address and a port, as 192.0.2.7:5696; {value:?} {instead}"
         )
     }
 }
 
-/// What stands after `--connect` in a command line of `run`, `probe` or `look`.
+/// What stands after `--connect` in a command line.
 fn connect_value(words: &[String]) -> Option<&str> {
-    if !asks_a_server(words) {
-        return None;
-    }
     let mut is_value = false;
     for word in words {
         let word = word.as_str();
@@ -104,6 +117,25 @@ fn connect_value(words: &[String]) -> Option<&str> {
         is_value = word == CONNECT;
     }
     None
+}
+
+/// What the variable of `--connect` says, where no word and no other variable says where the server is.
+fn value_said<'a>(words: &[String], environment: &'a Environment) -> Option<&'a str> {
+    if words.iter().any(|word| names_a_server(word.as_str())) {
+        return None;
+    }
+    match (&environment.connect, &environment.socket) {
+        (Variable::Is(value), Variable::Absent) => Some(value.as_str()),
+        (Variable::Is(_), Variable::Is(_) | Variable::NoText)
+        | (Variable::Absent | Variable::NoText, _) => None,
+    }
+}
+
+/// Whether a word is an option that says where the server is.
+fn names_a_server(word: &str) -> bool {
+    SERVER_OPTIONS
+        .iter()
+        .any(|option| word.starts_with(*option))
 }
 
 /// Whether the command is one that asks a server.

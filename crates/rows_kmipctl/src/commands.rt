@@ -2,6 +2,7 @@
 //! writer, and in memory.
 
 use crate::readers::PieceReader;
+use crate::typed::Typed;
 use crate::writers::NotingWriter;
 use kmip_choices::{Choice, Detail};
 use kmip_command_line::chosen;
@@ -56,9 +57,9 @@ impl Simulated {
     }
 }
 
-/// The command that these words ask for; a file `-` in them is this input.
-pub(crate) fn command_of(rt: &HostRuntime, words: &[String], input: &str) -> Result<Command, Fail> {
-    let Ok(choice) = chosen(rt.alloc(), words) else {
+/// The command that a command line asks for; a file `-` in it is this input.
+pub(crate) fn command_of(rt: &HostRuntime, typed: &Typed, input: &str) -> Result<Command, Fail> {
+    let Ok(choice) = chosen(rt.alloc(), typed.words.as_slice(), &typed.environment) else {
         return Err(Fail::new("a command"));
     };
     command_for(rt, &choice, input)

@@ -3,6 +3,7 @@
 use crate::commands::{Call, Command, command_of};
 use crate::readers::PieceReader;
 use crate::repeating::text_of;
+use crate::typed::Typed;
 use crate::ways::Way;
 use crate::writers::NotingWriter;
 use kmip_message_commands::{ExitStatus, answer_stream, answer_stream_bytes};
@@ -18,10 +19,10 @@ struct Case<'a> {
     way: &'a Way<'a>,
 }
 
-/// Carries out the command of these words over the lines of its block, in this way.
+/// Carries out the command of this line over the lines of its block, in this way.
 pub(crate) fn take_input(
     rt: &HostRuntime,
-    words: &[String],
+    typed: &Typed,
     way: &str,
     lines: &str,
 ) -> Result<(), Fail> {
@@ -30,7 +31,7 @@ pub(crate) fn take_input(
     let given = text_of(rt.alloc(), given)?;
     let text = text_of(rt.alloc(), lines)?;
     let input = way.input_of(text.as_str());
-    let command = command_of(rt, words, input)?;
+    let command = command_of(rt, typed, input)?;
     let case = Case {
         command: &command,
         input,

@@ -6,7 +6,8 @@
 //!
 //!     # WORDS              a remark
 //!     file NAME            the lines behind it, up to a line `end`, are the file
-//!     $ kmipctl WORDS      a command line, in which `%20` is a space of a word
+//!     $ kmipctl WORDS      a command line, in which `%20` is a space of a word; variables may stand before
+//!                          it as `NAME=VALUE`, of which the value `%FF` is no UTF-8
 //!     taken kmipctl WORDS  a command line, in which `PORT` is a port that is taken meanwhile
 //!     serve kmipctl WORDS  the command `serve`: what it writes, with `PORT` in the place of its port
 //!     ? kmipctl WORDS      the same, of which no more is done than to say what it asks for
@@ -49,6 +50,7 @@ mod readers;
 mod repeating;
 mod serving;
 mod transcript;
+mod typed;
 mod ways;
 mod wording;
 mod writers;

@@ -1,6 +1,6 @@
 //! The command `serve`, and commands at a port that is taken.
 
-use crate::transcript::words_of;
+use crate::typed::Typed;
 use crate::writers::NotingWriter;
 use kmip_choices::Choice;
 use kmip_command_line::chosen;
@@ -14,8 +14,9 @@ use std::test::Fail;
 /// Carries out `serve` with these words, and prints what it writes, with `PORT` in the place of the port
 /// that the system chose. A line that was not sent on fails.
 pub(crate) fn run_serve(rt: &HostRuntime, words: &str) -> Result<ExitStatus, Fail> {
-    let words = words_of(rt, words)?;
-    let Ok(Choice::Serve(options)) = chosen(rt.alloc(), words.as_slice()) else {
+    let typed = Typed::of(rt, words)?;
+    let asked = chosen(rt.alloc(), typed.words.as_slice(), &typed.environment);
+    let Ok(Choice::Serve(options)) = asked else {
         return Err(Fail::new("no serve"));
     };
     let mut writer = NotingWriter {
@@ -50,6 +51,6 @@ pub(crate) fn run_at_taken_port(rt: &HostRuntime, line: &str) -> Result<ExitStat
     let listener = rt.bind(SocketAddr::V4(SocketAddrV4::new(Ipv4Addr::LOCALHOST, 0)))?;
     let port = listener.local_addr()?.port().to_string(rt.alloc())?;
     let line = line.replace(rt.alloc(), "PORT", port.as_str())?;
-    let words = words_of(rt, line.as_str())?;
-    Ok(run_words(rt, words.as_slice()))
+    let typed = Typed::of(rt, line.as_str())?;
+    Ok(run_words(rt, typed.words.as_slice(), &typed.environment))
 }

@@ -3,6 +3,7 @@
 use crate::forms::take_input;
 use crate::repeating::text_of;
 use crate::serving::{run_at_taken_port, run_serve};
+use crate::typed::Typed;
 use crate::wording::tell_exchanges;
 use kmip_command_line::chosen;
 use kmip_message_commands::ExitStatus;
@@ -52,13 +53,13 @@ fn take_command(rt: &HostRuntime, line: &str) -> Result<(), Fail> {
         print_status(rt, status)?;
     }
     if let Some(words) = line.strip_prefix("$ ") {
-        let words = words_of(rt, words)?;
-        let status = run_words(rt, words.as_slice());
+        let typed = Typed::of(rt, words)?;
+        let status = run_words(rt, typed.words.as_slice(), &typed.environment);
         print_status(rt, status)?;
     }
     if let Some(words) = line.strip_prefix("? ") {
-        let words = words_of(rt, words)?;
-        print_choice(rt, words.as_slice())?;
+        let typed = Typed::of(rt, words)?;
+        print_choice(rt, &typed)?;
     }
     Ok(())
 }
@@ -73,8 +74,8 @@ fn take_text(rt: &HostRuntime, head: &str, lines: &str) -> Result<(), Fail> {
         return tell_exchanges(rt, lines);
     };
     let (words, way) = words.split_once(" | ").unwrap_or((words, ""));
-    let words = words_of(rt, words)?;
-    take_input(rt, words.as_slice(), way, lines)
+    let typed = Typed::of(rt, words)?;
+    take_input(rt, &typed, way, lines)
 }
 
 /// A file of these lines, as a block has them.
@@ -88,19 +89,10 @@ fn print_status(rt: &HostRuntime, status: ExitStatus) -> io::Result<()> {
     rt.println(format_args!("exit status {}", status.code()))
 }
 
-/// What the words ask for, with each option, or the text where they ask for no command.
-fn print_choice(rt: &HostRuntime, words: &[String]) -> io::Result<()> {
-    match chosen(rt.alloc(), words) {
+/// What a command line asks for, with each option, or the text where it asks for no command.
+fn print_choice(rt: &HostRuntime, typed: &Typed) -> io::Result<()> {
+    match chosen(rt.alloc(), typed.words.as_slice(), &typed.environment) {
         Ok(choice) => rt.println(format_args!("{choice:?}")),
         Err(error) => rt.print(&error),
     }
-}
-
-/// The words of a command line, the program's name first; `%20` in one is a space.
-pub(crate) fn words_of(rt: &HostRuntime, line: &str) -> io::Result<Vec<String>> {
-    let mut words = Vec::new(rt.alloc());
-    for word in line.split(' ') {
-        words.push(word.replace(rt.alloc(), "%20", " ")?)?;
-    }
-    Ok(words)
 }

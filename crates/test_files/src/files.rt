@@ -2,7 +2,7 @@
 
 use crate::asserting::assert_true;
 use crate::failing::FailingDisk;
-use kmip_files::{LockFault, MOST_PROGRESS_BYTES, ProgressFile, text_of};
+use kmip_files::{LockFault, MOST_PROGRESS_BYTES, ProgressFile, PublicFile, text_of};
 use std::cell::Cell;
 use std::env;
 use std::fs::{self, Files};
@@ -135,6 +135,58 @@ fn is_whole_wherever_the_disk_fails(rt: HostRuntime) -> Result<(), Fail> {
         let is_right = is_whole_after(&rt, path.as_str(), steps)?;
         assert_true(&rt, is_right, "it has one of the texts, and that in time");
     }
+    Ok(())
+}
+
+/// Writes a text for other programs to a disk that fails after so many steps; whether it could be
+/// written.
+fn publishes(rt: &HostRuntime, path: &str, steps: usize, text: &str) -> io::Result<bool> {
+    let left = Cell::new(steps);
+    let disk = FailingDisk {
+        rt,
+        left: &left,
+        removes: false,
+    };
+    let file = PublicFile::at(&disk, path)?;
+    Ok(file.write(text.as_bytes()).is_ok())
+}
+
+/// Whether a file for other programs, on a disk that fails after so many steps, has one of the texts, and
+/// is not written in four steps but in ten.
+fn is_published_after(rt: &HostRuntime, path: &str, steps: usize) -> io::Result<bool> {
+    put(rt, path, BEFORE.as_bytes())?;
+    let is_written = publishes(rt, path, steps, AFTER)?;
+    let is_new = has_text(rt, path, AFTER)?;
+    let is_old = has_text(rt, path, BEFORE)?;
+    let is_in_time = if is_written { steps > 4 } else { steps < 10 };
+    Ok(is_in_time && (is_new || is_old && !is_written))
+}
+
+#[test]
+fn a_public_file_is_whole_wherever_the_disk_fails(rt: HostRuntime) -> Result<(), Fail> {
+    let path = file_for(&rt, "public")?;
+    for steps in 0..20 {
+        let is_right = is_published_after(&rt, path.as_str(), steps)?;
+        assert_true(&rt, is_right, "it has one of the texts, and that in time");
+    }
+    Ok(())
+}
+
+/// Whether a file in a folder is found at a link to it, and at no other path.
+fn is_found_by_a_link(rt: &HostRuntime, folder: &str) -> io::Result<bool> {
+    let path = path_in(rt, folder, "progress")?;
+    put(rt, path.as_str(), AFTER.as_bytes())?;
+    let link = link_in(rt, folder, "link", "progress")?;
+    let other = path_in(rt, folder, "other")?;
+    let file = PublicFile::at(rt, path.as_str())?;
+    Ok(file.is_at(link.as_str())? && !file.is_at(other.as_str())? && file.read()?.is_some())
+}
+
+#[test]
+fn a_public_file_is_known_by_its_links(rt: HostRuntime) -> Result<(), Fail> {
+    let folder = folder(&rt, "public_link")?;
+    let is_right = is_found_by_a_link(&rt, folder.as_str())?;
+    assert_true(&rt, is_right, "it is at the link, and at no other path");
     Ok(())
 }
 

@@ -1,0 +1,145 @@
+//! What is counted of a run beside what its progress line shows.
+
+use crate::course::Course;
+use crate::exchange::{Exchange, place_of};
+use crate::standing::Standing;
+use kmip_batch_items::Request;
+use kmip_client::Client;
+use kmip_plan::{Key, Plan};
+use kmip_plan_commands::{RunTally, Spent, begin};
+use kmip_progress::ProgressFault;
+use kmip_ttlv::NoMemory;
+use std::alloc::Global;
+
+/// What is counted of a run beside what its progress line shows.
+#[derive(Drop)]
+pub(crate) struct Score {
+    /// The course of each key, in the order of the plan.
+    courses: Vec<Course>,
+    /// How the keys stand; none where the progress that the run is to begin with is refused.
+    standing: Option<Standing>,
+    /// How many exchanges brought a reply that cannot be read.
+    unreadable: u64,
+    /// Whether there was no memory to read an exchange, of which nothing is counted then.
+    is_short: bool,
+}
+
+impl Score {
+    /// Of a run of this plan that begins with the text of this progress.
+    ///
+    /// # Errors
+    /// Where there is no memory.
+    pub(crate) fn new(alloc: Global, plan: &Plan, saved: Option<&str>) -> Result<Self, NoMemory> {
+        let mut courses = untaken(alloc, plan.count())?;
+        let standing = match begin(alloc, plan, saved) {
+            Ok(client) => {
+                begin_courses(&client, courses.as_mut_slice());
+                Some(Standing::of(&client))
+            }
+            Err(ProgressFault::NoMemory) => return Err(NoMemory),
+            Err(_) => None, // the run refuses it, and asks nothing
+        };
+        Ok(Score {
+            courses,
+            standing,
+            unreadable: 0,
+            is_short: false,
+        })
+    }
+
+    /// How the keys stand; none where the progress that the run is to begin with is refused.
+    pub(crate) fn standing(&self) -> Option<Standing> {
+        self.standing
+    }
+
+    /// Counts an exchange about these keys of the plan.
+    pub(crate) fn count(&mut self, keys: &[Key], exchange: &Exchange) {
+        let courses = self.courses.as_mut_slice();
+        for request in &exchange.requests {
+            note_asked(keys, courses, request);
+        }
+        if exchange.is_unreadable() {
+            self.unreadable = self.unreadable.saturating_add(1);
+        }
+    }
+
+    /// There was no memory to read an exchange.
+    pub(crate) fn fall_short(&mut self) {
+        self.is_short = true;
+    }
+
+    /// So much is known now.
+    pub(crate) fn know(&mut self, client: &Client<'_>) {
+        reach_courses(client, self.courses.as_mut_slice());
+        self.standing = Some(Standing::of(client));
+    }
+
+    /// The tally of a run of these keys that has spent so much.
+    ///
+    /// # Errors
+    /// Where there is no memory, or there was none to read an exchange.
+    pub(crate) fn tally(
+        &self,
+        alloc: Global,
+        keys: &[Key],
+        spent: Spent,
+        milliseconds: u64,
+    ) -> Result<RunTally, NoMemory> {
+        if self.is_short {
+            return Err(NoMemory);
+        }
+        let mut steps = Vec::with_capacity(alloc, keys.len())?;
+        for (key, course) in keys.iter().zip(&self.courses) {
+            steps.push(course.taken(key))?;
+        }
+        let without_reply = spent.lost as u64;
+        Ok(RunTally {
+            exchanges: spent.exchanges as u64,
+            lost: without_reply.saturating_sub(self.unreadable),
+            unreadable: self.unreadable,
+            refused: spent.refused as u64,
+            milliseconds,
+            steps,
+        })
+    }
+}
+
+/// The courses of so many keys of which nothing is known.
+fn untaken(alloc: Global, count: usize) -> Result<Vec<Course>, NoMemory> {
+    let mut courses = Vec::with_capacity(alloc, count)?;
+    for _ in 0..count {
+        courses.push(Course::new(0))?;
+    }
+    Ok(courses)
+}
+
+/// Begins the course of each key with what the client knows.
+fn begin_courses(client: &Client<'_>, courses: &mut [Course]) {
+    let count = client.plan().count();
+    for place in 0..count {
+        let done = client.done(place);
+        if place < courses.len() {
+            courses[place] = Course::new(done);
+        }
+    }
+}
+
+/// Takes what the client knows of each key into its course.
+fn reach_courses(client: &Client<'_>, courses: &mut [Course]) {
+    let count = client.plan().count();
+    for place in 0..count {
+        let done = client.done(place);
+        if place < courses.len() {
+            courses[place].reach(done);
+        }
+    }
+}
+
+/// Notes in the course of the key that a request is about what it asks.
+fn note_asked(keys: &[Key], courses: &mut [Course], request: &Request) {
+    if let Some(place) = place_of(keys, request) {
+        if place < courses.len() {
+            courses[place].ask(request.ask.operation());
+        }
+    }
+}

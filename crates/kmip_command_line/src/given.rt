@@ -1,0 +1,43 @@
+//! The options of a command, and what the environment says of those that are absent.
+
+use crate::environment::Environment;
+use crate::setting::Setting;
+use crate::unchosen::Unchosen;
+use clap::ArgMatches;
+use std::alloc::{AllocError, Global};
+
+/// The options of a command, and what the environment says of those that are absent.
+#[derive(Clone, Copy)]
+pub(crate) struct Given<'a, 'b> {
+    pub(crate) options: &'a ArgMatches<'b>,
+    pub(crate) environment: &'a Environment,
+}
+
+impl<'a, 'b> Given<'a, 'b> {
+    /// Whether the flag of this name is there.
+    pub(crate) fn flag(self, name: &str) -> bool {
+        self.options.get_flag(name)
+    }
+
+    /// The number of the option of this name, or else this one.
+    pub(crate) fn number(self, name: &str, otherwise: u64) -> u64 {
+        self.options.get_one::<u64>(name).unwrap_or(otherwise)
+    }
+
+    /// The text of the option of this name; empty where it is absent.
+    pub(crate) fn text(self, alloc: Global, name: &str) -> Result<String, AllocError> {
+        String::from_str(alloc, self.options.get_str(name).unwrap_or(""))
+    }
+
+    /// The value of an option or else of its variable; empty where both are absent.
+    ///
+    /// # Errors
+    /// Where the variable is no text, or there is no memory.
+    pub(crate) fn setting(self, alloc: Global, setting: Setting) -> Result<String, Unchosen> {
+        let value = match self.options.get_str(setting.option()) {
+            Some(value) => value,
+            None => self.environment.value(setting)?.unwrap_or(""),
+        };
+        Ok(String::from_str(alloc, value)?)
+    }
+}
