@@ -1,0 +1,4 @@
+mod HistoryLemmas
+mod MemoryLemmas
+mod Moments
+mod WholeLemmas
