@@ -1,0 +1,332 @@
+#!/usr/bin/env python3
+"""Writes the man pages: kmipctl(1), one a command, and kmip-plan(5) for the plan and the progress file.
+
+    tools/man_pages.py             writes docs/man (`make man`)
+    tools/man_pages.py PROGRAM     compares what the sources say with the help that the program prints
+
+It runs at the top of the repository. The pages of section 1 come from the texts of kmip_command_line: help.rt,
+command_option.rt and subcommand.rt. kmip-plan(5) has what the help of `check` says of a plan, what OPERATING says of
+changes and of the progress file, and examples/plan.toml. `make documents` compares docs/man with these. In a text
+an indented line stays as it is, and the lines of a paragraph are filled. The last line of a comparison is
+`N commands, M wrong`.
+"""
+import pathlib
+import re
+import subprocess
+import sys
+
+sys.dont_write_bytecode = True
+
+from sources import CRATES
+
+SOURCES = CRATES / 'kmip_command_line/src'
+FILES = 'help.rt', 'command_option.rt', 'subcommand.rt'
+PAGES = pathlib.Path('docs/man')
+OPERATING, EXAMPLE = pathlib.Path('docs/OPERATING.md'), pathlib.Path('examples/plan.toml')
+TEXT = re.compile(r'const (\w+): &str =\s*"((?:[^"\\]|\\.)*)";', re.S)
+OPTION = re.compile(r'const (\w+): CommandOption = CommandOption\(\s*"([\w-]+)",\s*(.+?),\s*'
+                    r'(Fine|Wrong|WrongUnlessSaid\(Setting::\w+\)|Means\("[^"]*"\)),\s*(\w+),?\s*\);', re.S)
+OPTIONS = re.compile(r'const (\w+_OPTIONS): \[CommandOption; (\d+)\] = \[(.*?)\];', re.S)
+COMMAND = re.compile(r'Subcommand = Subcommand \{\s*name: "(\w+)",\s*about: (\w+),\s*long_about: (\w+),'
+                     r'\s*options: &(\w+),\s*asks_a_server: (true|false),', re.S)
+ORDER = re.compile(r'const COMMANDS: \[Subcommand; (\d+)\] = \[(.*?)\];', re.S)
+VERSION = re.compile(r'const VERSION: &str = "([^"]+)";')
+# The option that every command has, and the options of which one says where the server is.
+HELP = '-h, --help'
+SERVERS = 'connect', 'socket', 'loopback'
+
+
+def unquoted(text):
+    """The text that stands between the quotes of a source."""
+    return re.sub(r'\\(\n\s*|.)', lambda found: '' if found[1].startswith('\n') else
+                  {'n': '\n', '"': '"', '\\': '\\'}[found[1]], text)
+
+
+class Option:
+    """An option of a command: its word, the name of its value, what it means that it is absent, and its help."""
+
+    def __init__(self, word, value, absent, help):
+        self.word, self.help = word, help
+        named = re.match(r'(?:Text|Number)\("(\w+)"', value)
+        self.value = named[1] if named else None
+        self.others = re.findall(r'"([\w-]+)"', value) if not named else []
+        self.is_alone, self.needs_other = value == 'FlagAlone', value.startswith('FlagWith')
+        self.is_needed = absent.startswith('Wrong')
+        self.default = absent[len('Means("'):-len('")')] if absent.startswith('Means') else None
+
+    def usage(self):
+        """The option as a usage has it."""
+        return f'--{self.word}' + (f' <{self.value}>' if self.value else '')
+
+    def printed(self):
+        """The option as `--help` has it."""
+        said = f'      {self.usage()}\n          {self.help}'
+        return said + (f'\n          \n          [default: {self.default}]' if self.default else '')
+
+    def beside(self):
+        """What may and has to be beside it, in a sentence, where that is limited."""
+        others = ', '.join(f'`--{other}`' for other in self.others)
+        if self.is_alone:
+            return 'No other option may be beside it.'
+        return f'{others} has to be beside it.' if self.needs_other else f'Not beside {others}.' if others else ''
+
+
+class Command:
+    def __init__(self, name, about, text, options, asks_a_server):
+        self.name, self.about, self.text, self.options, self.asks_a_server = name, about, text, options, asks_a_server
+
+    def is_needed(self, option):
+        """Whether the option has to be there by itself."""
+        return option.is_needed and not (self.asks_a_server and option.word in SERVERS)
+
+    def usage(self):
+        """What stands after the command in its usage."""
+        needed = [option.usage() for option in self.options if self.is_needed(option)]
+        servers = [option.usage() for option in self.options if self.asks_a_server and option.word in SERVERS]
+        return ' '.join(['[OPTIONS]', *needed] + ([f'<{"|".join(servers)}>'] if servers else []))
+
+    def help(self, called):
+        """What `--help` prints, where the program is called so."""
+        parts = [self.text, f'Usage: {called} {self.name} {self.usage()}', 'Options:']
+        options = [option.printed() for option in self.options]
+        options.append(f'  {HELP}\n          ' + "Print help (see a summary with '-h')")
+        return '\n\n'.join(parts) + '\n' + '\n\n'.join(options) + '\n'
+
+
+class Texts:
+    """The texts and the commands of the command line."""
+
+    def __init__(self):
+        help, options, commands = [(SOURCES / name).read_text() for name in FILES]
+        self.texts = {name: unquoted(text) for name, text in TEXT.findall(help)}
+        self.version = VERSION.search(commands)[1]
+        made = {name: Option(word, ' '.join(value.split()), absent, self.texts[text])
+                for name, word, value, absent, text in OPTION.findall(options)}
+        lists = {name: self.listed(name, count, words, made) for name, count, words in OPTIONS.findall(options)}
+        found = {name: Command(name, self.texts[about], self.texts[text], lists[of], asks == 'true')
+                 for name, about, text, of, asks in COMMAND.findall(commands)}
+        count, words = ORDER.search(commands).groups()
+        self.commands = self.listed('COMMANDS', count, words.replace('_COMMAND', '').lower(), found)
+
+    @staticmethod
+    def listed(name, count, words, made):
+        """What a list of a source names, of which it says how many they are."""
+        named = re.findall(r'\w+', words)
+        unknown = [word for word in named if word not in made]
+        if unknown or len(named) != int(count):
+            raise SystemExit(f'{SOURCES}: {name} cannot be read: {", ".join(unknown) or len(named)}')
+        return [made[word] for word in named]
+
+
+def escaped(text):
+    """A line of text for groff, with what stands between two ` in bold."""
+    for character, written in (('\\', r'\e'), ('-', r'\-'), ("'", r'\(aq'), ('^', r'\(ha'), ('~', r'\(ti')):
+        text = text.replace(character, written)
+    text = re.sub(r'`([^`]+)`', r'\\fB\1\\fR', text).replace('`', r'\(ga')
+    return r'\&' + text if text.startswith('.') else text
+
+
+def block(lines):
+    """Lines that stay as they are, indented."""
+    least = min(len(line) - len(line.lstrip()) for line in lines if line)
+    return ['.RS 4', '.nf', *(escaped(line[least:]) if line else '.sp' for line in lines), '.fi', '.RE']
+
+
+def body(text):
+    """Paragraphs and indented blocks of a help text."""
+    out = []
+    for number, paragraph in enumerate(text.split('\n\n')):
+        out += ['.PP'] if number else []
+        for is_block, lines in groups(paragraph.split('\n'), lambda line: line.startswith('  ')):
+            out += block(lines) if is_block else [escaped(line) for line in lines]
+    return out
+
+
+def groups(lines, kind):
+    """The lines, where those of one kind that follow each other stand together."""
+    found = []
+    for line in lines:
+        if not found or found[-1][0] != kind(line):
+            found.append((kind(line), []))
+        found[-1][1].append(line)
+    return found
+
+
+def plain(text):
+    """A text of a document without its links; what is emphasized is between two `."""
+    return re.sub(r'\*([^*\s][^*]*)\*', r'`\1`', re.sub(r'\[([^\]]*)\]\([^)]*\)', r'\1', text))
+
+
+def kind_of(line):
+    """What a line of a document is."""
+    kinds = {'    ': 'block', '|': 'table', '- ': 'item'}
+    return next((kind for begin, kind in kinds.items() if line.startswith(begin)), 'text')
+
+
+def document_body(text):
+    """The paragraphs, lists, tables and indented blocks of a section of a document."""
+    out = []
+    for paragraph in text.strip('\n').split('\n\n'):
+        for kind, lines in groups(paragraph.split('\n'), kind_of):
+            if kind == 'block':
+                out += ['.PP', *block(lines)]
+            elif kind == 'table':
+                for line in lines[2:]:
+                    head, said = [cell.strip() for cell in line.strip('|').split(' | ')]
+                    out += ['.TP', escaped(plain(head)), *sentences(said)]
+            elif kind == 'item':
+                for line in lines:
+                    out += [r'.IP \(bu 2', *sentences(line[2:])]
+            else:
+                out += ['.PP', *sentences(' '.join(lines))]
+    return out
+
+
+def sentences(text):
+    """Each sentence in a line of its own."""
+    return [escaped(sentence) for sentence in re.split(r'(?<=[.!?:]) (?=[A-Z])', plain(text))]
+
+
+def section(path, heading):
+    """What stands below a heading of a document."""
+    found = re.search(rf'^## {re.escape(heading)}\n(.*?)(?=^## |\Z)', path.read_text(), re.M | re.S)
+    if not found:
+        raise SystemExit(f'{path} has no heading {heading}')
+    return found[1]
+
+
+def page(name, number, version, about, parts):
+    """A man page: its sections by their titles."""
+    lines = [r'.\" made by tools/man_pages.py: edit what it is made of, and run make man',
+             f'.TH {name.upper()} {number} "" "kmipctl {version}" "kmipctl"'.replace('-', r'\-'),
+             '.nh', '.ad l', '.SH NAME', rf'{escaped(name)} \- {escaped(about)}']
+    for title, part in parts:
+        lines += [f'.SH {title}', *part]
+    return '\n'.join(lines) + '\n'
+
+
+def small(text):
+    """The text with a small first letter."""
+    return text[0].lower() + text[1:]
+
+
+def typed(usage):
+    """A usage, with what is typed in bold and what is put in in italics."""
+    usage = re.sub(r'<(--[^ ].*)>', lambda found: '{' + found[1].replace('|', ' | ') + '}', usage)
+    usage = re.sub(r'<(\w+)>', r'\\fI\1\\fR', usage.replace('[OPTIONS]', r'[\fIOPTIONS\fR]'))
+    return re.sub(r'--([\w-]+)', lambda found: r'\fB\-\-' + found[1].replace('-', r'\-') + r'\fR', usage)
+
+
+def option_lines(option):
+    """An option with its help, for a page."""
+    said = [escaped(option.help), *([escaped(option.beside())] if option.beside() else [])]
+    said += [rf'The default is \fB{escaped(option.default)}\fR.'] if option.default else []
+    said[0] += '' if len(said) == 1 or said[0].endswith(']') else '.'
+    return ['.TP', typed(option.usage()), *said]
+
+
+def after_help(text, title):
+    """What the help of the program says at its end after a title, as `Exit status:`."""
+    for paragraph in text.split('\n\n'):
+        if paragraph.startswith(title):
+            said = paragraph[len(title) + 1:]
+            return body(said[0].upper() + said[1:])
+    raise SystemExit(f'the help of the program has no paragraph {title}')
+
+
+def see_also(names):
+    return ',\n'.join(rf'\fB{escaped(name)}\fR({number})' for name, number in names).split('\n')
+
+
+def command_page(command, texts):
+    """The page of a command."""
+    words = {option.word for option in command.options}
+    options = [line for option in command.options for line in option_lines(option)]
+    parts = [('SYNOPSIS', [rf'\fBkmipctl {command.name}\fR {typed(command.usage())}']),
+             ('DESCRIPTION', body(command.text)),
+             ('OPTIONS', [*options, '.TP', r'\fB\-h\fR, \fB\-\-help\fR', escaped('Print help')])]
+    if words & {'plan', 'progress', *SERVERS}:
+        parts.append(('ENVIRONMENT', after_help(texts.texts['AFTER_HELP'], 'Environment:')))
+    parts += [('EXIT STATUS', after_help(texts.texts['AFTER_HELP'], 'Exit status:')),
+              ('SEE ALSO', see_also([('kmipctl', 1), ('kmip-plan', 5)]))]
+    return page(f'kmipctl-{command.name}', 1, texts.version, small(command.about), parts)
+
+
+def program_page(texts):
+    """The page of the program."""
+    about, after = texts.texts['ABOUT'], texts.texts['AFTER_HELP']
+    rest = '\n\n'.join(part for part in after.split('\n\n') if not part.startswith(('Environment:', 'Exit status:')))
+    commands = [line for command in texts.commands
+                for line in ('.TP', rf'\fBkmipctl\-{command.name}\fR(1)', escaped(command.about) + '.')]
+    parts = [('SYNOPSIS', [r'\fBkmipctl\fR [\fICOMMAND\fR [\fIOPTIONS\fR]]', '.br',
+                           r'\fBkmipctl\fR {\fB\-\-help\fR | \fB\-\-version\fR}']),
+             ('DESCRIPTION', body(about + '\n\n' + rest)), ('COMMANDS', commands),
+             ('ENVIRONMENT', after_help(after, 'Environment:')), ('EXIT STATUS', after_help(after, 'Exit status:')),
+             ('SEE ALSO', see_also([*((f'kmipctl-{command.name}', 1) for command in texts.commands), ('kmip-plan', 5)]))]
+    first = re.sub(r' \(.*?\)', '', about.split('.\n')[0])
+    return page('kmipctl', 1, texts.version, small(first), parts)
+
+
+def plan_page(texts):
+    """The page of the plan and the progress file."""
+    check = texts.texts['CHECK_LONG']
+    found = re.search(r'^A plan is TOML.*?(?=^The whole plan)', check, re.M | re.S)
+    if not found:
+        raise SystemExit(f'{SOURCES}: the help of check does not say what a plan is')
+    parts = [('DESCRIPTION', body(found[0].rstrip('\n'))),
+             ('CHANGING A PLAN', document_body(section(OPERATING, 'Changing a plan'))),
+             ('THE PROGRESS FILE', document_body(section(OPERATING, 'The progress file'))),
+             ('EXAMPLE', block(EXAMPLE.read_text().rstrip('\n').split('\n'))),
+             ('SEE ALSO', see_also([('kmipctl', 1), ('kmipctl-check', 1), ('kmipctl-run', 1), ('kmipctl-list', 1)]))]
+    return page('kmip-plan', 5, texts.version, 'the plan of keys of kmipctl, and its progress file', parts)
+
+
+def pages():
+    """The pages by their names."""
+    texts = Texts()
+    made = {f'kmipctl-{command.name}.1': command_page(command, texts) for command in texts.commands}
+    return {'kmipctl.1': program_page(texts), **made, 'kmip-plan.5': plan_page(texts)}
+
+
+def check_man_pages():
+    """Prints which pages are not what they are made of, and returns how many."""
+    made, there, faults = pages(), {path.name: path.read_text() for path in PAGES.glob('*')}, 0
+    for name in sorted(made.keys() | there.keys()):
+        if made.get(name) != there.get(name):
+            faults += 1
+            print(f'{PAGES}/{name}: it is not what the sources and documents say: run make man')
+    return faults
+
+
+def write_pages():
+    PAGES.mkdir(parents=True, exist_ok=True)
+    made = pages()
+    for path in PAGES.glob('*'):
+        if path.name not in made:
+            path.unlink()
+    for name, text in made.items():
+        (PAGES / name).write_text(text)
+
+
+def compare(program):
+    """Compares the help of each command with the one that the sources give, and returns the exit status."""
+    texts, wrong = Texts(), 0
+    for command in texts.commands:
+        words = [str(program), command.name, '--help']
+        said = subprocess.run(words, capture_output=True, text=True, stdin=subprocess.DEVNULL).stdout
+        if said != command.help(pathlib.Path(program).name):
+            wrong += 1
+            print(f'{command.name}: what --help prints is not what the sources say')
+    print(f'{len(texts.commands)} commands, {wrong} wrong')
+    return 1 if wrong else 0
+
+
+def main(words):
+    if words:
+        return compare(words[0])
+    write_pages()
+    return 0
+
+
+if __name__ == '__main__':
+    sys.exit(main(sys.argv[1:]))

@@ -1,0 +1,114 @@
+"""The man pages, and what they are made of."""
+import os
+import shutil
+import sys
+import unittest
+
+from scratch import Scratch, TOOLS, printed
+
+import man_pages
+from man_pages import Command, Option
+
+TOP = TOOLS.parent
+LINE = Option('limit', 'Number("N", 0, MOST_COUNT)', 'Means("10")', 'How many')
+PLAN = Option('plan', 'Text("PATH")', 'WrongUnlessSaid(Setting::Plan)', 'The file')
+SOCKET = Option('socket', 'Text("PATH")', 'Fine', 'The socket')
+LOOPBACK = Option('loopback', 'FlagWith("progress")', 'Fine', 'A new server')
+
+
+class Texts(unittest.TestCase):
+    def test_a_text_of_a_source(self):
+        self.assertEqual(man_pages.unquoted('\\\n    one \\"word\\"\n  two \\\n  three\\n\\\\'), 'one "word"\n  two three\n\\')
+
+    def test_what_groff_would_take(self):
+        self.assertEqual(man_pages.escaped(".x --y 'z' `-w` `"), r"\&.x \-\-y \(aqz\(aq \fB\-w\fR \(ga")
+        self.assertEqual(man_pages.escaped("a\\b ^~"), r'a\eb \(ha\(ti')
+
+    def test_paragraphs_and_blocks(self):
+        self.assertEqual(man_pages.body('One:\n  a\n    b\ntwo.\n\nThree.'), [
+            'One:', '.RS 4', '.nf', 'a', '  b', '.fi', '.RE', 'two.', '.PP', 'Three.'])
+
+    def test_a_section_of_a_document(self):
+        text = '\nSee [it](x.md#y). So *is* it.\n\n- one\n- two\n\n    $ a\n\n| h | k |\n|---|---|\n| `1` | One. Two |\n'
+        self.assertEqual(man_pages.document_body(text), [
+            '.PP', 'See it.', r'So \fBis\fR it.', r'.IP \(bu 2', 'one', r'.IP \(bu 2', 'two', '.PP', '.RS 4', '.nf',
+            '$ a', '.fi', '.RE', '.TP', r'\fB1\fR', 'One.', 'Two'])
+
+    def test_what_stands_below_a_title(self):
+        help = 'First.\n\nEnvironment: here:\n  X  y\n\nExit status:\n  0  all is done'
+        self.assertEqual(man_pages.after_help(help, 'Environment:')[0], 'Here:')
+        self.assertEqual(man_pages.after_help(help, 'Exit status:'), ['.RS 4', '.nf', '0  all is done', '.fi', '.RE'])
+        with self.assertRaises(SystemExit):
+            man_pages.after_help(help, 'Files:')
+
+
+class Options(unittest.TestCase):
+    def test_usage(self):
+        command = Command('run', 'Runs', 'It runs.', [PLAN, SOCKET, LOOPBACK, LINE], True)
+        self.assertEqual(command.usage(), '[OPTIONS] --plan <PATH> <--socket <PATH>|--loopback>')
+        self.assertEqual(man_pages.typed(command.usage()), r'[\fIOPTIONS\fR] \fB\-\-plan\fR \fIPATH\fR '
+                         r'{\fB\-\-socket\fR \fIPATH\fR | \fB\-\-loopback\fR}')
+
+    def test_help(self):
+        command = Command('list', 'Lists', 'It lists.', [LINE], False)
+        self.assertEqual(command.help('kmipctl'), '''It lists.
+
+Usage: kmipctl list [OPTIONS]
+
+Options:
+      --limit <N>
+          How many
+          
+          [default: 10]
+
+  -h, --help
+          Print help (see a summary with '-h')
+''')
+
+    def test_an_option(self):
+        self.assertEqual(man_pages.option_lines(LINE), ['.TP', r'\fB\-\-limit\fR \fIN\fR', 'How many.', r'The default is \fB10\fR.'])
+        self.assertEqual(man_pages.option_lines(LOOPBACK)[2:], ['A new server.', r'\fB\-\-progress\fR has to be beside it.'])
+        self.assertEqual(Option('json', 'FlagUnless(&["trace", "diagram"])', 'Fine', '').beside(), 'Not beside `--trace`, `--diagram`.')
+        self.assertEqual(Option('schema', 'FlagAlone', 'Fine', '').beside(), 'No other option may be beside it.')
+
+
+class Pages(Scratch):
+    def setUp(self):
+        super().setUp()
+        for path in [man_pages.OPERATING, man_pages.EXAMPLE, *(man_pages.SOURCES / name for name in man_pages.FILES)]:
+            (self.top / path).parent.mkdir(parents=True, exist_ok=True)
+            shutil.copy(TOP / path, self.top / path)
+
+    def test_what_is_not_as_the_sources(self):
+        man_pages.write_pages()
+        self.assertEqual(printed(man_pages.check_man_pages), (0, []))
+        (self.top / 'docs/man/kmipctl.1').write_text('other\n')
+        (self.top / 'docs/man/kmipctl-run.1').unlink()
+        self.write({'docs/man/kmipctl-gone.1': ''})
+        count, lines = printed(man_pages.check_man_pages)
+        self.assertEqual((count, [line.split(':')[0] for line in lines]), (3, [
+            'docs/man/kmipctl-gone.1', 'docs/man/kmipctl-run.1', 'docs/man/kmipctl.1']))
+        man_pages.write_pages()
+        self.assertEqual(printed(man_pages.check_man_pages), (0, []))
+
+    def test_each_option_of_the_sources_is_read(self):
+        source = (self.top / man_pages.SOURCES / 'command_option.rt').read_text()
+        self.assertEqual(len(man_pages.OPTION.findall(source)), source.count('CommandOption = CommandOption('))
+        commands = [command.name for command in man_pages.Texts().commands]
+        self.assertEqual(commands[:2] + commands[-1:], ['check', 'sim', 'show'])
+
+    def test_an_option_that_is_not_read(self):
+        source = man_pages.SOURCES / 'command_option.rt'
+        self.write({str(source): (self.top / source).read_text().replace('CommandOption("stream", Flag,', 'other("stream", Flag,')})
+        with self.assertRaises(SystemExit):
+            man_pages.Texts()
+
+    def test_a_program_that_says_something_else(self):
+        self.write({'program': f'#!{sys.executable}\nprint("help")\n'})
+        os.chmod('program', 0o755)
+        status, lines = printed(man_pages.compare, './program')
+        self.assertEqual((status, lines[-1]), (1, '9 commands, 9 wrong'))
+
+
+if __name__ == '__main__':
+    unittest.main()
