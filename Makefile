@@ -1,4 +1,8 @@
 # make            builds the program (a clean clone is proved first, which takes some 40 minutes on 4 cores)
+# make install    copies the program, man pages, units, examples and documents below DESTDIR PREFIX, and builds nothing
+# make uninstall  removes what make install copied there (PREFIX is /usr/local, DESTDIR empty unless they are given)
+# make dist       packs these into out/kmipctl-VERSION-ARCH.tar.gz, with their sums (needs python3)
+# make deb        packs them into out/kmipctl_VERSION_ARCH.deb (needs python3, dpkg-deb)
 # make demo       carries out a plan over a network that loses a reply (by rt try where nothing is built)
 # make check      proves what changed since the last check
 # make test       the gate: every proof, the wrong bodies, the tests and the stored runs, and then all trials but bench
@@ -12,20 +16,25 @@
 # make troubles   runs it against servers that give trouble, and compares what it tells of that (needs python3)
 # make origin     runs it on progress files that were kept against other servers, or for other keys (needs python3)
 # make causes     runs it where files, sockets and standard streams fail, and compares what it tells (needs python3)
+# make reports    reads what each command prints with --json by another reader (needs python3)
+# make installed  installs it into a scratch folder, and carries out a timer's day there (needs python3)
 # make tls        carries a plan out over TLS between two tunnels, with client certificates (needs openssl, stunnel)
 # make reading    lists the public functions; with FUNCTION=crate::name [CLAUSE=name], what they rest on (needs python3)
 # make reference  writes a page for each crate to out/reference, from the sources (needs python3)
+# make man        writes docs/man, from the help texts of the program and OPERATING and PROFILE (needs python3)
 # make layers     draws docs/layers.svg and the table of crates of docs/ARCHITECTURE.md (needs python3)
 # make examples   runs each example of README.md and docs/ with the program that is built (needs python3)
-# make documents  compares the documents with the code, and looks at links, sentences and sizes (needs python3)
+# make documents  compares documents and man pages with the code, and looks at links, sentences, sizes (needs python3)
 # make tools      runs the tests of the tools (needs python3)
 # make help       prints these lines
 
 program := crates/kmipctl/out/kmipctl
+PREFIX = /usr/local
+DESTDIR =
 growths := crates/test_memory/out/test_memory
 sources := crates.txt $(shell find crates -name out -prune -o \( -name '*.rt' -o -name '*.antt' \) -print)
 
-.PHONY: all demo check test rows bench refuse faults hostile storm peers troubles origin causes tls reading reference layers examples documents tools help
+.PHONY: all install uninstall dist deb demo check test rows bench refuse faults hostile storm peers troubles origin causes reports installed tls reading reference man layers examples documents tools help
 
 all: $(program)
 
@@ -37,6 +46,18 @@ $(program): $(sources)
 $(growths): $(sources)
 	@cd crates/test_memory && rt run </dev/null >/dev/null
 	@touch $@
+
+install:
+	@tools/install.sh install '$(program)' '$(PREFIX)' '$(DESTDIR)'
+
+uninstall:
+	@tools/install.sh uninstall '$(PREFIX)' '$(DESTDIR)'
+
+dist:
+	@python3 tools/package.py dist '$(program)'
+
+deb:
+	@python3 tools/package.py deb '$(program)'
 
 demo:
 	@examples/demo.sh $(program)
@@ -77,6 +98,12 @@ origin: $(program)
 causes: $(program)
 	@python3 bench/causes.py $(program) out/causes
 
+reports: $(program)
+	@python3 bench/reports.py $(program) out/reports
+
+installed: $(program)
+	@bench/install.sh $(program) out/installed
+
 tls: $(program)
 	@examples/tls/tls.sh $(program)
 
@@ -85,6 +112,9 @@ reading:
 
 reference:
 	@python3 tools/reference.py
+
+man:
+	@python3 tools/man_pages.py
 
 layers:
 	@python3 tools/layers.py

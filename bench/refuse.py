@@ -7,7 +7,7 @@ For N = 1, 2, .. the shim of bench/refuse.c, which needs cc, refuses the N-th gr
 run meets no refusal. The N-th growth alone is refused, and then the N-th and all after it.
 
 Each command of KMIPCTL has to print some whole lines of its undisturbed output, from the first one on,
-and then the line `no memory`, and to end with exit status 1. Where a growth is refused alone, the
+and then the line `no memory`, or its document with `--json`, and to end with exit status 1. Where a growth is refused alone, the
 standard library may do with less: `collect` takes room by what its iterator hints at, and where it is
 refused that it takes room for the next item alone. Such a run has to do all as undisturbed, and how many
 there are is printed. Beyond that
@@ -53,6 +53,7 @@ MOST = 100_000
 LONGEST = 30
 
 NO_MEMORY = "no memory\n"
+NO_MEMORY_DOCUMENT = '{"fault":"no memory"}\n'
 
 # The progress of a plan whose key k1 was destroyed, as object 1.
 FINISHED = "kmip-progress 2\nk1 destroyed 1 4 31\nend 1\n"
@@ -163,6 +164,7 @@ class Command:
         self.words = [str(word) for word in words]
         self.source = source
         self.name = shown or " ".join(self.words)
+        self.is_json = "--json" in self.words
         # The exit status of the undisturbed run.
         self.status = status
         self.undisturbed = None
@@ -191,10 +193,19 @@ class Command:
                 raise Wrong("not as undisturbed, where nothing was refused")
         elif is_undisturbed and not is_all and (excuse := self.excuse(run)):
             self.excused[excuse] += 1
-        elif run.status != 1 or run.errors != "" or not run.output.endswith(NO_MEMORY):
+        elif run.status != 1 or run.errors != "" or not self.tells_want(run):
             raise Wrong("no refusal")
-        elif run.output.removesuffix(NO_MEMORY) not in self.fronts():
+        elif self.front(run) not in self.fronts():
             raise Wrong("other lines before `no memory`")
+
+    def tells_want(self, run):
+        """Whether the last line tells want of memory. A run with `--json` may lack it before that word is read."""
+        told = NO_MEMORY_DOCUMENT if self.is_json else NO_MEMORY
+        return run.output.endswith(told) or run.output == NO_MEMORY
+
+    def front(self, run):
+        """What stands before that line."""
+        return run.output.removesuffix(NO_MEMORY).removesuffix(NO_MEMORY_DOCUMENT)
 
     def excuse(self, run):
         """Why a run may be as undisturbed where a growth was refused; none where it may not."""
@@ -227,7 +238,9 @@ class Simulation(Command):
         self.runs = Process(self.tools.shim, [self.tools.program, *words], None).end().output
 
     def fronts(self):
-        """The runs that have ended, whole."""
+        """The runs that have ended, whole; with `--json` a line each."""
+        if self.is_json:
+            return super().fronts()
         runs = re.split(r"^(?=run )", self.runs, flags=re.M)
         blocks = [re.sub(r"^(ask|record) .*\n", "", run, flags=re.M) for run in runs]
         return {"".join(blocks[:number]) for number in range(len(blocks) + 1)}
@@ -255,12 +268,14 @@ class Carrying(Command):
         run = Process(self.tools.shim, words, refusal).end()
         run.left = file.read_text() if file.exists() else None
         run.errors = without_times(run.errors.replace(str(file), "plan.progress"))
+        run.output = re.sub(r'"milliseconds":\d+', '"milliseconds":"T"', run.output)
         shutil.rmtree(folder)
         return run
 
     def prepare(self):
         super().prepare()
-        exchanges = int(re.search(r"^stop AllFinished (\d+)$", self.undisturbed.output, re.M)[1])
+        told = r'"exchanges":(\d+)' if self.is_json else r"^stop AllFinished (\d+)$"
+        exchanges = int(re.search(told, self.undisturbed.output, re.M)[1])
         for limit in range(1, exchanges + 1):
             self.saved.append(self.run(None, ["--limit", str(limit)]).left)
         if self.saved[-1] != self.undisturbed.left:
@@ -474,6 +489,13 @@ def commands_of(tools):
         Command(tools, ["look", "--plan", plan, "--loopback"], shown="look --loopback", status=1),
         Command(tools, probe, shown="probe --loopback"),
         Serving(tools, messages),
+        Command(tools, ["check", "--plan", plan, "--json"], shown="check --json"),
+        Command(tools, ["check", "--plan", next_year, "--after", plan, "--json"], shown="check --after --json"),
+        sim("--json", active, loses, ["--json"]),
+        Carrying(tools, destroyed, "--json"),
+        Command(tools, ["list", "--plan", destroyed, "--progress", finished, "--json"], shown="list --json"),
+        Command(tools, ["look", "--plan", plan, "--loopback", "--json"], shown="look --loopback --json", status=1),
+        Command(tools, [*probe, "--json"], shown="probe --loopback --json"),
     ]
 
 

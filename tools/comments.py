@@ -49,6 +49,7 @@ def definition_faults(repository):
     needed = set()
     for function in repository.functions:
         needed |= repository.behind(roots_of(repository, function))
+    given = repository.behind(repository.given)
     for file in repository.files.values():
         if not file.says:
             yield f'{file.path}:1: it does not say what it is about'
@@ -57,7 +58,7 @@ def definition_faults(repository):
         for one in file.definitions:
             if one.names and not one.comment:
                 yield f'{file.path}:{one.line}: no sentence above {one.title()}'
-            if one.names and one not in needed and not one.is_private():
+            if one.names and one not in needed and one not in given and not one.is_private():
                 yield f'{file.path}:{one.line}: no public contract rests on {one.title()}, and its file is not named Private..'
             if one.names and one in needed and one.is_private():
                 yield f'{file.path}:{one.line}: a public contract rests on {one.title()}, which stands in a file Private..'

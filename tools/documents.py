@@ -1,11 +1,12 @@
-"""Compares the documents with the code: the names in them, where their links lead, how long they are, and what the
-sources say of themselves and bring in."""
+"""Compares the documents and man pages with the code: the names in them, where their links lead, how long they are, and
+what the sources say of themselves and bring in."""
 import re
 
 from comments import check_comments
 from headline import check_headline
 from layers import check_layers
 from links import check_links
+from man_pages import check_man_pages
 from message_rows import check_messages
 from mistakes import check_mistakes
 from own_numbers import check_own_numbers
@@ -22,7 +23,7 @@ def check(repository):
     """Prints what does not fit, and returns the exit status: 1 where there is something."""
     faults = check_comments(repository) + check_headline(repository) + check_own_numbers() + check_layers()
     faults += check_links() + check_names() + check_messages() + check_mistakes(repository) + check_ways() + check_prose()
-    faults += check_uses(repository) + check_plan_schema()
+    faults += check_uses(repository) + check_plan_schema() + check_man_pages()
     print(f'{faults} places to look at' if faults else 'nothing to look at')
     return 1 if faults else 0
 

@@ -30,6 +30,8 @@ TRIALS = [
     ('origin', ['python3', 'bench/origin.py', PROGRAM, 'out/origin'], []),
     ('faults', ['python3', 'bench/plan_faults.py', PROGRAM, 'out/faults'], []),
     ('causes', ['python3', 'bench/causes.py', PROGRAM, 'out/causes'], []),
+    ('reports', ['python3', 'bench/reports.py', PROGRAM, 'out/reports'], []),
+    ('installed', ['bench/install.sh', PROGRAM, 'out/installed'], [['make']]),
     ('hostile', ['bench/hostile.sh', PROGRAM], []),
     ('tls', ['examples/tls/tls.sh', PROGRAM], [['openssl'], ['stunnel4', 'stunnel']]),
     ('storm', ['bench/storm.sh', PROGRAM, '40'], [['rustc']]),

@@ -141,6 +141,7 @@ class Repository:
 
     def __init__(self):
         self.files, self.functions, self.models, self.views = {}, [], {}, {}
+        self.given = set()
         self.traits, self.parts = None, {}
         self.crates = [line.split(':')[0].strip() for line in pathlib.Path('crates.txt').read_text().splitlines()
                        if ':' in line and not line.startswith('#')]
@@ -340,6 +341,7 @@ class Crate:
         imports = imports_of(text, 'ghost ')
         lines = text.splitlines()
         self.read_models(text, imports)
+        self.read_given(text, imports)
         number, docs, owner, is_trait, ghosts, self.header = 0, [], None, False, '', ''
         while number < len(lines):
             line = lines[number]
@@ -380,6 +382,13 @@ class Crate:
             seen = ' '.join(re.findall(r'ghost (?:Value|view) = (\{.*?\});', body, re.S))
             self.repository.models[name] = self.repository.resolve(seen, local)
             self.repository.views[name] = header, seen
+
+    def read_given(self, text, imports):
+        """Reads the definitions that public types give for ghosts of traits, each as one word."""
+        for name, body in re.findall(r'^impl[^\n]* for (\w+)[^\n]*\{\n(.*?)^\}', text, re.M | re.S):
+            if any(one == name for _, one in self.exported):
+                local = dict(imports, **imports_of(body, 'ghost '))
+                self.repository.given |= self.repository.resolve(' '.join(re.findall(r'ghost \w+ = \{ (\w+) \};', body)), local)
 
     def owner_of(self, opened, module, is_trait):
         """The type or trait that a block belongs to, and what it converts from; none if it is not public."""

@@ -49,6 +49,14 @@ class Comments(Scratch):
         self.assertIn('crates/low/specs/PrivateStart.antt:6: a public contract rests on History, which stands in a file Private..',
                       self.found_in(uses | {'crates/low/specs/Lib.antt': lib, 'crates/low/specs/PrivateStart.antt': start}))
 
+    def test_what_a_type_gives_a_trait(self):
+        carried = CRATES['crates/low/specs/Carried.antt'] + '\n-- what it weighs\nabbrev pub weight_of : ℕ → ℕ\nweight_of load = load\n'
+        self.assertIn('no public contract rests on weight_of', ' '.join(self.found_in({'crates/low/specs/Carried.antt': carried})))
+        given = CRATES['crates/low/src/carrying.rt'].replace('{ λ load. load.weight }', '{ weight_of }').replace(
+            'Worn, Quick}', 'Worn, Quick, weight_of}')
+        self.assertNotIn('weight_of', ' '.join(self.found_in(
+            {'crates/low/specs/Carried.antt': carried, 'crates/low/src/carrying.rt': given})))
+
     def test_types_of_tests_stand_beside_them(self):
         self.assertEqual(list(comments.type_faults('test_low')), [])
 

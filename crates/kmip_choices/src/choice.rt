@@ -1,11 +1,12 @@
 //! What a command line may ask for, by its options and their values.
 ghost use Rattle.std.specs.Prelude.{◌≡◌, IfOk, option_map, string_bytes, if◌then◌else◌};
 ghost use Rattle.kmip_message_commands.specs.declared.form.Form.TheVariants.{Text, Canonical};
-ghost use Rattle.kmip_choices.specs.Choices.{IsCheckOf, IsSimulationOf};
+ghost use Rattle.kmip_choices.specs.Choices.{IsCheckOf, IsSimulationOf, choice_format};
 ghost use Rattle.kmip_choices.specs.declared.choice.Choice.TheVariants.{Answer, AnswerStream};
 ghost use Rattle.kmip_choices.specs.declared.detail.Detail.TheVariants.{Runs, Exchanges, Diagram};
 
 use crate::detail::Detail;
+use crate::format::Format;
 use crate::list_options::ListOptions;
 use crate::look_options::LookOptions;
 use crate::probe_options::ProbeOptions;
@@ -22,14 +23,21 @@ pub enum Choice {
     /// Answer the messages of the stream that the lines are pieces of.
     AnswerStream,
     Show(Form),
-    /// Check the plan at this path.
-    Check(String),
+    /// Check a plan.
+    Check {
+        /// The path of the plan.
+        plan: String,
+        /// In which form what came of it is printed.
+        format: Format,
+    },
     /// Check the plan at the first path, and whether it prolongs the one at the other.
     CheckAfter {
         /// The path of the plan.
         plan: String,
         /// The path of the earlier plan.
         earlier: String,
+        /// In which form what came of it is printed.
+        format: Format,
     },
     /// Carry out a plan over a network that follows a script, or two plans in turn.
     Simulate {
@@ -43,6 +51,8 @@ pub enum Choice {
         detail: Detail,
         /// How many keys a message asks about at most.
         batch: u64,
+        /// In which form what came of it is printed.
+        format: Format,
     },
     /// Carry out a plan over a network.
     Run(RunOptions),
@@ -56,6 +66,29 @@ pub enum Choice {
     Serve(ServeOptions),
     /// Print the schema of plans.
     PlanSchema,
+}
+
+impl Choice {
+    /// In which form the command prints what came of it, and why it could not do its work: the form that
+    /// was asked for, and `Text` where the command has no other.
+    pub fn format(&self) -> Format
+        ensures { result ≡ choice_format self.now }
+    {
+        match self {
+            Choice::Check { format, .. }
+            | Choice::CheckAfter { format, .. }
+            | Choice::Simulate { format, .. } => *format,
+            Choice::Run(options) => options.format,
+            Choice::List(options) => options.format,
+            Choice::Look(options) => options.format,
+            Choice::Probe(options) => options.format,
+            Choice::Answer
+            | Choice::AnswerStream
+            | Choice::Show(_)
+            | Choice::Serve(_)
+            | Choice::PlanSchema => Format::Text,
+        }
+    }
 }
 
 /// How to answer, by whether the lines are pieces of a stream: `AnswerStream`, or else `Answer`.
@@ -82,21 +115,30 @@ pub fn form_of(is_canonical: bool) -> Form
 }
 
 /// The choice to check the plan at just this path, and after the one at the earlier path where there is
-/// one.
+/// one. What came of it is printed in this form.
 ///
 /// # Errors
 /// Where there is no memory.
-pub fn check_of(alloc: Global, plan: &str, earlier: Option<&str>) -> Result<Choice, AllocError>
+pub fn check_of(
+    alloc: Global,
+    plan: &str,
+    earlier: Option<&str>,
+    format: Format,
+) -> Result<Choice, AllocError>
     ensures { IfOk result
-        (IsCheckOf plan.now (option_map (λ path. path.now) earlier.entry)) }
+        (IsCheckOf plan.now (option_map (λ path. path.now) earlier.entry) format) }
 {
     let plan = String::from_str(alloc, plan)?;
     match earlier {
         Some(earlier) => {
             let earlier = String::from_str(alloc, earlier)?;
-            Ok(Choice::CheckAfter { plan, earlier })
+            Ok(Choice::CheckAfter {
+                plan,
+                earlier,
+                format,
+            })
         }
-        None => Ok(Choice::Check(plan)),
+        None => Ok(Choice::Check { plan, format }),
     }
 }
 
@@ -116,7 +158,7 @@ pub fn detail_of(is_traced: bool, is_drawn: bool) -> Detail
 
 /// The choice to simulate the plan at just this path, and then the further one where there is a path of
 /// one, over the script at the other path. It tells `detail` of it, and a message asks about at most
-/// `batch` keys.
+/// `batch` keys. What came of it is printed in this form.
 ///
 /// # Errors
 /// Where there is no memory.
@@ -127,9 +169,10 @@ pub fn simulation_of(
     script: &str,
     detail: Detail,
     batch: u64,
+    format: Format,
 ) -> Result<Choice, AllocError>
     ensures { IfOk result (IsSimulationOf plan.now
-        (option_map (λ path. path.now) further.entry) script.now detail batch) }
+        (option_map (λ path. path.now) further.entry) script.now detail batch format) }
 {
     let plan = String::from_str(alloc, plan)?;
     let further = path_of(alloc, further)?;
@@ -140,6 +183,7 @@ pub fn simulation_of(
         script,
         detail,
         batch,
+        format,
     })
 }
 

@@ -5,6 +5,7 @@
 
 mod choice;
 mod detail;
+mod format;
 mod list_options;
 mod look_options;
 mod peer;
@@ -16,6 +17,7 @@ mod trust;
 
 pub use choice::{Choice, answer_of, check_of, detail_of, form_of, simulation_of};
 pub use detail::Detail;
+pub use format::Format;
 pub use list_options::ListOptions;
 pub use look_options::LookOptions;
 pub use peer::Peer;

@@ -1,4 +1,5 @@
 //! What `list` is to do.
+use crate::format::Format;
 
 /// What `list` is to do.
 #[derive(Debug, PartialEq, Eq, Drop)]
@@ -7,4 +8,6 @@ pub struct ListOptions {
     pub plan: String,
     /// The path of the progress.
     pub progress: String,
+    /// In which form what came of it is printed.
+    pub format: Format,
 }

@@ -1,4 +1,5 @@
 //! What `look` is to do.
+use crate::format::Format;
 use crate::peer::Peer;
 
 /// What `look` is to do.
@@ -16,4 +17,6 @@ pub struct LookOptions {
     pub give_up: u64,
     /// Whether each exchange is told on standard error.
     pub is_verbose: bool,
+    /// In which form what came of it is printed.
+    pub format: Format,
 }

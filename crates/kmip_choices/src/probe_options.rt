@@ -1,4 +1,5 @@
 //! What `probe` is to do.
+use crate::format::Format;
 use crate::peer::Peer;
 
 /// What `probe` is to do.
@@ -12,4 +13,6 @@ pub struct ProbeOptions {
     pub timeout: u64,
     /// Whether each exchange is told on standard error.
     pub is_verbose: bool,
+    /// In which form what came of it is printed.
+    pub format: Format,
 }

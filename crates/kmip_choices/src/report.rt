@@ -1,6 +1,6 @@
-//! In which form the end of a run is printed.
+//! What the text of the end of a run says of each key.
 
-/// In which form the end of a run is printed.
+/// What the text of the end of a run says of each key.
 #[derive(Clone, Copy, Debug, PartialEq, Eq)]
 pub enum Report {
     /// How each key stands.

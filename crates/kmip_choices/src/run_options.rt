@@ -1,4 +1,5 @@
 //! What `run` is to do.
+use crate::format::Format;
 use crate::peer::Peer;
 use crate::report::Report;
 use crate::trust::Trust;
@@ -29,8 +30,10 @@ pub struct RunOptions {
     pub lock_wait: u64,
     /// Whether each exchange is told on standard error.
     pub is_verbose: bool,
-    /// In which form the end of the run is printed.
+    /// What the text of its end says of each key.
     pub report: Report,
+    /// In which form what came of it is printed.
+    pub format: Format,
     /// The path of the file of metrics, where one is to be written.
     pub metrics: Option<String>,
 }

@@ -4,8 +4,8 @@ use crate::absent::Absent;
 use crate::environment::Environment;
 use crate::help::{
     AFRESH, AFTER, BATCH, BELIEVE, CANON, CONNECT, CONNECTIONS, DIAGRAM, GIVE_UP, IDENTIFIERS,
-    JSON_SCHEMA, LIMIT, LOCK_WAIT, LOOK_GIVE_UP, LOOPBACK, METRICS, NAME_PREFIX, NOW, PLAN, PORT,
-    PROGRESS, SCRIPT, SERVE_TIMEOUT, SOCKET, STREAM, THEN, TIMEOUT, TRACE, VERBOSE, WAIT,
+    JSON, JSON_SCHEMA, LIMIT, LOCK_WAIT, LOOK_GIVE_UP, LOOPBACK, METRICS, NAME_PREFIX, NOW, PLAN,
+    PORT, PROGRESS, SCRIPT, SERVE_TIMEOUT, SOCKET, STREAM, THEN, TIMEOUT, TRACE, VERBOSE, WAIT,
 };
 use crate::setting::Setting;
 use crate::value::Value;
@@ -56,7 +56,12 @@ const SCRIPT_OPTION: CommandOption = CommandOption("script", Text("PATH"), Wrong
 
 const TRACE_OPTION: CommandOption = CommandOption("trace", Flag, Fine, TRACE);
 
-const DIAGRAM_OPTION: CommandOption = CommandOption("diagram", FlagUnless("trace"), Fine, DIAGRAM);
+const DIAGRAM_OPTION: CommandOption = CommandOption(
+    "diagram",
+    FlagUnless(&["trace"]),
+    Fine,
+    DIAGRAM,
+);
 
 const PROGRESS_OPTION: CommandOption = CommandOption(
     "progress",
@@ -130,6 +135,22 @@ const IDENTIFIERS_OPTION: CommandOption = CommandOption("identifiers", Flag, Fin
 
 const METRICS_OPTION: CommandOption = CommandOption("metrics", Text("FILE"), Fine, METRICS);
 
+const JSON_OPTION: CommandOption = CommandOption("json", Flag, Fine, JSON);
+
+const RUN_JSON_OPTION: CommandOption = CommandOption(
+    "json",
+    FlagUnless(&["identifiers"]),
+    Fine,
+    JSON,
+);
+
+const SIM_JSON_OPTION: CommandOption = CommandOption(
+    "json",
+    FlagUnless(&["trace", "diagram"]),
+    Fine,
+    JSON,
+);
+
 const JSON_SCHEMA_OPTION: CommandOption = CommandOption(
     "json-schema",
     FlagAlone,
@@ -171,22 +192,24 @@ pub(crate) const ANSWER_OPTIONS: [CommandOption; 1] = [STREAM_OPTION];
 
 pub(crate) const SHOW_OPTIONS: [CommandOption; 1] = [CANON_OPTION];
 
-pub(crate) const CHECK_OPTIONS: [CommandOption; 3] = [
+pub(crate) const CHECK_OPTIONS: [CommandOption; 4] = [
     PLAN_OPTION,
     AFTER_OPTION,
+    JSON_OPTION,
     JSON_SCHEMA_OPTION,
 ];
 
-pub(crate) const SIM_OPTIONS: [CommandOption; 6] = [
+pub(crate) const SIM_OPTIONS: [CommandOption; 7] = [
     PLAN_OPTION,
     THEN_OPTION,
     SCRIPT_OPTION,
     BATCH_OPTION,
     TRACE_OPTION,
     DIAGRAM_OPTION,
+    SIM_JSON_OPTION,
 ];
 
-pub(crate) const RUN_OPTIONS: [CommandOption; 16] = [
+pub(crate) const RUN_OPTIONS: [CommandOption; 17] = [
     PLAN_OPTION,
     PROGRESS_OPTION,
     BELIEVE_OPTION,
@@ -202,18 +225,20 @@ pub(crate) const RUN_OPTIONS: [CommandOption; 16] = [
     LOCK_WAIT_OPTION,
     VERBOSE_OPTION,
     IDENTIFIERS_OPTION,
+    RUN_JSON_OPTION,
     METRICS_OPTION,
 ];
 
-pub(crate) const LIST_OPTIONS: [CommandOption; 2] = [PLAN_OPTION, PROGRESS_OPTION];
+pub(crate) const LIST_OPTIONS: [CommandOption; 3] = [PLAN_OPTION, PROGRESS_OPTION, JSON_OPTION];
 
-pub(crate) const PROBE_OPTIONS: [CommandOption; 6] = [
+pub(crate) const PROBE_OPTIONS: [CommandOption; 7] = [
     NAME_PREFIX_OPTION,
     CONNECT_OPTION,
     SOCKET_OPTION,
     LOOPBACK_OPTION,
     TIMEOUT_OPTION,
     VERBOSE_OPTION,
+    JSON_OPTION,
 ];
 
 const LOOK_GIVE_UP_OPTION: CommandOption = CommandOption(
@@ -223,7 +248,7 @@ const LOOK_GIVE_UP_OPTION: CommandOption = CommandOption(
     LOOK_GIVE_UP,
 );
 
-pub(crate) const LOOK_OPTIONS: [CommandOption; 8] = [
+pub(crate) const LOOK_OPTIONS: [CommandOption; 9] = [
     PLAN_OPTION,
     CONNECT_OPTION,
     SOCKET_OPTION,
@@ -232,6 +257,7 @@ pub(crate) const LOOK_OPTIONS: [CommandOption; 8] = [
     TIMEOUT_OPTION,
     LOOK_GIVE_UP_OPTION,
     VERBOSE_OPTION,
+    JSON_OPTION,
 ];
 
 pub(crate) const SERVE_OPTIONS: [CommandOption; 5] = [
@@ -267,7 +293,7 @@ fn with_absent<'a>(arg: Arg<'a>, absent: Absent, environment: &Environment) -> A
 fn with_value<'a>(arg: Arg<'a>, value: Value) -> Result<Arg<'a>, AllocError> {
     match value {
         Flag => Ok(arg.action(ArgAction::SetTrue)),
-        FlagUnless(other) => arg.action(ArgAction::SetTrue).conflicts_with(other),
+        FlagUnless(others) => arg.action(ArgAction::SetTrue).conflicts_with_all(others),
         FlagAlone => Ok(arg.action(ArgAction::SetTrue).exclusive(true)),
         FlagWith(other) => arg.action(ArgAction::SetTrue).requires_arg(other),
         Text(name) => Ok(arg.value_name(name)),

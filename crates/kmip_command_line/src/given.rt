@@ -4,6 +4,7 @@ use crate::environment::Environment;
 use crate::setting::Setting;
 use crate::unchosen::Unchosen;
 use clap::ArgMatches;
+use kmip_choices::Format;
 use std::alloc::{AllocError, Global};
 
 /// The options of a command, and what the environment says of those that are absent.
@@ -17,6 +18,15 @@ impl<'a, 'b> Given<'a, 'b> {
     /// Whether the flag of this name is there.
     pub(crate) fn flag(self, name: &str) -> bool {
         self.options.get_flag(name)
+    }
+
+    /// In which form what came of the command is printed.
+    pub(crate) fn format(self) -> Format {
+        if self.flag("json") {
+            Format::Json
+        } else {
+            Format::Text
+        }
     }
 
     /// The number of the option of this name, or else this one.

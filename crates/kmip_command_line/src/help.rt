@@ -414,6 +414,8 @@ pub(crate) const IDENTIFIERS: &str =
 pub(crate) const METRICS: &str =
     "The file for metrics of the run, for node_exporter's textfile collector: a name that ends in .prom";
 
+pub(crate) const JSON: &str = "Print a JSON document a line, also of a fault";
+
 pub(crate) const JSON_SCHEMA: &str = "Print a JSON Schema of plans for editors, and nothing else";
 
 pub(crate) const PORT: &str = "The port, 1 to 65535; 0 for one that the system picks";

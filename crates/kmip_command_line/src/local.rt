@@ -12,7 +12,8 @@ pub(crate) fn check_choice(alloc: Global, given: Given<'_, '_>) -> Result<Choice
         return Ok(Choice::PlanSchema);
     }
     let plan = given.setting(alloc, Setting::Plan)?;
-    Ok(check_of(alloc, plan.as_str(), given.options.get_str("after"))?)
+    let earlier = given.options.get_str("after");
+    Ok(check_of(alloc, plan.as_str(), earlier, given.format())?)
 }
 
 /// What `sim` is to do, by its words.
@@ -22,7 +23,15 @@ pub(crate) fn sim_choice(alloc: Global, given: Given<'_, '_>) -> Result<Choice, 
     let detail = detail_of(given.flag("trace"), given.flag("diagram"));
     let further = given.options.get_str("then");
     let batch = given.number("batch", 1);
-    Ok(simulation_of(alloc, plan.as_str(), further, script, detail, batch)?)
+    Ok(simulation_of(
+        alloc,
+        plan.as_str(),
+        further,
+        script,
+        detail,
+        batch,
+        given.format(),
+    )?)
 }
 
 /// What `list` is to do, by its words.
@@ -30,5 +39,6 @@ pub(crate) fn list_choice(alloc: Global, given: Given<'_, '_>) -> Result<Choice,
     Ok(Choice::List(ListOptions {
         plan: given.setting(alloc, Setting::Plan)?,
         progress: given.setting(alloc, Setting::Progress)?,
+        format: given.format(),
     }))
 }

@@ -17,5 +17,6 @@ pub(crate) fn look_choice(alloc: Global, given: Given<'_, '_>) -> Result<Choice,
         timeout: given.number("timeout", MOST_SECONDS),
         give_up: given.number("give-up", 0),
         is_verbose: given.flag("verbose"),
+        format: given.format(),
     }))
 }

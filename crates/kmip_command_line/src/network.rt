@@ -26,6 +26,7 @@ pub(crate) fn run_choice(alloc: Global, given: Given<'_, '_>) -> Result<Choice, 
         lock_wait: given.number("lock-wait", 0),
         is_verbose: given.flag("verbose"),
         report: report_of(given),
+        format: given.format(),
         metrics: text_of(alloc, given.options.get_str("metrics"))?,
     }))
 }
@@ -38,7 +39,7 @@ fn text_of(alloc: Global, value: Option<&str>) -> Result<Option<String>, AllocEr
     }
 }
 
-/// In which form the end of a run is printed.
+/// What the text of the end of a run says of each key.
 fn report_of(given: Given<'_, '_>) -> Report {
     if given.flag("identifiers") {
         Report::Identifiers
@@ -110,6 +111,7 @@ pub(crate) fn probe_choice(alloc: Global, given: Given<'_, '_>) -> Result<Choice
         peer,
         timeout: given.number("timeout", MOST_SECONDS),
         is_verbose: given.flag("verbose"),
+        format: given.format(),
     }))
 }
 

@@ -6,8 +6,8 @@ use Value::{Flag, FlagAlone, FlagUnless, FlagWith, Number, Text};
 pub(crate) enum Value {
     /// Nothing: the option is there or not.
     Flag,
-    /// Nothing, and the option of this word may not be there beside it.
-    FlagUnless(&'static str),
+    /// Nothing, and no option of these words may be there beside it.
+    FlagUnless(&'static [&'static str]),
     /// Nothing, and no other option may be there beside it, also where one has to be there else.
     FlagAlone,
     /// Nothing, and the option of this word has to be there beside it.

@@ -41,6 +41,34 @@ fn refusal_line(alloc: Global, path: &str, plan: &str) -> Result<Option<String>,
     Ok(Some(line))
 }
 
+/// The line of a text, from 1, at which it has this fault, by which it is no plan; none where it cannot be
+/// told.
+///
+/// # Errors
+/// Where there is no memory.
+pub fn line_of_fault(
+    alloc: Global,
+    plan: &str,
+    fault: &PlanFault,
+) -> Result<Option<usize>, NoMemory> {
+    match toml::table_from_str(alloc, plan) {
+        Ok(table) => Refused {
+            table: &table,
+            fault,
+        }
+        .line(alloc, plan),
+        Err(fault) if fault.is_memory() => Err(NoMemory),
+        Err(fault) => Ok(line_misread(alloc, &fault)?),
+    }
+}
+
+/// The line at which a text is no TOML.
+fn line_misread(alloc: Global, fault: &toml::de::Error) -> Result<Option<usize>, AllocError> {
+    let told = format!(in alloc; "{fault}")?;
+    let line = place_in(told.as_str()).and_then(|(line, _)| line.parse::<usize>().ok());
+    Ok(line)
+}
+
 /// Appends where a text is no TOML, and why.
 fn push_misread(
     alloc: Global,
@@ -109,6 +137,14 @@ impl<'a> Refused<'a> {
         }
     }
 
+    /// The line of the text at which that begins; none where it cannot be told.
+    fn line(self, alloc: Global, plan: &str) -> Result<Option<usize>, NoMemory> {
+        match self.sought() {
+            Some(sought) => line_of(alloc, plan, sought),
+            None => Ok(None),
+        }
+    }
+
     /// Appends the whole line.
     fn push_line(
         self,
@@ -117,10 +153,7 @@ impl<'a> Refused<'a> {
         plan: &str,
         out: &mut String,
     ) -> Result<(), NoMemory> {
-        let line = match self.sought() {
-            Some(sought) => line_of(alloc, plan, sought)?,
-            None => None,
-        };
+        let line = self.line(alloc, plan)?;
         push_place(out, path, line)?;
         if let Some(key) = self.key() {
             let name = match self.fault {

@@ -5,3 +5,4 @@ mod DocumentLemmas
 mod LookLemmas
 mod PairLemmas
 mod ProbeLemmas
+mod SimLemmas

@@ -1,5 +1,5 @@
 -- Lines of documents, and the pairs that their members are.
-use Rattle.std.proofs.Common.{◌≡◌, ℕ, suc, ◌+◌, List, [], ◌∷◌, ◌++◌, map, drop, Some, None, Result, OnOk, Bor, refl, sym, ap, ap₂, subst, ◌∙◌, arith, append_assoc, zero}
+use Rattle.std.proofs.Common.{◌≡◌, ℕ, suc, ◌+◌, List, [], ◌∷◌, ◌++◌, map, drop, Some, None, Result, OnOk, refl, sym, ap, ap₂, subst, ◌∙◌, arith, append_assoc, zero}
 use Rattle.std.proofs.lemmas.List.{map-append}
 use Rattle.std.specs.List.{slice_get}
 use Rattle.serde_json.specs.Data.{Data}
@@ -21,14 +21,6 @@ pub pushed : (ms more : List Member) (m : Member) (pairs : List (List ℕ × Dat
     → more ≡ ms ++ m ∷ [] → map pair_of more ≡ pairs ++ pair ∷ []
 pushed ms more m pairs pair is last longer =
     ap (map pair_of) longer ∙ map-append pair_of ms (m ∷ []) ∙ ap₂ (λ ps p. ps ++ p ∷ []) is last
-
--- one word more at the end
-pub word_pushed : (old new : List (Bor (List ℕ))) (word : Bor (List ℕ)) (step : Step) → new ≡ old ++ word ∷ [] → word.now ≡ step_word step
-    → map (λ (w : Bor (List ℕ)). w.now) new ≡ map (λ (w : Bor (List ℕ)). w.now) old ++ step_word step ∷ []
-word_pushed old new word step longer says =
-    ap (map (λ (w : Bor (List ℕ)). w.now)) longer
-    ∙ map-append (λ (w : Bor (List ℕ)). w.now) old (word ∷ [])
-    ∙ ap (λ x. map (λ (w : Bor (List ℕ)). w.now) old ++ x ∷ []) says
 
 -- the next step of a chain
 step_here : (steps : List Step) (i : ℕ) (step : Step) → slice_get steps i ≡ Some step

@@ -1,26 +1,33 @@
--- What the answers of a probe tell.
-use Rattle.std.proofs.Common.{◌≡◌, ℕ, List, ◌++◌, Bool, true, Some, None, Result, Ok, Err, IfOk, refl, sym, subst}
-use Rattle.kmip_ttlv.specs.declared.no_memory.NoMemory.{NoMemory}
-use Rattle.kmip_probe.specs.declared.answer.Answer.{Answer}
-use Rattle.kmip_json.specs.PrivateProbing.{TellsFound}
-use Rattle.kmip_json.specs.ProbeJson.{TellsAnswers, TellsFrom, making_line, report_lines, unbegun_line}
+-- What is told where every premise is kept.
+use Rattle.std.proofs.Common.{◌≡◌, ◌++◌, [], ◌∷◌, codes, flat_map, refl, ◌∙◌}
+use Rattle.std.specs.Fmt.{digits}
+use Rattle.std.specs.Str.{chars, trim_end}
+use Rattle.serde_json.proofs.OnLiterals.{serde_json_on_literals}
+use Rattle.serde_json.specs.Data.{string}
+use Rattle.kmip_probe.specs.declared.finding.Finding.TheVariants.{Kept}
+use Rattle.kmip_probe_command.specs.ProbeText.{TellsAllKept}
+use Rattle.kmip_probe_command.specs.declared.premise.TheConstants.{PREMISES}
+use Rattle.kmip_json.specs.Documents.{document, members, numbers_of}
+use Rattle.kmip_json.specs.ProbeJson.{json_texts, kept_lines, premise_line}
 
-found_told : (prefix : List ℕ) (answers : List Answer) (refused : Bool) (old new : List ℕ) → unbegun_line prefix answers ≡ None
-    → TellsFound prefix answers refused old new → (told : List ℕ) × TellsAnswers prefix answers refused told × (new ≡ old ++ told)
-found_told prefix answers refused old new none (findings, are, refused_is, pushed) = (
-  making_line prefix ++ report_lines findings,
-  subst (λ unbegun. TellsFrom prefix answers unbegun refused (making_line prefix ++ report_lines findings)) (sym none) (findings, are, refused_is, refl),
-  pushed,
-)
+-- the lines are computed
+lines_are : flat_map (λ p. premise_line p Kept) PREMISES
+    ++ document (members (
+    (codes "reasons", numbers_of (0x35 ∷ 0x43 ∷ []))
+    ∷ (codes "sum", string (trim_end (codes "the promise holds here: each key is made once, and its steps are made once and in order\n")))
+    ∷ []))
+    ≡ kept_lines
+unfolding serde_json_on_literals document digits chars trim_end
+lines_are = refl
 
--- where both names are free, it is told which keys were made and what was found
-pub found_is_told : (prefix : List ℕ) (answers : List Answer) (result : Result Bool NoMemory) (old new : List ℕ) → unbegun_line prefix answers ≡ None
-    → IfOk result (λ refused. TellsFound prefix answers refused old new)
-    → IfOk result (λ refused. (told : List ℕ) × TellsAnswers prefix answers refused told × (new ≡ old ++ told))
-found_is_told prefix answers (Ok refused) old new none found = found_told prefix answers refused old new none found
-found_is_told prefix answers (Err want) old new none found = tt
-
--- where a name is not free, it is told why nothing was made
-pub unbegun_is_told : (prefix : List ℕ) (answers : List Answer) (line old new : List ℕ) → Some line ≡ unbegun_line prefix answers → new ≡ old ++ line
-    → (told : List ℕ) × TellsAnswers prefix answers true told × (new ≡ old ++ told)
-unbegun_is_told prefix answers line old new is pushed = (line, subst (λ unbegun. TellsFrom prefix answers unbegun true line) is (refl, refl), pushed)
+pub json_kept : TellsAllKept json_texts
+json_kept prefix answers findings kept are =
+    let unique = are.unique ∙ kept.unique in
+    let used = are.used ∙ kept.used in
+    let once = are.once ∙ kept.once in
+    let active = are.active ∙ kept.active in
+    let found = are.found ∙ kept.found in
+    let destroyed = are.destroyed ∙ kept.destroyed in
+    let told = are.told ∙ kept.told in
+    let echoed = are.echoed ∙ kept.echoed in
+    let reasons = are.reasons ∙ kept.reasons in rw (unique, used, once, active, found, destroyed, told, echoed, reasons) lines_are

@@ -12,9 +12,11 @@ pub mod Causes
 pub mod RunJson
 -- the line of a fault
 pub mod FaultJson
+-- what `sim` says of the end of a simulation
+pub mod SimJson
 -- what `look` says of the keys of a plan
 pub mod LookJson
--- what `probe` says of a server
+-- what `probe` says of a server, line by line
 pub mod ProbeJson
 -- what holds of every document: it is read back
 pub mod Laws
@@ -22,5 +24,3 @@ pub mod Laws
 pub mod PrivateMembers
 -- private: what only the clauses of private functions cite
 pub mod Private
--- private: what the answers of a probe say, once keys were made
-pub mod PrivateProbing

@@ -1,6 +1,7 @@
 -- What `list` says of a plan and a progress, as documents.
 -- Source: own (text): what the program prints.
 use Rattle.std.specs.Prelude.{ℕ, List, [], ◌∷◌, ◌++◌, length, codes}
+use Rattle.std.specs.List.{flat_map}
 use Rattle.serde_json.specs.Data.{Data, string}
 use Rattle.kmip_plan.specs.TargetWords.{target_word}
 use Rattle.kmip_plan.specs.declared.key.Key.{Key}
@@ -10,29 +11,27 @@ use Rattle.kmip_client.specs.Saving.{resume}
 use Rattle.kmip_client.specs.Verdicts.{verdicts_of}
 use Rattle.kmip_client.specs.declared.verdict.Verdict.{Verdict}
 use Rattle.kmip_runs.specs.Reporting.{finished_count, verdict_word}
+use Rattle.kmip_plan_commands.specs.Standings.{Standing, standings}
 use Rattle.kmip_json.specs.Documents.{count, document, members, text_or_null}
 
 -- What the line of a key says: its target, how many of how many steps are done, the verdict, and the identifier.
-unfoldable pub key_pairs : Key → Known → Verdict → List (List ℕ × Data)
-key_pairs key known verdict =
-    (codes "key", string key.attrs.name)
-    ∷ (codes "target", string (target_word key.target))
-    ∷ (codes "done", count known.done)
-    ∷ (codes "of", count (chain_length key))
-    ∷ (codes "verdict", string (verdict_word verdict))
-    ∷ (codes "identifier", text_or_null known.identifier)
+unfoldable pub key_pairs : Standing → List (List ℕ × Data)
+key_pairs standing =
+    (codes "key", string standing.key.attrs.name)
+    ∷ (codes "target", string (target_word standing.key.target))
+    ∷ (codes "done", count standing.known.done)
+    ∷ (codes "of", count (chain_length standing.key))
+    ∷ (codes "verdict", string (verdict_word standing.verdict))
+    ∷ (codes "identifier", text_or_null standing.known.identifier)
     ∷ []
 
--- The line of a key.
-abbrev pub key_line : Key → Known → Verdict → List ℕ
-key_line key known verdict = document (members (key_pairs key known verdict))
+-- The line of a key that stands so.
+abbrev pub key_line : Standing → List ℕ
+key_line standing = document (members (key_pairs standing))
 
--- The lines of the keys, in the order of the plan.
-abbrev pub key_lines : List Key → List Known → List Verdict → List ℕ
-key_lines [] saved verdicts = []
-key_lines (key ∷ keys) [] verdicts = []
-key_lines (key ∷ keys) (known ∷ saved) [] = []
-key_lines (key ∷ keys) (known ∷ saved) (verdict ∷ verdicts) = key_line key known verdict ++ key_lines keys saved verdicts
+-- The lines of keys that stand so, in their order.
+abbrev pub key_lines : List Standing → List ℕ
+key_lines standings = flat_map key_line standings
 
 -- The last line: how many keys are finished, and how many there are.
 unfoldable pub finished_line : List Key → List Verdict → List ℕ
@@ -41,7 +40,7 @@ finished_line keys verdicts =
 
 -- The lines of the keys by these verdicts, and the last line.
 abbrev pub list_lines_by : List Verdict → List Key → List Known → List ℕ
-list_lines_by verdicts keys saved = key_lines keys saved verdicts ++ finished_line keys verdicts
+list_lines_by verdicts keys saved = key_lines (standings keys saved verdicts) ++ finished_line keys verdicts
 
 -- What `list` says of a progress. The verdicts are those of a run that begins with it.
 abbrev pub list_lines : List Key → List Known → List ℕ

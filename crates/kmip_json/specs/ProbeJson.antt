@@ -1,28 +1,30 @@
--- What `probe` writes as JSON: which keys are to be made, what is found of each premise, and the sum; or why
--- nothing was made.
+-- What `probe` says as JSON: which keys are to be made, what is found of each premise, and the sum; or why
+-- nothing was made. The order of the lines is that of every form of the report.
 -- Source: own (text), over RFC 8259: what the program prints. The words are those of `Wording` and `LookText`
 -- of kmip_probe_command.
-use Rattle.std.specs.Prelude.{◌≡◌, ℕ, Bool, true, not, List, [], ◌∷◌, ◌++◌, codes, flat_map, Option, Some, None, if◌then◌else◌}
+use Rattle.std.specs.Prelude.{ℕ, List, [], ◌∷◌, ◌++◌, codes, Option, Some, None}
 use Rattle.std.specs.Str.{trim_end}
 use Rattle.serde_json.specs.Data.{Data, string}
 use Rattle.kmip_batch_items.specs.declared.outcome.Outcome.{Outcome}
 use Rattle.kmip_batch_items.specs.declared.outcome.Outcome.TheVariants.{Located}
-use Rattle.kmip_probe.specs.Answers.{outcome_in, unread_in}
-use Rattle.kmip_probe.specs.Asking.{is_free_at}
-use Rattle.kmip_probe.specs.Inquiries.{name_of}
-use Rattle.kmip_probe.specs.Judging.{AreFindings, answer_at}
-use Rattle.kmip_probe.specs.declared.answer.Answer.{Answer}
 use Rattle.kmip_probe.specs.declared.finding.Finding.{Finding}
 use Rattle.kmip_probe.specs.declared.finding.Finding.TheVariants.{Kept, Broken, Untold}
 use Rattle.kmip_probe.specs.declared.findings.Findings.{Findings}
-use Rattle.kmip_probe.specs.declared.inquiry.TheConstants.{LOOK_FIRST, LOOK_SECOND}
 use Rattle.kmip_probe.specs.declared.unread.Unread.{Unread}
-use Rattle.kmip_probe.specs.declared.which.Which.TheVariants.{First, Second}
+use Rattle.kmip_probe_command.specs.FormTexts.{FormTexts}
 use Rattle.kmip_probe_command.specs.LookText.{why_text}
-use Rattle.kmip_probe_command.specs.Wording.{are_all_kept, finding_of, flaw_text, premise_text, risk_text, sum_text}
+use Rattle.kmip_probe_command.specs.Wording.{flaw_text, premise_text, risk_text, sum_text}
 use Rattle.kmip_probe_command.specs.declared.premise.Premise.{Premise}
-use Rattle.kmip_probe_command.specs.declared.premise.TheConstants.{PREMISES}
 use Rattle.kmip_json.specs.Documents.{document, members, numbers_of, text_or_null, words_of}
+
+-- The line of a prefix that can't begin names: what went wrong and why, as the line of a fault.
+abbrev pub unfit_line : List ℕ
+unfit_line = document (members (
+    (codes "fault", string (codes "prefix refused"))
+    ∷ (codes "at", text_or_null None)
+    ∷ (codes "why", string (codes "it is not 1 to 62 printable ASCII characters without a space"))
+    ∷ (codes "cause", text_or_null None)
+    ∷ []))
 
 -- ---- the looks at the two names
 
@@ -34,9 +36,9 @@ names_pairs names = (codes "making", words_of names) ∷ []
 abbrev pub pair_pairs : List ℕ → List ℕ → List (List ℕ × Data)
 pair_pairs first second = names_pairs (first ∷ second ∷ [])
 
--- The line of the two keys that a probe with this prefix is about to make.
-abbrev pub making_line : List ℕ → List ℕ
-making_line prefix = document (members (pair_pairs (name_of First prefix) (name_of Second prefix)))
+-- The line of two keys that are about to be made.
+abbrev pub making_line : List ℕ → List ℕ → List ℕ
+making_line first second = document (members (pair_pairs first second))
 
 -- The identifier of the object that the look at a name has found.
 abbrev pub object_found : Option Outcome → Option (List ℕ)
@@ -61,17 +63,6 @@ unmade_pairs name object why =
 -- That line, by the outcome of the look at the name, or why its reply can't be read.
 abbrev pub unmade_line : List ℕ → Option Outcome → Option Unread → List ℕ
 unmade_line name outcome unread = document (members (unmade_pairs name (object_found outcome) (why_unsure outcome unread)))
-
--- The same, by the answer to that look.
-abbrev pub unmade_by : List ℕ → Answer → List ℕ
-unmade_by name answer = unmade_line name (outcome_in answer) (unread_in answer)
-
--- What is told where a name is not seen to be free, the first one first. None where both are free.
-abbrev pub unbegun_line : List ℕ → List Answer → Option (List ℕ)
-unbegun_line prefix answers =
-    if is_free_at answers LOOK_FIRST
-    then (if is_free_at answers LOOK_SECOND then None else Some (unmade_by (name_of Second prefix) (answer_at answers LOOK_SECOND)))
-    else Some (unmade_by (name_of First prefix) (answer_at answers LOOK_FIRST))
 
 -- ---- the premises
 
@@ -106,10 +97,6 @@ premise_pairs p finding flaw =
 abbrev pub premise_line : Premise → Finding → List ℕ
 premise_line p finding = document (members (premise_pairs p finding (flaw_found finding)))
 
--- The line of a premise, by all that is found.
-abbrev pub line_of : Findings → Premise → List ℕ
-line_of findings p = premise_line p (finding_of findings p)
-
 -- The last line: the numbers of the Result Reasons that were seen, and the sum without the end of its line.
 abbrev pub end_line : Findings → List ℕ
 end_line findings = document (members (
@@ -117,21 +104,26 @@ end_line findings = document (members (
     ∷ (codes "sum", string (trim_end (sum_text findings)))
     ∷ []))
 
--- All that is told of the premises: a line for each, and the last line.
-abbrev pub report_lines : Findings → List ℕ
-report_lines findings = flat_map (line_of findings) PREMISES ++ end_line findings
+-- What is told of the premises where each is kept.
+abbrev pub kept_lines : List ℕ
+kept_lines =
+    codes "{\"premise\":\"names are unique\",\"finding\":\"kept\",\"flaw\":null,\"risk\":null}\n"
+    ++ codes "{\"premise\":\"names stay used after Destroy\",\"finding\":\"kept\",\"flaw\":null,\"risk\":null}\n"
+    ++ codes "{\"premise\":\"a step made twice changes nothing\",\"finding\":\"kept\",\"flaw\":null,\"risk\":null}\n"
+    ++ codes "{\"premise\":\"an active object is not destroyed\",\"finding\":\"kept\",\"flaw\":null,\"risk\":null}\n"
+    ++ codes "{\"premise\":\"Locate finds objects by their names\",\"finding\":\"kept\",\"flaw\":null,\"risk\":null}\n"
+    ++ codes "{\"premise\":\"Locate finds destroyed objects\",\"finding\":\"kept\",\"flaw\":null,\"risk\":null}\n"
+    ++ codes "{\"premise\":\"Get Attributes tells all six attributes\",\"finding\":\"kept\",\"flaw\":null,\"risk\":null}\n"
+    ++ codes "{\"premise\":\"the batch id is echoed\",\"finding\":\"kept\",\"flaw\":null,\"risk\":null}\n"
+    ++ codes "{\"reasons\":[53,67],\"sum\":\"the promise holds here: each key is made once, and its steps are made once and in order\"}\n"
 
--- ---- a whole probe
-
--- What is told of answers, and whether a premise is not seen to be kept. Either why nothing was made,
--- which is refused; or which keys are made, and what is found.
-abbrev pub TellsFrom : List ℕ → List Answer → Option (List ℕ) → Bool → List ℕ → Type 0
-TellsFrom prefix answers (Some unbegun) refused text = (refused ≡ true) × (text ≡ unbegun)
-TellsFrom prefix answers None refused text =
-    (findings : Findings) × AreFindings prefix answers findings × (refused ≡ not (are_all_kept findings))
-    × (text ≡ making_line prefix ++ report_lines findings)
-
--- The text tells of these answers: why nothing was made, where a name was not seen to be free, or which
--- keys are made and what is found.
-abbrev pub TellsAnswers : List ℕ → List Answer → Bool → List ℕ → Type 0
-TellsAnswers prefix answers refused text = TellsFrom prefix answers (unbegun_line prefix answers) refused text
+-- The texts of this form.
+abbrev pub json_texts : FormTexts
+json_texts = record {
+  unfit_line = unfit_line;
+  making_line = making_line;
+  unmade_line = unmade_line;
+  premise_line = premise_line;
+  last_lines = end_line;
+  kept_lines = kept_lines;
+}

@@ -14,20 +14,19 @@ use Rattle.kmip_runs.specs.declared.stop.Stop.{Stop}
 use Rattle.kmip_json.specs.Causes.{cause_of, cause_word}
 use Rattle.kmip_json.specs.Documents.{count, document, members, text_or_null}
 use Rattle.kmip_json.specs.ListJson.{key_pairs}
+use Rattle.kmip_plan_commands.specs.Standings.{Standing, standings}
 use Rattle.kmip_plan_commands.specs.declared.run_tally.RunTally.{RunTally}
 
--- The line of a key: what `list` says of it, and how many of its steps this run made.
-unfoldable pub run_line : Key → Known → Verdict → ℕ → List ℕ
-run_line key known verdict made =
-    document (members (key_pairs key known verdict ++ (codes "steps", count made) ∷ []))
+-- The line of a key that stands so: what `list` says of it, and how many of its steps this run made.
+unfoldable pub run_line : Standing → ℕ → List ℕ
+run_line standing made =
+    document (members (key_pairs standing ++ (codes "steps", count made) ∷ []))
 
--- The lines of the keys, in the order of the plan. A key that has no count of steps counts 0.
-abbrev pub run_key_lines : List Key → List Known → List Verdict → List ℕ → List ℕ
-run_key_lines [] knowns verdicts steps = []
-run_key_lines (key ∷ keys) [] verdicts steps = []
-run_key_lines (key ∷ keys) (known ∷ knowns) [] steps = []
-run_key_lines (key ∷ keys) (known ∷ knowns) (verdict ∷ verdicts) steps =
-    run_line key known verdict (slice_index steps 0) ++ run_key_lines keys knowns verdicts (drop 1 steps)
+-- The lines of keys that stand so, in their order. A key that has no count of steps counts 0.
+abbrev pub run_key_lines : List Standing → List ℕ → List ℕ
+run_key_lines [] steps = []
+run_key_lines (standing ∷ standings) steps =
+    run_line standing (slice_index steps 0) ++ run_key_lines standings (drop 1 steps)
 
 -- The sum of the counts of steps, or the greatest number of 64 bits where the sum does not fit.
 abbrev pub all_steps : List ℕ → ℕ
@@ -51,7 +50,7 @@ end_line verdicts keys stop tally = document (members (
 -- The lines by these verdicts.
 abbrev pub run_lines_by : List Verdict → List Key → List Known → Stop → RunTally → List ℕ
 run_lines_by verdicts keys knowns stop tally =
-    run_key_lines keys knowns verdicts tally.steps.items ++ end_line verdicts keys stop tally
+    run_key_lines (standings keys knowns verdicts) tally.steps.items ++ end_line verdicts keys stop tally
 
 -- What `run` says of a run that left this client.
 abbrev pub run_lines : ClientState → Stop → RunTally → List ℕ

@@ -1,12 +1,12 @@
 //! What `check` says of a plan.
-ghost use Rattle.std.specs.Prelude.{◌≡◌, ◌++◌, IfOk, OnOk, map};
+ghost use Rattle.std.specs.Prelude.{◌≡◌, [], ◌∷◌, ◌++◌, IfOk, OnOk, drop, map};
 ghost use Rattle.kmip_objects.specs.Lifecycle.{step_word};
 ghost use Rattle.kmip_plan.specs.Chains.{chain};
 ghost use Rattle.kmip_json.specs.CheckJson.{check_line, check_lines, prolongs_line};
 
 use crate::document::push_document;
 use crate::member::Member;
-use kmip_plan::{Key, algorithm_word, chain, chain_length};
+use kmip_plan::{Key, Step, algorithm_word, chain, chain_length};
 use kmip_ttlv::NoMemory;
 use std::alloc::Global;
 
@@ -29,7 +29,7 @@ pub fn push_check(alloc: Global, keys: &[Key], text: &mut Vec<u8>) -> Result<(),
 fn push_key(alloc: Global, key: &Key, text: &mut Vec<u8>) -> Result<(), NoMemory>
     ensures { OnOk result (text.new.items ≡ text.old.items ++ check_line key.now) }
 {
-    let steps = step_words(alloc, key)?;
+    let steps = step_words(alloc, key, 0)?;
     push_key_with(alloc, key, steps.as_slice(), text)
 }
 
@@ -54,18 +54,35 @@ fn push_key_with<'a>(
     push_document(alloc, &members, text)
 }
 
-/// The words of the steps that lead to the key's target.
-fn step_words(alloc: Global, key: &Key) -> Result<Vec<&'static str>, NoMemory>
+/// The words of the steps of a key behind this many.
+///
+/// # Errors
+/// Where there is no memory.
+pub(crate) fn step_words(
+    alloc: Global,
+    key: &Key,
+    done: usize,
+) -> Result<Vec<&'static str>, NoMemory>
     ensures { IfOk result (λ words. map (λ word. word.now) words.items
-        ≡ map step_word (chain key.now.target)) }
+        ≡ map step_word (drop done (chain key.now.target))) }
 {
     let mut words = Vec::new(alloc);
-    for index in 0..chain_length(key) {
-        if let Some(step) = chain(key, index + 1) {
-            words.push(step.word())?;
+    for place in done..chain_length(key) {
+        if let Some(step) = chain(key, place + 1) {
+            push_step(step, &mut words)?;
         }
     }
     Ok(words)
+}
+
+/// Appends the word of a step.
+#[tactic(auto, using(std::proofs::lemmas::List::map_push))]
+fn push_step(step: Step, words: &mut Vec<&'static str>) -> Result<(), NoMemory>
+    ensures { OnOk result (map (λ word. word.now) words.new.items
+        ≡ map (λ word. word.now) words.old.items ++ step_word step ∷ []) }
+{
+    words.push(step.word())?;
+    Ok(())
 }
 
 /// Appends the line that says whether a plan prolongs an earlier one.

@@ -12,6 +12,7 @@ mod datum;
 mod document;
 mod fault;
 mod faults;
+mod json_lines;
 mod key_members;
 pub mod laws;
 mod listing;
@@ -25,13 +26,17 @@ mod probe_tests;
 mod probing;
 mod running;
 #[cfg(test)]
+mod sim_tests;
+mod simulating;
+#[cfg(test)]
 mod tests;
 
 pub use cause::Cause;
 pub use checking::{push_check, push_prolongs};
 pub use fault::Fault;
 pub use faults::{NO_MEMORY_LINE, push_fault, push_plan_fault, push_progress_fault};
+pub use json_lines::JsonLines;
 pub use listing::push_list;
 pub use looking::push_look;
-pub use probing::{push_making, push_premises, push_probe, push_probe_end, unbegun_line};
 pub use running::push_run;
+pub use simulating::push_sim_end;

@@ -1,6 +1,7 @@
 //! What `list` says of a progress.
-ghost use Rattle.std.specs.Prelude.{◌≡◌, ◌++◌, OnOk};
+ghost use Rattle.std.specs.Prelude.{◌≡◌, ◌++◌, OnOk, map};
 ghost use Rattle.kmip_progress.specs.Suiting.{Suits};
+ghost use Rattle.kmip_plan_commands.specs.Standings.{standing_of};
 ghost use Rattle.kmip_json.specs.ListJson.{finished_line, key_line, key_lines, list_lines, list_lines_by};
 
 use crate::document::push_document;
@@ -8,6 +9,7 @@ use crate::key_members::members_of_key;
 use crate::member::Member;
 use kmip_client::{Client, Verdict};
 use kmip_plan::{Key, Plan};
+use kmip_plan_commands::{KeyStanding, standings};
 use kmip_progress::{Known, Progress};
 use kmip_runs::finished_count;
 use kmip_ttlv::NoMemory;
@@ -45,48 +47,31 @@ fn push_list_by(
     ensures { OnOk result (text.new.items
         ≡ text.old.items ++ list_lines_by verdicts.now keys.now saved.now) }
 {
-    push_keys(alloc, keys, saved, verdicts, text)?;
+    let standings = standings(alloc, keys, saved, verdicts)?;
+    push_keys(alloc, standings.as_slice(), text)?;
     push_finished(alloc, keys, verdicts, text)
 }
 
-/// Appends the lines of the keys.
+/// Appends the lines of keys that stand so.
 fn push_keys(
     alloc: Global,
-    keys: &[Key],
-    saved: &[Known],
-    verdicts: &[Verdict],
+    standings: &[KeyStanding<'_>],
     text: &mut Vec<u8>,
 ) -> Result<(), NoMemory>
     ensures { OnOk result (text.new.items
-        ≡ text.old.items ++ key_lines keys.now saved.now verdicts.now) }
+        ≡ text.old.items ++ key_lines (map standing_of standings.now)) }
 {
-    let mut saved_left = saved;
-    let mut verdicts_left = verdicts;
-    for key in keys {
-        let Some((known, saved_behind)) = saved_left.split_first() else {
-            return Ok(());
-        };
-        let Some((verdict, verdicts_behind)) = verdicts_left.split_first() else {
-            return Ok(());
-        };
-        push_key(alloc, key, known, *verdict, text)?;
-        saved_left = saved_behind;
-        verdicts_left = verdicts_behind;
+    for standing in standings {
+        push_key(alloc, standing, text)?;
     }
     Ok(())
 }
 
-/// Appends the line of a key.
-fn push_key(
-    alloc: Global,
-    key: &Key,
-    known: &Known,
-    verdict: Verdict,
-    text: &mut Vec<u8>,
-) -> Result<(), NoMemory>
-    ensures { OnOk result (text.new.items ≡ text.old.items ++ key_line key.now known.now verdict) }
+/// Appends the line of a key that stands so.
+fn push_key(alloc: Global, standing: &KeyStanding<'_>, text: &mut Vec<u8>) -> Result<(), NoMemory>
+    ensures { OnOk result (text.new.items ≡ text.old.items ++ key_line (standing_of standing.now)) }
 {
-    let members = members_of_key(alloc, key, known, verdict)?;
+    let members = members_of_key(alloc, standing)?;
     push_document(alloc, members.as_slice(), text)
 }
 

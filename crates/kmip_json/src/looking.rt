@@ -1,5 +1,5 @@
 //! How the keys of a plan stand on a server, as a look says it.
-ghost use Rattle.std.specs.Prelude.{◌≡◌, [], ◌∷◌, ◌++◌, IfOk, OnOk, drop, map, option_map, string_bytes};
+ghost use Rattle.std.specs.Prelude.{◌≡◌, ◌++◌, IfOk, OnOk, map, option_map, string_bytes};
 ghost use Rattle.kmip_objects.specs.Lifecycle.{step_word};
 ghost use Rattle.kmip_plan.specs.Chains.{chain};
 ghost use Rattle.kmip_json.specs.Documents.{document, members};
@@ -18,6 +18,7 @@ ghost use Rattle.kmip_json.specs.LookJson.{
   why_untold,
 };
 
+use crate::checking::step_words;
 use crate::document::push_document;
 use crate::listing::push_finished;
 use crate::member::Member;
@@ -25,7 +26,7 @@ use crate::optional::{number_in, text_in};
 use kmip_client::{Knowledge, Phase, Verdict};
 use kmip_look::{Looked, Shown, Why};
 use kmip_look_command::{named_algorithm, named_state, verdicts_on, why_text};
-use kmip_plan::{Key, Step, chain, chain_length};
+use kmip_plan::Key;
 use kmip_runs::verdict_word;
 use kmip_ttlv::NoMemory;
 use std::alloc::Global;
@@ -233,36 +234,9 @@ fn steps_before(
 {
     match phase {
         Phase::Look | Phase::Check => Ok(Vec::new(alloc)),
-        Phase::Make => steps_behind(alloc, key, 0),
-        Phase::Go => steps_behind(alloc, key, done),
+        Phase::Make => step_words(alloc, key, 0),
+        Phase::Go => step_words(alloc, key, done),
     }
-}
-
-/// The words of the steps of a key behind this many.
-///
-/// # Errors
-/// Where there is no memory.
-fn steps_behind(alloc: Global, key: &Key, done: usize) -> Result<Vec<&'static str>, NoMemory>
-    ensures { IfOk result (λ words. map (λ word. word.now) words.items
-        ≡ map step_word (drop done (chain key.now.target))) }
-{
-    let mut words = Vec::new(alloc);
-    for place in done..chain_length(key) {
-        if let Some(step) = chain(key, place + 1) {
-            push_step(step, &mut words)?;
-        }
-    }
-    Ok(words)
-}
-
-/// Appends the word of a step.
-#[tactic(auto, using(std::proofs::lemmas::List::map_push))]
-fn push_step(step: Step, words: &mut Vec<&'static str>) -> Result<(), NoMemory>
-    ensures { OnOk result (map (λ word. word.now) words.new.items
-        ≡ map (λ word. word.now) words.old.items ++ step_word step ∷ []) }
-{
-    words.push(step.word())?;
-    Ok(())
 }
 
 /// Why it was not told how a key stands, where it was not.

@@ -1,11 +1,11 @@
 //! Lines of a probe that were worked out by hand.
 
+use crate::JsonLines;
 use crate::tests::assert_lines;
-use crate::{push_making, push_premises, push_probe, push_probe_end};
 use kmip_batch_items::Outcome;
 use kmip_objects::{Step, Texts};
-use kmip_probe::{Answer, Attribute, Finding, Findings, Flaw};
-use kmip_probe_command::PREMISES;
+use kmip_probe::{Attribute, Finding, Findings, Flaw};
+use kmip_probe_command::{PREMISES, ProbeForm, finding_of};
 use kmip_ttlv::{NoMemory, Text};
 use std::alloc::Global;
 use std::process::Abort;
@@ -24,26 +24,16 @@ const BROKEN_LINES: [&str; 10] = [
     r#"{"reasons":[8,71],"sum":"the promise does not hold here"}"#,
 ];
 
-const UNTOLD_LINES: [&str; 10] = [
-    r#"{"making":["p-1","p-2"]}"#,
-    r#"{"premise":"names are unique","finding":"not told","flaw":null,"risk":null}"#,
-    r#"{"premise":"names stay used after Destroy","finding":"not told","flaw":null,"risk":null}"#,
-    r#"{"premise":"a step made twice changes nothing","finding":"not told","flaw":null,"risk":null}"#,
-    r#"{"premise":"an active object is not destroyed","finding":"not told","flaw":null,"risk":null}"#,
-    r#"{"premise":"Locate finds objects by their names","finding":"not told","flaw":null,"risk":null}"#,
-    r#"{"premise":"Locate finds destroyed objects","finding":"not told","flaw":null,"risk":null}"#,
-    r#"{"premise":"Get Attributes tells all six attributes","finding":"not told","flaw":null,"risk":null}"#,
-    r#"{"premise":"the batch id is echoed","finding":"not told","flaw":null,"risk":null}"#,
-    r#"{"reasons":[],"sum":"not all could be told: see the reasons, or probe again with another prefix"}"#,
-];
-
-/// The answer of a Locate that has found the object of this identifier, or none.
-fn located(alloc: Global, uid: Option<&str>) -> Result<Answer, NoMemory> {
-    let mut uids = Vec::new(alloc);
-    if let Some(uid) = uid {
-        uids.push(Text::copied(alloc, uid)?)?;
+/// All that a form tells of a server, where these keys are made and this is found.
+fn report<F: ProbeForm>(alloc: Global, form: &F, findings: &Findings) -> Result<Vec<u8>, NoMemory> {
+    let mut text = form.making_line(alloc, "p-1", "p-2")?;
+    for premise in &PREMISES {
+        let line = form.premise_line(alloc, *premise, finding_of(findings, *premise))?;
+        text.extend_from_slice(line.as_slice())?;
     }
-    Ok(Answer::Told(Outcome::Located(Texts::from_vec(uids))))
+    let end = form.last_lines(alloc, findings)?;
+    text.extend_from_slice(end.as_slice())?;
+    Ok(text)
 }
 
 #[test]
@@ -61,42 +51,42 @@ fn writes_what_is_found(rt: HostRuntime) -> Result<(), Fail> {
         ids_are_echoed: Finding::Kept,
         reasons: vec![in alloc; 8u32, 71]?,
     };
-    let mut text = Vec::new(alloc);
-    push_making(alloc, "p", &mut text)?;
-    push_premises(alloc, &findings, &PREMISES, &mut text)?;
-    push_probe_end(alloc, &findings, &mut text)?;
+    let text = report(alloc, &JsonLines, &findings)?;
     assert_lines(&rt, alloc, text.as_slice(), &BROKEN_LINES)?;
     Ok(())
 }
 
-/// These lines are told of the answers, and a premise is not seen to be kept.
-fn assert_told(
+/// The line says why nothing was made, by the outcome of the look at the name `p-1`.
+fn assert_unmade(
     rt: &impl Abort,
     alloc: Global,
-    answers: &[Answer],
-    lines: &[&str],
+    outcome: Option<&Outcome>,
+    line: &str,
 ) -> Result<(), NoMemory> {
-    let mut text = Vec::new(alloc);
-    let refused = push_probe(alloc, "p", answers, &mut text)?;
-    assert!(rt; refused);
-    assert_lines(rt, alloc, text.as_slice(), lines)
+    let text = JsonLines.unmade_line(alloc, "p-1", outcome, None)?;
+    assert_lines(rt, alloc, text.as_slice(), &[line])
 }
 
 #[test]
 fn writes_why_nothing_is_made(rt: HostRuntime) -> Result<(), Fail> {
     let alloc = rt.alloc();
-    let used = [located(alloc, Some("17"))?];
+    let uids = vec![in alloc; Text::copied(alloc, "17")?]?;
+    let used = Outcome::Located(Texts::from_vec(uids));
     let line = r#"{"making":[],"name":"p-1","object":"17","not_told":null}"#;
-    assert_told(&rt, alloc, &used, &[line])?;
-    let refused = [
-        located(alloc, None)?,
-        Answer::Told(Outcome::Failed(Some(12))),
-    ];
-    let line = r#"{"making":[],"name":"p-2","object":null,"not_told":"refused, reason 12"}"#;
-    assert_told(&rt, alloc, &refused, &[line])?;
-    let silent = [Answer::Nothing];
+    assert_unmade(&rt, alloc, Some(&used), line)?;
+    let refused = Outcome::Failed(Some(12));
+    let line = r#"{"making":[],"name":"p-1","object":null,"not_told":"refused, reason 12"}"#;
+    assert_unmade(&rt, alloc, Some(&refused), line)?;
     let line = r#"{"making":[],"name":"p-1","object":null,"not_told":"no reply"}"#;
-    assert_told(&rt, alloc, &silent, &[line])?;
-    assert_told(&rt, alloc, &[], &UNTOLD_LINES)?;
+    assert_unmade(&rt, alloc, None, line)?;
+    Ok(())
+}
+
+#[test]
+fn writes_that_a_prefix_is_refused(rt: HostRuntime) -> Result<(), Fail> {
+    let line =
+        r#"{"fault":"prefix refused","at":null,"why":"it is not 1 to 62 printable ASCII characters without a space","cause":null}"#;
+    let text = JsonLines.unfit_line();
+    assert_lines(&rt, rt.alloc(), text.as_bytes(), &[line])?;
     Ok(())
 }

@@ -1,98 +1,32 @@
-//! What a probe finds of a server, as its answers say it.
-ghost use Rattle.std.specs.Prelude.{◌≡◌, ◌++◌, ℕ, List, flat_map, map, IfOk, OnOk, string_bytes, option_map};
-ghost use Rattle.kmip_probe.specs.Inquiries.{name_of};
-ghost use Rattle.kmip_json.specs.PrivateProbing.{TellsFound};
+//! The lines of a probe as documents.
+ghost use Rattle.std.specs.Prelude.{◌≡◌, ◌++◌, map, IfOk, OnOk, string_bytes, option_map};
 ghost use Rattle.kmip_json.specs.Documents.{document, members};
 ghost use Rattle.kmip_json.specs.ProbeJson.{
-  TellsAnswers,
   end_line,
   finding_word,
   flaw_found,
-  line_of,
-  making_line,
   names_pairs,
   object_found,
   pair_pairs,
   premise_line,
   premise_pairs,
-  report_lines,
   risk_found,
-  unbegun_line,
   unmade_line,
   unmade_pairs,
   why_unsure,
 };
 
-use crate::bytes::push_bytes;
 use crate::document::push_document;
 use crate::member::Member;
 use crate::optional::text_in;
 use kmip_batch_items::Outcome;
-use kmip_probe::{
-    Answer, Finding, Findings, LOOK_FIRST, LOOK_SECOND, Unread, Which, findings_of, is_free_at,
-    name_of, outcome_at, unread_at,
-};
-use kmip_probe_command::{
-    PREMISES, Premise, are_all_kept, finding_of, flaw_text, sum_text, why_text,
-};
+use kmip_probe::{Finding, Findings, Unread};
+use kmip_probe_command::{Premise, flaw_text, sum_text, why_text};
 use kmip_ttlv::NoMemory;
 use std::alloc::Global;
 
-/// Appends what the answers of a probe with this prefix tell: why nothing was made; or which keys were
-/// made, a line for each premise, and the sum. Says whether a premise is not seen to be kept.
-///
-/// # Errors
-/// Where there is no memory for it. A part may have been appended then.
-pub fn push_probe(
-    alloc: Global,
-    prefix: &str,
-    answers: &[Answer],
-    text: &mut Vec<u8>,
-) -> Result<bool, NoMemory>
-    ensures { IfOk result (λ refused. (told : List ℕ)
-        × TellsAnswers prefix.now answers.now refused told
-        × (text.new.items ≡ text.old.items ++ told)) }
-{
-    match unbegun_line(alloc, prefix, answers)? {
-        Some(line) => {
-            push_bytes(line.as_slice(), text)?;
-            Ok(true)
-        }
-        None => push_found(alloc, prefix, answers, text),
-    }
-}
-
-/// Appends which keys were made, and what these answers say of the premises. Says whether a premise is
-/// not seen to be kept.
-fn push_found(
-    alloc: Global,
-    prefix: &str,
-    answers: &[Answer],
-    text: &mut Vec<u8>,
-) -> Result<bool, NoMemory>
-    ensures { IfOk result (λ refused.
-        TellsFound prefix.now answers.now refused text.old.items text.new.items) }
-{
-    let findings = findings_of(alloc, prefix, answers)?;
-    push_making(alloc, prefix, text)?;
-    push_findings(alloc, &findings, text)?;
-    Ok(!are_all_kept(&findings))
-}
-
-/// Appends which keys a probe with this prefix is about to make.
-///
-/// # Errors
-/// Where there is no memory for it. A part may have been appended then.
-pub fn push_making(alloc: Global, prefix: &str, text: &mut Vec<u8>) -> Result<(), NoMemory>
-    ensures { OnOk result (text.new.items ≡ text.old.items ++ making_line prefix.now) }
-{
-    let first = name_of(alloc, Which::First, prefix)?;
-    let second = name_of(alloc, Which::Second, prefix)?;
-    push_pair(alloc, first.as_str(), second.as_str(), text)
-}
-
 /// Appends the line of two keys that are to be made.
-fn push_pair<'a>(
+pub(crate) fn push_pair<'a>(
     alloc: Global,
     first: &'a str,
     second: &'a str,
@@ -113,54 +47,20 @@ fn push_names<'a>(alloc: Global, names: &'a [&'a str], text: &mut Vec<u8>) -> Re
     push_document(alloc, &[Member::words("making", names)], text)
 }
 
-/// What is told where one of the names of a probe with this prefix is not seen to be free; none where
-/// both are.
-///
-/// # Errors
-/// Where there is no memory.
-pub fn unbegun_line(
+/// Appends why nothing is made, by the outcome of the look at a name, or why its reply can't be read.
+pub(crate) fn push_looked(
     alloc: Global,
-    prefix: &str,
-    answers: &[Answer],
-) -> Result<Option<Vec<u8>>, NoMemory>
-    ensures { IfOk result (λ told. option_map (λ bytes. bytes.items) told
-        ≡ unbegun_line prefix.now answers.now) }
-{
-    if !is_free_at(answers, LOOK_FIRST) {
-        let outcome = outcome_at(answers, LOOK_FIRST);
-        let unread = unread_at(answers, LOOK_FIRST);
-        let told = unmade_line(alloc, Which::First, prefix, outcome, unread)?;
-        return Ok(Some(told));
-    }
-    if !is_free_at(answers, LOOK_SECOND) {
-        let outcome = outcome_at(answers, LOOK_SECOND);
-        let unread = unread_at(answers, LOOK_SECOND);
-        let told = unmade_line(alloc, Which::Second, prefix, outcome, unread)?;
-        return Ok(Some(told));
-    }
-    Ok(None)
-}
-
-/// Why nothing is made, by the outcome of the look at a name, or why its reply can't be read.
-///
-/// # Errors
-/// Where there is no memory.
-fn unmade_line(
-    alloc: Global,
-    which: Which,
-    prefix: &str,
+    name: &str,
     outcome: Option<&Outcome>,
     unread: Option<Unread>,
-) -> Result<Vec<u8>, NoMemory>
-    ensures { IfOk result (λ told. told.items ≡ unmade_line
-        (name_of which prefix.now) (option_map (λ o. o.now) outcome.entry) unread) }
+    text: &mut Vec<u8>,
+) -> Result<(), NoMemory>
+    ensures { OnOk result (text.new.items ≡ text.old.items
+        ++ unmade_line name.now (option_map (λ o. o.now) outcome.entry) unread) }
 {
-    let name = name_of(alloc, which, prefix)?;
     let object = object_found(outcome);
     let why = why_unsure(alloc, outcome, unread)?;
-    let mut told = Vec::new(alloc);
-    push_unmade(alloc, name.as_str(), object, text_in(&why), &mut told)?;
-    Ok(told)
+    push_unmade(alloc, name, object, text_in(&why), text)
 }
 
 /// Appends that nothing is made: the name that is not seen to be free, and the object that has it, or
@@ -217,35 +117,8 @@ fn why_unsure(
     Ok(Some(why))
 }
 
-/// Appends all that is told of the premises, by what a probe has found: a line for each, and the sum.
-fn push_findings(alloc: Global, findings: &Findings, text: &mut Vec<u8>) -> Result<(), NoMemory>
-    ensures { OnOk result (text.new.items ≡ text.old.items ++ report_lines findings.now) }
-{
-    push_premises(alloc, findings, &PREMISES, text)?;
-    push_probe_end(alloc, findings, text)
-}
-
-/// Appends the lines of some premises, by what a probe has found.
-///
-/// # Errors
-/// Where there is no memory for it. A part may have been appended then.
-pub fn push_premises(
-    alloc: Global,
-    findings: &Findings,
-    premises: &[Premise],
-    text: &mut Vec<u8>,
-) -> Result<(), NoMemory>
-    ensures { OnOk result (text.new.items
-        ≡ text.old.items ++ flat_map (line_of findings.now) premises.now) }
-{
-    for premise in premises {
-        push_premise(alloc, *premise, finding_of(findings, *premise), text)?;
-    }
-    Ok(())
-}
-
 /// Appends the line of a premise, of which this is found.
-fn push_premise(
+pub(crate) fn push_premise(
     alloc: Global,
     premise: Premise,
     finding: &Finding,
@@ -315,7 +188,7 @@ fn risk_found(premise: Premise, finding: &Finding) -> Option<&'static str>
 ///
 /// # Errors
 /// Where there is no memory for it. A part may have been appended then.
-pub fn push_probe_end(
+pub(crate) fn push_probe_end(
     alloc: Global,
     findings: &Findings,
     text: &mut Vec<u8>,

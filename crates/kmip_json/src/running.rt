@@ -1,6 +1,7 @@
 //! What `run` says of a run that ended.
-ghost use Rattle.std.specs.Prelude.{◌≡◌, ◌++◌, ◌-◌, ◌^◌, OnOk, drop, min, slice_index, sum};
+ghost use Rattle.std.specs.Prelude.{◌≡◌, ◌++◌, ◌-◌, ◌^◌, OnOk, drop, map, min, slice_index, sum};
 ghost use Rattle.std.specs.List.{list_any};
+ghost use Rattle.kmip_plan_commands.specs.Standings.{standing_of};
 ghost use Rattle.kmip_json.specs.Causes.{cause_of, is_conflict};
 ghost use Rattle.kmip_json.specs.RunJson.{end_line, run_line, run_key_lines, run_lines, run_lines_by, all_steps};
 
@@ -10,7 +11,7 @@ use crate::key_members::members_of_key;
 use crate::member::Member;
 use kmip_client::{Client, Verdict};
 use kmip_plan::Key;
-use kmip_plan_commands::RunTally;
+use kmip_plan_commands::{KeyStanding, RunTally, standings};
 use kmip_progress::Known;
 use kmip_runs::{Stop, finished_count};
 use kmip_ttlv::NoMemory;
@@ -60,36 +61,25 @@ fn push_run_by(
     ensures { OnOk result (text.new.items
         ≡ text.old.items ++ run_lines_by verdicts.now keys.now knowns.now stop tally.now) }
 {
-    push_keys(alloc, keys, knowns, verdicts, tally.steps.as_slice(), text)?;
+    let standings = standings(alloc, keys, knowns, verdicts)?;
+    push_keys(alloc, standings.as_slice(), tally.steps.as_slice(), text)?;
     push_end(alloc, keys, verdicts, stop, tally, text)
 }
 
-/// Appends the lines of the keys.
+/// Appends the lines of keys that stand so.
 fn push_keys(
     alloc: Global,
-    keys: &[Key],
-    knowns: &[Known],
-    verdicts: &[Verdict],
+    standings: &[KeyStanding<'_>],
     steps: &[u64],
     text: &mut Vec<u8>,
 ) -> Result<(), NoMemory>
     ensures { OnOk result (text.new.items
-        ≡ text.old.items ++ run_key_lines keys.now knowns.now verdicts.now steps.now) }
+        ≡ text.old.items ++ run_key_lines (map standing_of standings.now) steps.now) }
 {
-    let mut knowns_left = knowns;
-    let mut verdicts_left = verdicts;
     let mut steps_left = steps;
-    for key in keys {
-        let Some((known, knowns_behind)) = knowns_left.split_first() else {
-            return Ok(());
-        };
-        let Some((verdict, verdicts_behind)) = verdicts_left.split_first() else {
-            return Ok(());
-        };
+    for standing in standings {
         let (made, steps_behind) = first_count(steps_left);
-        push_key(alloc, key, known, *verdict, made, text)?;
-        knowns_left = knowns_behind;
-        verdicts_left = verdicts_behind;
+        push_key(alloc, standing, made, text)?;
         steps_left = steps_behind;
     }
     Ok(())
@@ -106,19 +96,17 @@ fn first_count(counts: &[u64]) -> (u64, &[u64])
     }
 }
 
-/// Appends the line of a key.
+/// Appends the line of a key that stands so.
 fn push_key(
     alloc: Global,
-    key: &Key,
-    known: &Known,
-    verdict: Verdict,
+    standing: &KeyStanding<'_>,
     made: u64,
     text: &mut Vec<u8>,
 ) -> Result<(), NoMemory>
     ensures { OnOk result (text.new.items
-        ≡ text.old.items ++ run_line key.now known.now verdict made) }
+        ≡ text.old.items ++ run_line (standing_of standing.now) made) }
 {
-    let mut members = members_of_key(alloc, key, known, verdict)?;
+    let mut members = members_of_key(alloc, standing)?;
     members.push(Member::count("steps", made))?;
     push_document(alloc, members.as_slice(), text)
 }

@@ -16,7 +16,7 @@ use std::process::Abort;
 use std::test::Fail;
 
 /// A plan of two keys. The name of the first has a quotation mark and a backslash.
-const PLAN: &str = r#"
+pub(crate) const PLAN: &str = r#"
 [[key]]
 name = 'a"b\c'
 algorithm = "AES"

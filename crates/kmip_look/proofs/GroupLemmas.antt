@@ -12,9 +12,9 @@ use Rattle.kmip_protocol.specs.Past.{Names, Past}
 use Rattle.kmip_look.specs.Looks.{IsFresh, IsSaid, Sends, TellsAll}
 use Rattle.kmip_look.specs.Moments as moments
 use Rattle.kmip_look.specs.Moments.{IsLater, WasSo}
-use Rattle.kmip_look.specs.PrivateKeeping.{ComesThrough, Goes, GoesThrough, IsAfter, IsAt, GroupsCalmly, IsSame, Kept, LooksAt, SendsLooks, WereSo, unasked}
+use Rattle.kmip_look.specs.PrivateKeeping.{ComesThrough, Goes, GoesThrough, IsAfter, IsAt, GroupsCalmly, IsSame, Kept, LooksAt, SendsLooks, WereSo, both_parts, unasked}
 use Rattle.kmip_look.specs.declared.looked.Looked.{Looked}
-use Rattle.kmip_look.specs.declared.part.Part.TheVariants.{Find, Tell}
+use Rattle.kmip_look.specs.declared.part.Part.TheVariants.{Tell}
 use Rattle.kmip_look.proofs.KeptLemmas.{kept_fresh, nothing_later}
 use Rattle.kmip_look.proofs.PastLemmas.{all_said, all_told, same_nowhere, same_on, sends_none, sends_on, sends_within, unasked_before, unasked_so, were_later}
 
@@ -147,7 +147,7 @@ group_asked names mark keys olds news old new many all goes = record {
 }
 
 pub group_calm : (keys : List Key) (olds news : List Looked) (might may : Bool) (old new : Past) → length olds ≡ length keys
-    → All (λ looked. looked ≡ unasked) olds → GoesThrough Find Tell 2 keys olds news may old new → GroupsCalmly keys news might may old new
+    → All (λ looked. looked ≡ unasked) olds → GoesThrough both_parts keys olds news may old new → GroupsCalmly keys news might may old new
 group_calm keys olds news might may old new many all goes = record {
   same = goes.same;
   comes = λ on distinct. goes.comes distinct (unasked_before old.objects keys olds many all);

@@ -26,7 +26,7 @@ use Rattle.kmip_look.specs.Moments.{IsLater, WasSo}
 use Rattle.kmip_look.specs.PrivateAsking.{id_of, is_asked, is_refused, part_number, request_of, requests_of}
 use Rattle.kmip_look.specs.PrivateHearing.{heard_each}
 use Rattle.kmip_look.specs.PrivateKeeping as keeping
-use Rattle.kmip_look.specs.PrivateKeeping.{AreShaped, Goes, GoesCalmly, GoesThrough, IsAfter, IsAt, IsBefore, IsMarkedLook, IsMarkedTrue, IsSame, Kept, LookLaws, SendsLooks, WereSo, unasked}
+use Rattle.kmip_look.specs.PrivateKeeping.{AreShaped, Goes, GoesCalmly, GoesThrough, IsAfter, IsAt, IsBefore, IsMarkedLook, IsMarkedTrue, IsSame, Kept, LookLaws, SendsLooks, WereSo, both_parts, one_part, unasked}
 use Rattle.kmip_look.specs.PrivatePutting.{HasPut, HasServed, Puts, said}
 use Rattle.kmip_look.specs.Standings.{is_told}
 use Rattle.kmip_look.specs.declared.looked.Looked.{Looked}
@@ -251,8 +251,8 @@ pub same_on : (p q r : Past) → IsSame p q → IsSame q r → IsSame p r
 same_on p q r first second = record { objects = second.objects ∙ first.objects; effects = second.effects ∙ first.effects }
 
 -- two parts after each other
-pub through_both : (keys : List Key) (a b d : List Looked) (goes_on : Bool) (p q r : Past) → GoesThrough Find Find 1 keys a b true p q
-    → GoesThrough Tell Tell 1 keys b d goes_on q r → GoesThrough Find Tell 2 keys a d goes_on p r
+pub through_both : (keys : List Key) (a b d : List Looked) (goes_on : Bool) (p q r : Past) → GoesThrough (one_part Find) keys a b true p q
+    → GoesThrough (one_part Tell) keys b d goes_on q r → GoesThrough both_parts keys a d goes_on p r
 through_both keys a b d goes_on p q r first second = record {
   same = same_on p q r first.same second.same;
   comes = λ distinct before.
@@ -267,7 +267,7 @@ through_both keys a b d goes_on p q r first second = record {
 }
 
 -- where the first part says that no more may be asked, that is not over a calm link with distinct identifiers
-pub through_first : (keys : List Key) (a b : List Looked) (p q : Past) → GoesThrough Find Find 1 keys a b false p q → GoesThrough Find Tell 2 keys a b false p q
+pub through_first : (keys : List Key) (a b : List Looked) (p q : Past) → GoesThrough (one_part Find) keys a b false p q → GoesThrough both_parts keys a b false p q
 through_first keys a b p q first = record {
   same = first.same;
   comes = λ distinct before. let one = first.comes distinct before in let t : false ≡ true = one.goes in absurd cc;
@@ -365,7 +365,7 @@ tried_more part tries keys mark olds nows news start now new any tried goes send
 }
 
 pub tried_idle : (part : Part) (tries : ℕ) (keys : List Key) (olds nows : List Looked) (start now : Past) → list_any (is_asked part) nows ≡ false
-    → Tried part tries keys olds nows start now → GoesThrough part part 1 keys olds nows true start now
+    → Tried part tries keys olds nows start now → GoesThrough (one_part part) keys olds nows true start now
 tried_idle part tries keys olds nows start now idle tried = record {
   same = tried.same;
   comes = λ distinct before. elim (tried.stand distinct before) [
@@ -375,7 +375,7 @@ tried_idle part tries keys olds nows start now idle tried = record {
 }
 
 pub tried_stopped : (part : Part) (tries : ℕ) (keys : List Key) (olds nows : List Looked) (start now : Past) → list_any (is_asked part) nows ≡ true → 0 < tries
-    → Tried part tries keys olds nows start now → GoesThrough part part 1 keys olds nows false start now
+    → Tried part tries keys olds nows start now → GoesThrough (one_part part) keys olds nows false start now
 tried_stopped part tries keys olds nows start now any some tried = record {
   same = tried.same;
   comes = λ distinct before. elim (tried.stand distinct before) [
@@ -386,7 +386,7 @@ tried_stopped part tries keys olds nows start now any some tried = record {
 }
 
 pub tried_all : (part : Part) (tries : ℕ) (keys : List Key) (olds nows : List Looked) (start now : Past) → 0 < tries
-    → Tried part tries keys olds nows start now → GoesThrough part part 1 keys olds nows true start now
+    → Tried part tries keys olds nows start now → GoesThrough (one_part part) keys olds nows true start now
 tried_all part tries keys olds nows start now some tried = record {
   same = tried.same;
   comes = λ distinct before. elim (tried.stand distinct before) [
@@ -428,6 +428,10 @@ on_ok (Err fault) further holds = tt
 pub if_ok : {A E : Type 0} {P Q : A → Type 0} (result : Result A E) → ((value : A) → P value → Q value) → IfOk result P → IfOk result Q
 if_ok (Ok value) further holds = further value holds
 if_ok (Err fault) further holds = tt
+
+pub when_ok : {A E : Type 0} {P : Type 0} {Q : A → Type 0} (result : Result A E) → ((value : A) → P → Q value) → OnOk result P → IfOk result Q
+when_ok (Ok value) further holds = further value holds
+when_ok (Err fault) further holds = tt
 
 pub zip_length : {A B : Type 0} (R : A → B → Type 0) (xs : List A) (ys : List B) → AllZip R xs ys → length ys ≡ length xs
 zip_length R [] [] zip = refl

@@ -16,3 +16,5 @@ pub mod PrivateHearing
 pub mod PrivatePutting
 -- private: what holds of the keys as a look goes on
 pub mod PrivateKeeping
+-- private: a group that is asked about, and what is promised of asking
+pub mod PrivateGroups

@@ -141,10 +141,25 @@ pub record ComesThrough (last : Part) (most : ℕ) (keys : List Key) (news : Lis
   pub goes : goes_on ≡ true
   pub few : length new.sent ≤ length old.sent + most
 
--- The parts from one to the other over a calm link
-pub record GoesThrough (first last : Part) (most : ℕ) (keys : List Key) (olds news : List Looked) (goes_on : Bool) (old new : Past) : Type 0 where
+-- Parts of a look, from one to the other, and how many messages they take over a calm link at most
+pub record Parts : Type 0 where
+  pub first : Part
+  pub last : Part
+  pub most : ℕ
+
+-- One part alone, in one message
+abbrev pub one_part : Part → Parts
+one_part part = record { first = part; last = part; most = 1 }
+
+-- Both parts, in two messages
+abbrev pub both_parts : Parts
+both_parts = record { first = Find; last = Tell; most = 2 }
+
+-- These parts over a calm link
+pub record GoesThrough (parts : Parts) (keys : List Key) (olds news : List Looked) (goes_on : Bool) (old new : Past) : Type 0 where
   pub same : IsSame old new
-  pub comes : DistinctUids old.objects → AllZip (IsBefore first old.objects) keys olds → ComesThrough last most keys news goes_on old new
+  pub comes : DistinctUids old.objects → AllZip (IsBefore parts.first old.objects) keys olds
+      → ComesThrough parts.last parts.most keys news goes_on old new
 
 -- A look at a group over a calm link, where more might be asked before it and after it
 pub record GroupsCalmly (keys : List Key) (lookeds : List Looked) (might may : Bool) (old new : Past) : Type 0 where

@@ -1,12 +1,13 @@
 //! A look at the keys of a plan, group by group.
-ghost use Rattle.std.specs.Prelude.{◌≡◌, ◌≤◌, ◌<◌, [], IfOk, IsTrue, OnOk, length, true};
+ghost use Rattle.std.specs.Prelude.{◌≡◌, ◌≤◌, ◌<◌, [], IfOk, IsTrue, length, true};
 ghost use Rattle.std.specs.List.{All};
 ghost use Rattle.kmip_messages.specs.Members.{may_have};
 ghost use Rattle.kmip_messages.specs.Written.{requests_fit};
 ghost use Rattle.kmip_protocol.specs.Past.{Names};
 ghost use Rattle.kmip_look.specs.Looks.{Looks};
 ghost use Rattle.kmip_look.specs.PrivateAsking.{requests_of};
-ghost use Rattle.kmip_look.specs.PrivateKeeping.{AreFit, AreShaped, Goes, GoesCalmly, GoesThrough, GroupsCalmly, LookLaws, LooksAt, SendsLooks, unasked};
+ghost use Rattle.kmip_look.specs.PrivateGroups.{AsksOnce, AsksParts, IsGroup};
+ghost use Rattle.kmip_look.specs.PrivateKeeping.{AreFit, AreShaped, GroupsCalmly, LookLaws, LooksAt, SendsLooks, both_parts, one_part, unasked};
 
 use crate::asking::{is_any_asked, requests_of};
 use crate::hearing::hear_each;
@@ -148,19 +149,9 @@ fn ask_group<L: Link, P: Pause>(
     pause: &mut P,
     lookeds: &mut Vec<Looked>,
 ) -> Result<bool, NoMemory>
-    requires many { IsTrue (may_have (length keys.now)) }
-    requires mark { length mark.now ≤ 16 }
-    requires fit { AreFit keys.now }
-    requires shaped { AreShaped keys.now lookeds.old.items }
-    ensures shaped { OnOk result (AreShaped keys.now lookeds.new.items) }
-    ensures honestly { (names : Names) → (L.seen link.old).honest names
-        → (L.seen link.new).honest names
-        × SendsLooks keys.now mark.now 8 (L.seen link.old).past (L.seen link.new).past
-        × OnOk result (Goes names mark.now keys.now lookeds.old.items lookeds.new.items
-        (L.seen link.old).past (L.seen link.new).past) }
-    ensures calmly { (names : Names) → (L.seen link.old).calm names → (L.seen link.new).calm names
-        × IfOk result (λ goes_on. GoesThrough Part.Find Part.Tell 2 keys.now lookeds.old.items
-        lookeds.new.items goes_on (L.seen link.old).past (L.seen link.new).past) }
+    requires { IsGroup keys.now mark.now lookeds.old.items }
+    ensures { AsksParts both_parts (record { keys = keys.now; mark = mark.now; most = 8 })
+        lookeds.old.items (L.seen link.old) result lookeds.new.items (L.seen link.new) }
 {
     let goes_on = ask_part(alloc, Part::Find, keys, link, mark, pause, lookeds)?;
     if !goes_on {
@@ -182,19 +173,10 @@ fn ask_part<L: Link, P: Pause>(
     pause: &mut P,
     lookeds: &mut Vec<Looked>,
 ) -> Result<bool, NoMemory>
-    requires many { IsTrue (may_have (length keys.now)) }
-    requires mark { length mark.now ≤ 16 }
-    requires fit { AreFit keys.now }
-    requires shaped { AreShaped keys.now lookeds.old.items }
-    ensures shaped { OnOk result (AreShaped keys.now lookeds.new.items) }
-    ensures honestly { (names : Names) → (L.seen link.old).honest names
-        → (L.seen link.new).honest names
-        × SendsLooks keys.now mark.now MOST_TRIES (L.seen link.old).past (L.seen link.new).past
-        × OnOk result (Goes names mark.now keys.now lookeds.old.items lookeds.new.items
-        (L.seen link.old).past (L.seen link.new).past) }
-    ensures calmly { (names : Names) → (L.seen link.old).calm names → (L.seen link.new).calm names
-        × IfOk result (λ goes_on. GoesThrough part part 1 keys.now lookeds.old.items
-        lookeds.new.items goes_on (L.seen link.old).past (L.seen link.new).past) }
+    requires { IsGroup keys.now mark.now lookeds.old.items }
+    ensures { AsksParts (one_part part)
+        (record { keys = keys.now; mark = mark.now; most = MOST_TRIES })
+        lookeds.old.items (L.seen link.old) result lookeds.new.items (L.seen link.new) }
 {
     for tried in 0..MOST_TRIES {
         if !is_any_asked(part, lookeds.as_slice()) {
@@ -220,19 +202,9 @@ fn ask_once<L: Link>(
     mark: &[u8],
     lookeds: &mut Vec<Looked>,
 ) -> Result<(), NoMemory>
-    requires many { IsTrue (may_have (length keys.now)) }
-    requires mark { length mark.now ≤ 16 }
-    requires fit { AreFit keys.now }
-    requires shaped { AreShaped keys.now lookeds.old.items }
-    ensures shaped { OnOk result (AreShaped keys.now lookeds.new.items) }
-    ensures honestly { (names : Names) → (L.seen link.old).honest names
-        → (L.seen link.new).honest names
-        × SendsLooks keys.now mark.now 1 (L.seen link.old).past (L.seen link.new).past
-        × OnOk result (Goes names mark.now keys.now lookeds.old.items lookeds.new.items
-        (L.seen link.old).past (L.seen link.new).past) }
-    ensures calmly { (names : Names) → (L.seen link.old).calm names → (L.seen link.new).calm names
-        × OnOk result (GoesCalmly part keys.now lookeds.old.items lookeds.new.items
-        (L.seen link.old).past (L.seen link.new).past) }
+    requires { IsGroup keys.now mark.now lookeds.old.items }
+    ensures { AsksOnce part (record { keys = keys.now; mark = mark.now; most = 1 })
+        lookeds.old.items (L.seen link.old) result lookeds.new.items (L.seen link.new) }
 {
     let requests = requests_of(alloc, part, mark, keys, lookeds.as_slice())?;
     if requests.is_empty() {
@@ -257,15 +229,8 @@ fn ask<L: Link>(
     requires fit { IsTrue (requests_fit requests.now) }
     requires asks { requests.now ≡ requests_of part mark.now keys.now lookeds.old.items }
     requires shaped { AreShaped keys.now lookeds.old.items }
-    ensures shaped { OnOk result (AreShaped keys.now lookeds.new.items) }
-    ensures honestly { (names : Names) → (L.seen link.old).honest names
-        → (L.seen link.new).honest names
-        × SendsLooks keys.now mark.now 1 (L.seen link.old).past (L.seen link.new).past
-        × OnOk result (Goes names mark.now keys.now lookeds.old.items lookeds.new.items
-        (L.seen link.old).past (L.seen link.new).past) }
-    ensures calmly { (names : Names) → (L.seen link.old).calm names → (L.seen link.new).calm names
-        × OnOk result (GoesCalmly part keys.now lookeds.old.items lookeds.new.items
-        (L.seen link.old).past (L.seen link.new).past) }
+    ensures { AsksOnce part (record { keys = keys.now; mark = mark.now; most = 1 })
+        lookeds.old.items (L.seen link.old) result lookeds.new.items (L.seen link.new) }
 {
     laws_below();
     let heard = put(alloc, link, requests)?;

@@ -10,10 +10,18 @@ use Rattle.kmip_look.specs.Looks.{Looks}
 use Rattle.kmip_look.specs.declared.looked.Looked.{Looked}
 use Rattle.kmip_look_command.specs.Writing.{TellsLooked}
 
+-- How a printer was used: its only fault, that it takes all of a text or nothing, and what it held before and
+-- holds after.
+pub record PrinterUse : Type 1 where
+  pub own_fault : CommandFault
+  pub IsWhole : Type 0
+  pub old : Option (List ℕ)
+  pub new : Option (List ℕ)
+
 -- A look was made over the link, and what was seen was printed on a printer. It failed for want of memory, or
 -- by the fault of its printer, which then holds what it held if it takes all or nothing.
-pub record PrintsLook (before : Seen) (keys : List Key) (mark : List ℕ) (after : Seen) (ended : Result Bool CommandFault) (own_fault : CommandFault) (Whole : Type 0) (old new : Option (List ℕ)) : Type 0 where
+pub record PrintsLook (before : Seen) (keys : List Key) (mark : List ℕ) (after : Seen) (ended : Result Bool CommandFault) (printer : PrinterUse) : Type 0 where
   pub looked : Result (List Looked) NoMemory
   pub looks : Looks (λ lookeds. lookeds) keys mark before looked after
-  pub whole : IfOk ended (TellsLooked keys looked old new)
-  pub broken : IfErr ended (λ fault. Fails fault own_fault Whole old new)
+  pub whole : IfOk ended (TellsLooked keys looked printer.old printer.new)
+  pub broken : IfErr ended (λ fault. Fails fault printer.own_fault printer.IsWhole printer.old printer.new)

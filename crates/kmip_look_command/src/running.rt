@@ -92,8 +92,12 @@ fn look_to<L: Link, P: Pause, Q: Printer>(
 ) -> Result<bool, CommandFault>
     requires batch { IsTrue (may_have batch) }
     requires mark { length mark.now ≤ 16 }
-    ensures { PrintsLook (L.seen link.old) plan.now mark.now (L.seen link.new) result
-        Q.own_fault Q.IsWhole (Q.contents printer.old) (Q.contents printer.new) }
+    ensures { PrintsLook (L.seen link.old) plan.now mark.now (L.seen link.new) result (record {
+      own_fault = Q.own_fault;
+      IsWhole = Q.IsWhole;
+      old = Q.contents printer.old;
+      new = Q.contents printer.new;
+    }) }
 {
     match look(alloc, plan, link, mark, batch, pause) {
         Ok(lookeds) => print_looked(alloc, plan.keys(), lookeds.as_slice(), printer),

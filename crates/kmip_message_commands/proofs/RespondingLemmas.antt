@@ -92,39 +92,57 @@ responds_more r front line seen first state next old now new refused refused' h 
 
 -- ---- the lines of a command, as far as they were responded to
 
+-- how a command stands among its lines: its state before them and now, what its writer held before them and
+-- holds now, and whether it refused one
+pub record Standing (S : Type 0) : Type 0 where
+  pub first : S
+  pub state : S
+  pub old : Option (List ℕ)
+  pub now : Option (List ℕ)
+  pub refused : Bool
+
+-- before the first line
+abbrev pub standing_first : {S : Type 0} → S → Option (List ℕ) → Standing S
+standing_first first old = record { first = first; state = first; old = old; now = old; refused = false }
+
+-- after one more line, with this state, this held by the writer, and whether a line was refused
+abbrev pub standing_next : {S : Type 0} → Standing S → S → Option (List ℕ) → Bool → Standing S
+standing_next s next new refused = record s { state = next; now = new; refused = refused }
+
 -- these lines are left of all that are read
-pub record HasResponded {S : Type 0} (r : Response S) (lines left : List (List ℕ)) (first state : S) (old now : Option (List ℕ)) (refused : Bool) : Type 0 where
+pub record HasResponded {S : Type 0} (r : Response S) (lines left : List (List ℕ)) (s : Standing S) : Type 0 where
   pub front : List (List ℕ)
   pub whole : lines ≡ front ++ left
-  pub done : Responds r front first state old now refused
+  pub done : Responds r front s.first s.state s.old s.now s.refused
 
-pub responded_none : {S : Type 0} (r : Response S) (lines : List (List ℕ)) (first : S) (old : Option (List ℕ)) → HasResponded r lines lines first first old old false
+pub responded_none : {S : Type 0} (r : Response S) (lines : List (List ℕ)) (first : S) (old : Option (List ℕ))
+    → HasResponded r lines lines (standing_first first old)
 responded_none r lines first old = record { front = []; whole = refl; done = responds_none r first old }
 
-one_line : {S : Type 0} (r : Response S) (lines left more : List (List ℕ)) (line seen : List ℕ) (first state next : S) (old now new : Option (List ℕ)) (refused refused' : Bool)
-    → HasResponded r lines left first state old now refused → left ≡ line ∷ more → saying_of line ≡ saying_of seen
-    → Appends now new (saying_text r.text state (saying_of seen)) → next ≡ state_after_saying r.after state (saying_of seen)
-    → refused' ≡ (refused || is_saying_refused r.refuses (saying_of seen)) → HasResponded r lines more first next old new refused'
-one_line r lines left more line seen first state next old now new refused refused' h is same written moved counted = record {
+one_line : {S : Type 0} (r : Response S) (lines left more : List (List ℕ)) (line seen : List ℕ) (s : Standing S) (next : S) (new : Option (List ℕ)) (refused : Bool)
+    → HasResponded r lines left s → left ≡ line ∷ more → saying_of line ≡ saying_of seen
+    → Appends s.now new (saying_text r.text s.state (saying_of seen)) → next ≡ state_after_saying r.after s.state (saying_of seen)
+    → refused ≡ (s.refused || is_saying_refused r.refuses (saying_of seen)) → HasResponded r lines more (standing_next s next new refused)
+one_line r lines left more line seen s next new refused h is same written moved counted = record {
   front = h.front ++ line ∷ [];
   whole = h.whole ∙ ap (λ l. h.front ++ l) is ∙ sym (append_assoc h.front (line ∷ []) more);
-  done = responds_more r h.front line seen first state next old now new refused refused' h.done same written moved counted;
+  done = responds_more r h.front line seen s.first s.state next s.old s.now new s.refused refused h.done same written moved counted;
 }
 
 -- all lines that are read
-pub responded_all : {S : Type 0} (r : Response S) (lines : List (List ℕ)) (first state : S) (old now : Option (List ℕ)) (refused : Bool)
-    → HasResponded r lines [] first state old now refused → Responds r lines first state old now refused
-responded_all r lines first state old now refused h =
-    subst (λ l. Responds r l first state old now refused) (sym (h.whole ∙ append-nil h.front)) h.done
+pub responded_all : {S : Type 0} (r : Response S) (lines : List (List ℕ)) (s : Standing S)
+    → HasResponded r lines [] s → Responds r lines s.first s.state s.old s.now s.refused
+responded_all r lines s h =
+    subst (λ l. Responds r l s.first s.state s.old s.now s.refused) (sym (h.whole ∙ append-nil h.front)) h.done
 
 -- a command that broke off
-pub responded_front : {S : Type 0} (r : Response S) (lines left : List (List ℕ)) (first state : S) (old now new : Option (List ℕ)) (refused : Bool)
-    → HasResponded r lines left first state old now refused → Keeps now new → WroteFront (lines_text r.text r.after first) lines [] old new
-responded_front r lines left first state old now new refused h kept = record {
+pub responded_front : {S : Type 0} (r : Response S) (lines left : List (List ℕ)) (s : Standing S) (new : Option (List ℕ))
+    → HasResponded r lines left s → Keeps s.now new → WroteFront (lines_text r.text r.after s.first) lines [] s.old new
+responded_front r lines left s new h kept = record {
   front = h.front;
   rest = left;
   whole = h.whole;
-  written = subst (Appends old new) (sym (append-nil (lines_text r.text r.after first h.front))) (Appends-kept old now new _ h.done.text_is kept);
+  written = subst (Appends s.old new) (sym (append-nil (lines_text r.text r.after s.first h.front))) (Appends-kept s.old s.now new _ h.done.text_is kept);
 }
 
 -- which lines are read from a line on
@@ -136,76 +154,76 @@ read_on r state next line seen lines b same e is =
     ap (λ s. line ∷ cond (r.over s) [] (lines_read r.after r.over s lines)) there ∙ ap (λ o. line ∷ cond o [] (lines_read r.after r.over next lines)) is
 
 -- a line of which `seen` is what it says, where the command is over after it, or is not
-pub line_read : {S : Type 0} (r : Response S) (b : Bool) (lines : List (List ℕ)) (rest later : List ℕ) (line seen : List ℕ) (first state next : S) (old now new : Option (List ℕ)) (refused refused' : Bool)
-    → HasResponded r lines (input_read r state rest) first state old now refused → lines_of rest ≡ line ∷ lines_of later → saying_of line ≡ saying_of seen
-    → Appends now new (saying_text r.text state (saying_of seen)) → next ≡ state_after_saying r.after state (saying_of seen)
-    → refused' ≡ (refused || is_saying_refused r.refuses (saying_of seen)) → r.over next ≡ b
-    → HasResponded r lines (cond b [] (input_read r next later)) first next old new refused'
-line_read r b lines rest later line seen first state next old now new refused refused' h taken same written moved counted is =
-    one_line r lines _ _ line seen first state next old now new refused refused' h
-    (ap (lines_read r.after r.over state) taken ∙ read_on r state next line seen (lines_of later) b same moved is) same written moved counted
+pub line_read : {S : Type 0} (r : Response S) (b : Bool) (lines : List (List ℕ)) (rest later : List ℕ) (line seen : List ℕ) (s : Standing S) (next : S) (new : Option (List ℕ)) (refused : Bool)
+    → HasResponded r lines (input_read r s.state rest) s → lines_of rest ≡ line ∷ lines_of later → saying_of line ≡ saying_of seen
+    → Appends s.now new (saying_text r.text s.state (saying_of seen)) → next ≡ state_after_saying r.after s.state (saying_of seen)
+    → refused ≡ (s.refused || is_saying_refused r.refuses (saying_of seen)) → r.over next ≡ b
+    → HasResponded r lines (cond b [] (input_read r next later)) (standing_next s next new refused)
+line_read r b lines rest later line seen s next new refused h taken same written moved counted is =
+    one_line r lines _ _ line seen s next new refused h
+    (ap (lines_read r.after r.over s.state) taken ∙ read_on r s.state next line seen (lines_of later) b same moved is) same written moved counted
 
 -- ---- the lines of a reader, where its bytes are known
 
-pub record Responding {S : Type 0} (r : Response S) (read left : Option (List ℕ)) (first state : S) (old now : Option (List ℕ)) (refused : Bool) : Type 0 where
-  pub so_far : IfSome read (λ input. (rest : List ℕ) × (left ≡ Some rest) × HasResponded r (input_read r first input) (input_read r state rest) first state old now refused)
+pub record Responding {S : Type 0} (r : Response S) (read left : Option (List ℕ)) (s : Standing S) : Type 0 where
+  pub so_far : IfSome read (λ input. (rest : List ℕ) × (left ≡ Some rest) × HasResponded r (input_read r s.first input) (input_read r s.state rest) s)
 
-pub Responding-none : {S : Type 0} (r : Response S) (read : Option (List ℕ)) (first : S) (old : Option (List ℕ)) → Responding r read read first first old old false
+pub Responding-none : {S : Type 0} (r : Response S) (read : Option (List ℕ)) (first : S) (old : Option (List ℕ)) → Responding r read read (standing_first first old)
 Responding-none r None first old = record { so_far = tt }
 Responding-none r (Some input) first old = record { so_far = (input, refl, responded_none r (input_read r first input) first old) }
 
 -- what is left where the command is over, or is not
-pub record RespondsOn {S : Type 0} (r : Response S) (b : Bool) (read left : Option (List ℕ)) (first state : S) (old now : Option (List ℕ)) (refused : Bool) : Type 0 where
-  pub so_far : IfSome read (λ input. (rest : List ℕ) × (left ≡ Some rest) × HasResponded r (input_read r first input) (cond b [] (input_read r state rest)) first state old now refused)
+pub record RespondsOn {S : Type 0} (r : Response S) (b : Bool) (read left : Option (List ℕ)) (s : Standing S) : Type 0 where
+  pub so_far : IfSome read (λ input. (rest : List ℕ) × (left ≡ Some rest) × HasResponded r (input_read r s.first input) (cond b [] (input_read r s.state rest)) s)
 
 -- one more line
-pub Responding-line : {S : Type 0} (r : Response S) (b : Bool) (read left later : Option (List ℕ)) (kept seen : List ℕ) (first state next : S) (old now mid new : Option (List ℕ)) (refused refused' : Bool)
-    → Responding r read left first state old now refused → IfSome left (λ input. TakesFirst input kept later) → seen ≡ kept
-    → Keeps now mid → Appends mid new (saying_text r.text state (saying_of seen)) → next ≡ state_after_saying r.after state (saying_of seen)
-    → refused' ≡ (refused || is_saying_refused r.refuses (saying_of seen)) → r.over next ≡ b → RespondsOn r b read later first next old new refused'
-Responding-line r b None left later kept seen first state next old now mid new refused refused' h taken s p written moved counted is = record { so_far = tt }
-Responding-line r b (Some input) left later kept seen first state next old now mid new refused refused' h taken s p written moved counted is =
+pub Responding-line : {S : Type 0} (r : Response S) (b : Bool) (read left later : Option (List ℕ)) (kept seen : List ℕ) (s : Standing S) (next : S) (mid new : Option (List ℕ)) (refused : Bool)
+    → Responding r read left s → IfSome left (λ input. TakesFirst input kept later) → seen ≡ kept
+    → Keeps s.now mid → Appends mid new (saying_text r.text s.state (saying_of seen)) → next ≡ state_after_saying r.after s.state (saying_of seen)
+    → refused ≡ (s.refused || is_saying_refused r.refuses (saying_of seen)) → r.over next ≡ b → RespondsOn r b read later (standing_next s next new refused)
+Responding-line r b None left later kept seen s next mid new refused h taken same p written moved counted is = record { so_far = tt }
+Responding-line r b (Some input) left later kept seen s next mid new refused h taken same p written moved counted is =
     let rest = h.so_far.0 in
     let t : TakesFirst rest kept later = subst (λ (o : Option (List ℕ)). IfSome o (λ i. TakesFirst i kept later)) h.so_far.1 taken in
-    let here : HasResponded r (input_read r first input) (input_read r state rest) first state old mid refused = kept_there input rest h.so_far.2 in
-    record { so_far = (t.after, t.left, line_read r b _ rest t.after t.line seen first state next old mid new refused refused' here t.lines (sym (ap saying_of (s ∙ t.is_kept) ∙ saying_of-kept t.line)) written moved counted is) }
+    let here : HasResponded r (input_read r s.first input) (input_read r s.state rest) (record s { now = mid }) = kept_there input rest h.so_far.2 in
+    record { so_far = (t.after, t.left, line_read r b _ rest t.after t.line seen (record s { now = mid }) next new refused here t.lines (sym (ap saying_of (same ∙ t.is_kept) ∙ saying_of-kept t.line)) written moved counted is) }
   where
-    kept_there : (input rest : List ℕ) → HasResponded r (input_read r first input) (input_read r state rest) first state old now refused
-        → HasResponded r (input_read r first input) (input_read r state rest) first state old mid refused
+    kept_there : (input rest : List ℕ) → HasResponded r (input_read r s.first input) (input_read r s.state rest) s
+        → HasResponded r (input_read r s.first input) (input_read r s.state rest) (record s { now = mid })
     kept_there input rest h = record {
       front = h.front;
       whole = h.whole;
-      done = record { text_is = Appends-kept old now mid _ h.done.text_is p; state_is = h.done.state_is; refused_is = h.done.refused_is };
+      done = record { text_is = Appends-kept s.old s.now mid _ h.done.text_is p; state_is = h.done.state_is; refused_is = h.done.refused_is };
     }
 
-pub Responding-goes_on : {S : Type 0} (r : Response S) (read left : Option (List ℕ)) (first state : S) (old now : Option (List ℕ)) (refused : Bool)
-    → RespondsOn r false read left first state old now refused → Responding r read left first state old now refused
-Responding-goes_on r read left first state old now refused h = record { so_far = h.so_far }
+pub Responding-goes_on : {S : Type 0} (r : Response S) (read left : Option (List ℕ)) (s : Standing S)
+    → RespondsOn r false read left s → Responding r read left s
+Responding-goes_on r read left s h = record { so_far = h.so_far }
 
-pub Responding-over : {S : Type 0} (r : Response S) (read left : Option (List ℕ)) (first state : S) (old now : Option (List ℕ)) (refused : Bool)
-    → RespondsOn r true read left first state old now refused → RespondsTo r read first state old now refused
-Responding-over r None left first state old now refused h = tt
-Responding-over r (Some input) left first state old now refused h = responded_all r (input_read r first input) first state old now refused h.so_far.2
+pub Responding-over : {S : Type 0} (r : Response S) (read left : Option (List ℕ)) (s : Standing S)
+    → RespondsOn r true read left s → RespondsTo r read s.first s.state s.old s.now s.refused
+Responding-over r None left s h = tt
+Responding-over r (Some input) left s h = responded_all r (input_read r s.first input) s h.so_far.2
 
 -- at the end of the input
-pub Responding-end : {S : Type 0} (r : Response S) (read left later : Option (List ℕ)) (first state : S) (old now mid new : Option (List ℕ)) (refused : Bool)
-    → Responding r read left first state old now refused → IfSome left (λ input. (input ≡ []) × (later ≡ Some []))
-    → Keeps now mid → Keeps mid new → RespondsTo r read first state old new refused
-Responding-end r None left later first state old now mid new refused h end p q = tt
-Responding-end r (Some input) left later first state old now mid new refused h end p q =
+pub Responding-end : {S : Type 0} (r : Response S) (read left later : Option (List ℕ)) (s : Standing S) (mid new : Option (List ℕ))
+    → Responding r read left s → IfSome left (λ input. (input ≡ []) × (later ≡ Some []))
+    → Keeps s.now mid → Keeps mid new → RespondsTo r read s.first s.state s.old new s.refused
+Responding-end r None left later s mid new h end p q = tt
+Responding-end r (Some input) left later s mid new h end p q =
     let none = subst (λ (o : Option (List ℕ)). IfSome o (λ i. (i ≡ []) × (later ≡ Some []))) h.so_far.1 end in
-    let all = responded_all r (input_read r first input) first state old now refused (subst (λ i. HasResponded r (input_read r first input) (input_read r state i) first state old now refused) none.0 h.so_far.2) in
+    let all = responded_all r (input_read r s.first input) s (subst (λ i. HasResponded r (input_read r s.first input) (input_read r s.state i) s) none.0 h.so_far.2) in
     record {
-      text_is = Appends-kept old mid new _ (Appends-kept old now mid _ all.text_is p) q;
+      text_is = Appends-kept s.old mid new _ (Appends-kept s.old s.now mid _ all.text_is p) q;
       state_is = all.state_is;
       refused_is = all.refused_is;
     }
 
 -- where it broke off
-pub Responding-broken : {S : Type 0} (r : Response S) (read left : Option (List ℕ)) (first state : S) (old now new : Option (List ℕ)) (refused : Bool)
-    → Responding r read left first state old now refused → Keeps now new → BreaksOffAt r read first old new
-Responding-broken r None left first state old now new refused h kept = tt
-Responding-broken r (Some input) left first state old now new refused h kept = responded_front r (input_read r first input) _ first state old now new refused h.so_far.2 kept
+pub Responding-broken : {S : Type 0} (r : Response S) (read left : Option (List ℕ)) (s : Standing S) (new : Option (List ℕ))
+    → Responding r read left s → Keeps s.now new → BreaksOffAt r read s.first s.old new
+Responding-broken r None left s new h kept = tt
+Responding-broken r (Some input) left s new h kept = responded_front r (input_read r s.first input) _ s new h.so_far.2 kept
 
 -- a line keeps what holds between two messages
 pub stays_ready_line : {S : Type 0} (after : S → List ℕ → S) (IsReady : S → Type 0) → ((s : S) (m : List ℕ) → IsReady s → IsReady (after s m))

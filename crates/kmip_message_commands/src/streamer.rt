@@ -86,7 +86,8 @@ impl Streamer {
 /// Where there is no memory for it.
 fn next_message(alloc: Global, framer: &mut Framer) -> Result<Option<Vec<u8>>, NoMemory>
     requires { fault_in framer.old ≡ None }
-    ensures { IfOk result (λ next. Hands (λ message. message.items) (Ok next) framer.old framer.new) }
+    ensures { IfOk result (λ next. Hands (λ message. message.items) (Ok next) framer.old
+        framer.new) }
 {
     match framer.next(alloc) {
         Ok(next) => Ok(next),

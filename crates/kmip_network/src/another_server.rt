@@ -1,5 +1,7 @@
 //! A progress file that was kept against another server.
-use std::io::{self};
+use crate::reporting::push_reason;
+use kmip_ttlv::NoMemory;
+use std::alloc::Global;
 
 /// A progress file that was kept against another server.
 #[derive(Drop)]
@@ -13,10 +15,9 @@ pub struct AnotherServer {
 }
 
 impl AnotherServer {
-    /// Tells which two servers, and the two ways on.
-    pub(crate) fn tell(&self, rt: &HostRuntime) -> io::Result<()> {
+    /// Tells on standard error which two servers, and the two ways on.
+    pub(crate) fn explain(&self, rt: &HostRuntime) {
         let (path, before, now) = (&self.path, &self.before, &self.now);
-        rt.println(format_args!("progress of another server: {path}"))?;
         let _ = rt.eprintln(format_args!(
             "{path} was kept against {before}; this run is to ask {now}"
         ));
@@ -28,6 +29,16 @@ impl AnotherServer {
                 "{name} is known to be destroyed: with --afresh a server that forgets destroyed objects would make it again"
             ));
         }
-        Ok(())
+    }
+
+    /// Appends the document that says which two servers.
+    ///
+    /// # Errors
+    /// Where there is no memory for it.
+    pub(crate) fn push_document(&self, alloc: Global, text: &mut Vec<u8>) -> Result<(), NoMemory> {
+        let (before, now) = (&self.before, &self.now);
+        let why = format_args!("it was kept against {before}; this run is to ask {now}");
+        let fault = "progress of another server";
+        push_reason(alloc, fault, self.path.as_str(), why, text)
     }
 }

@@ -1,24 +1,29 @@
 //! The program `run`, over sockets and a file.
+ghost use Rattle.std.specs.Prelude.{IsTrue};
+ghost use Rattle.kmip_messages.specs.Members.{may_have};
 
 use crate::believing::progress_to_begin_with;
 use crate::cannot::Cannot;
 use crate::causes::tell_cause;
+use crate::ending::push_end;
 use crate::linking::{loopback, tcp_link, unix_link};
 use crate::locking::locked;
 use crate::metrics_file::MetricsFile;
 use crate::plan_file::PlanFile;
 use crate::reading::plan_at;
+use crate::reporting::print_documents;
 use crate::told::standard_output;
 use crate::trouble::Trouble;
 use kmip_account::{Account, Teller, Watch};
-use kmip_choices::{Peer, RunOptions};
+use kmip_choices::{Format, Peer, RunOptions};
 use kmip_files::ProgressFile;
 use kmip_message_commands::ExitStatus;
-use kmip_plan_commands::{RunInput, batch_of};
+use kmip_plan_commands::{RunInput, batch_of, run_to_end};
 use kmip_protocol::Link;
 use kmip_runs::{Keeper, Observed, SaveFault};
+use kmip_ttlv::NoMemory;
 use std::alloc::Global;
-use std::io::{BufWriter, ErrorKind};
+use std::io::{BufWriter, Error, ErrorKind};
 use std::time::Duration;
 
 /// Keeps what is known in a file. No clause speaks of a file's bytes.
@@ -28,6 +33,8 @@ struct FileKeeper<'a> {
     account: &'a Account<'a>,
     /// How often the file could not be written.
     refusals: u64,
+    /// Why it could not, the last time.
+    failure: Option<Error>,
 }
 
 impl<'a> Keeper for FileKeeper<'a> {
@@ -48,6 +55,7 @@ impl<'a> Keeper for FileKeeper<'a> {
                     &error,
                 );
                 self.refusals = self.refusals.saturating_add(1);
+                self.failure = Some(error);
                 Err(SaveFault::Output)
             }
         }
@@ -89,6 +97,7 @@ fn run_on(
         file: progress,
         account: &account,
         refusals: 0,
+        failure: None,
     };
     let status = run_with(rt, options, saved, &mut keeper);
     if let Some(metrics) = &metrics {
@@ -138,21 +147,61 @@ fn run_over<L: Link + Drop>(
     let account = keeper.account;
     let mut link = Observed::new(link, Teller::new(account));
     let mut watch = Watch::new(account, first_wait(options), options.give_up);
-    let mut writer = BufWriter::new(rt.alloc(), standard_output(rt))?;
-    let status = kmip_plan_commands::run_plan(
-        rt.alloc(),
-        account.plan(),
-        &input,
-        saved,
-        &mut link,
-        keeper,
-        &mut watch,
-        &mut writer,
-    );
+    let status = match options.format {
+        Format::Text => run_in_text(&input, saved, &mut link, keeper, &mut watch)?,
+        Format::Json => run_in_json(&input, saved, &mut link, keeper, &mut watch),
+    };
     if keeper.refusals == 0 && !matches!(status, ExitStatus::Failed(_)) {
         tell_end(account, watch.has_given_up());
     }
     Ok(status)
+}
+
+/// Carries out the plan, and prints in lines how that ended.
+fn run_in_text<L: Link>(
+    input: &RunInput<'_>,
+    saved: Option<&str>,
+    link: &mut L,
+    keeper: &mut FileKeeper<'_>,
+    watch: &mut Watch<'_>,
+) -> Result<ExitStatus, Trouble>
+    requires { IsTrue (may_have input.now.batch) }
+{
+    let (rt, plan) = (keeper.account.rt(), keeper.account.plan());
+    let mut writer = BufWriter::new(rt.alloc(), standard_output(rt))?;
+    Ok(kmip_plan_commands::run_plan(
+        rt.alloc(),
+        plan,
+        input,
+        saved,
+        link,
+        keeper,
+        watch,
+        &mut writer,
+    ))
+}
+
+/// Carries out the plan, and prints in documents how that ended.
+fn run_in_json<L: Link>(
+    input: &RunInput<'_>,
+    saved: Option<&str>,
+    link: &mut L,
+    keeper: &mut FileKeeper<'_>,
+    watch: &mut Watch<'_>,
+) -> ExitStatus
+    requires { IsTrue (may_have input.now.batch) }
+{
+    let account = keeper.account;
+    let (rt, plan) = (account.rt(), account.plan());
+    let mut documents = Vec::new(rt.alloc());
+    let made = match run_to_end(rt.alloc(), plan, input, saved, link, keeper, watch) {
+        Ok(end) => {
+            let failure = keeper.failure.as_ref();
+            push_end(account, input.path, failure, &end, &mut documents)
+        }
+        Err(NoMemory) => Err(NoMemory),
+    };
+    print_documents(rt, made, documents.as_slice())
 }
 
 /// Tells why keys are not finished, and that the run was given up, where it was. What there is no memory

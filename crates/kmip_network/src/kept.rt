@@ -2,6 +2,7 @@
 use crate::another_server::AnotherServer;
 use crate::believing::{destroyed_key, knows_anything};
 use crate::cannot::Cannot;
+use crate::obstacle::Obstacle;
 use crate::origin::{Origin, server_text};
 use crate::reading::plan_name;
 use crate::recalling::{judge_attributes, origin_of};
@@ -105,12 +106,12 @@ impl<'a> Kept<'a> {
             Some(name) => Some(String::from_str(alloc, name)?),
             None => None,
         };
-        Ok(Trouble::AnotherServer(AnotherServer {
+        Ok(Trouble::from(Obstacle::AnotherServer(AnotherServer {
             path: String::from_str(alloc, self.options.progress.as_str())?,
             before: origin.server_text(alloc)?,
             now: server_text(alloc, self.server.as_str())?,
             destroyed,
-        }))
+        })))
     }
 
     /// Tells that all keys are finished by the file alone, as a run asks nothing then.

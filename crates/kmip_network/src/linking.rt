@@ -1,6 +1,7 @@
 //! Links to the server that was named.
 
 use crate::cannot::Cannot;
+use crate::obstacle::Obstacle;
 use crate::serving::new_server;
 use crate::telling_dial::TellingDial;
 use crate::trouble::Trouble;
@@ -49,5 +50,5 @@ pub(crate) fn loopback<'a>(
     rt: &'a HostRuntime,
     limit: Duration,
 ) -> Result<Loopback<&'a HostRuntime, IndexedStore>, Trouble> {
-    Loopback::new(rt, new_server(rt), limit).map_err(|_fault| Trouble::NoPort)
+    Loopback::new(rt, new_server(rt), limit).map_err(|_fault| Trouble::Refused(Obstacle::NoPort))
 }

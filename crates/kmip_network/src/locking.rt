@@ -1,6 +1,7 @@
 //! The progress file, of one run at a time.
 
 use crate::cannot::Cannot;
+use crate::obstacle::Obstacle;
 use crate::recalling::progress_file_at;
 use crate::trouble::Trouble;
 use kmip_files::{LockFault, ProgressFile, ProgressLock};
@@ -29,7 +30,7 @@ pub(crate) fn locked<'a>(
         Ok(lock) => Ok((file, lock)),
         Err(LockFault::InUse) => {
             let path = String::from_str(rt.alloc(), path)?;
-            Err(Trouble::InUse(path))
+            Err(Trouble::from(Obstacle::InUse(path)))
         }
         Err(LockFault::Io(error)) => {
             let beside = file.lock_path()?;

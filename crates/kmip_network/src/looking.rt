@@ -1,4 +1,7 @@
 //! The program `look`, over sockets.
+ghost use Rattle.std.specs.Prelude.{◌≡◌, ◌++◌, IfOk, OnOk, not};
+ghost use Rattle.kmip_json.specs.LookJson.{look_lines};
+ghost use Rattle.kmip_look_command.specs.LookText.{are_all_finished};
 
 use crate::cannot::Cannot;
 use crate::last_answer::LastAnswer;
@@ -6,15 +9,20 @@ use crate::linking::{loopback, tcp_link, unix_link};
 use crate::look_pause::LookPause;
 use crate::look_watcher::LookWatcher;
 use crate::reading::plan_at;
+use crate::reporting::print_documents;
 use crate::told::standard_output;
 use crate::trouble::Trouble;
-use kmip_choices::{LookOptions, Peer};
-use kmip_look_command::run_look;
+use kmip_choices::{Format, LookOptions, Peer};
+use kmip_json::push_look;
+use kmip_look::{Looked, look};
+use kmip_look_command::{run_look, verdicts_on};
 use kmip_message_commands::ExitStatus;
-use kmip_plan::Plan;
+use kmip_plan::{Key, Plan};
 use kmip_plan_commands::batch_of;
 use kmip_protocol::Link;
-use kmip_runs::Observed;
+use kmip_runs::{Observed, finished_count};
+use kmip_ttlv::NoMemory;
+use std::alloc::Global;
 use std::io::BufWriter;
 use std::random::RandomSource;
 use std::time::Duration;
@@ -65,20 +73,62 @@ fn look_over<L: Link + Drop>(
     let last = LastAnswer::none_yet(rt);
     let mut link = Observed::new(link, LookWatcher::new(rt, &last, &mark, options.is_verbose));
     let mut pause = LookPause::new(rt, &last, first_wait, options.give_up);
-    let mut writer = BufWriter::new(rt.alloc(), standard_output(rt))?;
-    let status = run_look(
-        rt.alloc(),
-        plan,
-        &mut link,
-        &mark,
-        batch_of(options.batch),
-        &mut pause,
-        &mut writer,
-    );
+    let batch = batch_of(options.batch);
+    let status = match options.format {
+        Format::Text => {
+            let mut writer = BufWriter::new(rt.alloc(), standard_output(rt))?;
+            run_look(
+                rt.alloc(),
+                plan,
+                &mut link,
+                &mark,
+                batch,
+                &mut pause,
+                &mut writer,
+            )
+        }
+        Format::Json => {
+            let looked = look(rt.alloc(), plan, &mut link, &mark, batch, &mut pause);
+            print_looked(rt, plan.keys(), looked)
+        }
+    };
     if pause.has_given_up() {
         tell_given_up(rt, options.give_up);
     }
     Ok(status)
+}
+
+/// Prints the documents of how the keys stand, if it is known. Says how the program ends.
+fn print_looked(
+    rt: &HostRuntime,
+    keys: &[Key],
+    looked: Result<Vec<Looked>, NoMemory>,
+) -> ExitStatus {
+    let mut documents = Vec::new(rt.alloc());
+    let made = match looked {
+        Ok(lookeds) => push_looked(rt.alloc(), keys, lookeds.as_slice(), &mut documents),
+        Err(NoMemory) => Err(NoMemory),
+    };
+    print_documents(rt, made, documents.as_slice())
+}
+
+/// Appends the documents of how the keys stand. Says whether one is not finished.
+///
+/// # Errors
+/// Where there is no memory for them.
+fn push_looked(
+    alloc: Global,
+    keys: &[Key],
+    lookeds: &[Looked],
+    text: &mut Vec<u8>,
+) -> Result<bool, NoMemory>
+    ensures text { OnOk result (text.new.items
+        ≡ text.old.items ++ look_lines keys.now lookeds.now) }
+    ensures refused { IfOk result (λ r. r ≡ not (are_all_finished keys.now lookeds.now)) }
+{
+    let verdicts = verdicts_on(alloc, keys, lookeds)?;
+    push_look(alloc, keys, lookeds, text)?;
+    Ok(finished_count(verdicts.as_slice()) != keys.len())
 }
 
 /// A mark that no look had before: random bytes of the system.

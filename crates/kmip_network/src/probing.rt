@@ -2,14 +2,17 @@
 
 use crate::asking_again::AskingAgain;
 use crate::linking::{loopback, tcp_link, unix_link};
+use crate::reporting::print_documents;
 use crate::told::standard_output;
 use crate::trouble::Trouble;
 use crate::watcher::Watcher;
-use kmip_choices::{Peer, ProbeOptions};
-use kmip_message_commands::ExitStatus;
-use kmip_probe_command::run_probe;
+use kmip_choices::{Format, Peer, ProbeOptions};
+use kmip_json::JsonLines;
+use kmip_message_commands::{CommandFault, ExitStatus};
+use kmip_probe_command::{PlainText, probe, run_probe};
 use kmip_protocol::Link;
 use kmip_runs::Observed;
+use kmip_ttlv::NoMemory;
 use std::io::BufWriter;
 use std::time::Duration;
 
@@ -46,5 +49,22 @@ fn probe_over<L: Link + Drop>(
     let mut link = AskingAgain::new(told);
     let mut writer = BufWriter::new(rt.alloc(), standard_output(rt))?;
     let prefix = options.prefix.as_str();
-    Ok(run_probe(rt.alloc(), prefix, &mut link, &mut writer))
+    match options.format {
+        Format::Text => Ok(run_probe(rt.alloc(), prefix, &PlainText, &mut link, &mut writer)),
+        Format::Json => {
+            let ended = probe(rt.alloc(), prefix, &JsonLines, &mut link, &mut writer);
+            Ok(status_in_json(rt, ended))
+        }
+    }
+}
+
+/// How the program ends after a probe whose documents are printed. Want of memory has its own document,
+/// which is printed here.
+fn status_in_json(rt: &HostRuntime, ended: Result<bool, CommandFault>) -> ExitStatus {
+    match ended {
+        Ok(false) => ExitStatus::Done,
+        Ok(true) => ExitStatus::Refused,
+        Err(CommandFault::NoMemory) => print_documents(rt, Err(NoMemory), &[]),
+        Err(fault) => ExitStatus::Failed(fault),
+    }
 }

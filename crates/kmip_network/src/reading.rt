@@ -1,6 +1,7 @@
 //! The texts of files and of standard input, and of plans among them.
 ghost use Rattle.std.specs.Prelude.{◌≡◌, ◌≢◌, codes};
 
+use crate::obstacle::Obstacle;
 use crate::plan_file::PlanFile;
 use crate::told::{STANDARD_INPUT, tell_of_terminal};
 use crate::trouble::Trouble;
@@ -22,7 +23,7 @@ pub fn plan_at(rt: &HostRuntime, path: &str) -> Result<PlanFile, Trouble> {
         Err(PlanFault::NoMemory) => Err(Trouble::Io(Error::from(ErrorKind::OutOfMemory))),
         Err(fault) => {
             let name = String::from_str(rt.alloc(), plan_name(path))?;
-            Err(Trouble::NoPlan(name, text, fault))
+            Err(Trouble::from(Obstacle::NoPlan(name, text, fault)))
         }
     }
 }

@@ -1,6 +1,7 @@
 //! A progress file, and where it was kept.
 
 use crate::cannot::Cannot;
+use crate::obstacle::Obstacle;
 use crate::origin::Origin;
 use crate::trouble::Trouble;
 use kmip_files::{MOST_PROGRESS_BYTES, ProgressFile};
@@ -30,7 +31,7 @@ pub(crate) fn origin_of(
     match file.read_origin() {
         Ok(None) => Ok(None),
         Ok(Some(text)) => match Origin::read(rt.alloc(), text.as_str())? {
-            None if !is_believed => Err(Trouble::NoOrigin(file.origin_path()?)),
+            None if !is_believed => Err(Trouble::from(Obstacle::NoOrigin(file.origin_path()?))),
             origin => Ok(origin),
         },
         Err(error) if is_believed && error.kind() != ErrorKind::OutOfMemory => Ok(None),
@@ -54,7 +55,7 @@ pub(crate) fn judge_attributes(
     match origin.difference(rt.alloc(), keys)? {
         Some(difference) => {
             let path = String::from_str(rt.alloc(), file.given_path())?;
-            Err(Trouble::OtherAttributes(path, difference))
+            Err(Trouble::from(Obstacle::OtherAttributes(path, difference)))
         }
         None => Ok(()),
     }

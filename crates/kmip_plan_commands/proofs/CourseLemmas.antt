@@ -52,7 +52,7 @@ state_at s = run_state s.link s.keeper s.is_tired
 came : (limit : ℕ) (old new : Stage) (r : Result Stop SaveFault) (made : ℕ) → IsInMemory r → CarriesOut limit old r made new
     → Came limit old.client.batch (λ keys. IsGood old.client old.link) (state_at old) (state_at new) old.client.keys old.client.knowns (outcome new.client.knowns r made)
 came limit old new r made whole carries = record {
-  kept = carries.forgets_nothing.kept;
+  forgets_nothing = carries.forgets_nothing.kept;
   learnt = λ h. (carries.honestly h).learns.1 whole;
   saved_are = carries.saved;
   settles = λ quiet ready within patient all.
@@ -123,7 +123,7 @@ came_for : (limit most : ℕ) (good other : List Key → Type 0) (old new : RunS
     → Came limit most other old new keys knowns o
 came_for limit most good other old new keys knowns o f c =
     record {
-      kept = c.kept;
+      forgets_nothing = c.forgets_nothing;
       learnt = c.learnt;
       saved_are = λ k. ((c.saved_are k).0, saved_for keys most (good keys) (other keys) _ _ _ o.result o.exchanges f (c.saved_are k).1);
       settles = c.settles;

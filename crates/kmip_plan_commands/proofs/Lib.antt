@@ -3,3 +3,4 @@ pub mod CourseLemmas
 pub mod LineLemmas
 mod ListingLemmas
 pub mod ProgressLineLemmas
+mod SimulatingLemmas

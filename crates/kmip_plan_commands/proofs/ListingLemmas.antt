@@ -8,6 +8,7 @@ use Rattle.kmip_client.specs.Knowledge.{chain_length}
 use Rattle.kmip_client.specs.declared.verdict.Verdict.{Verdict}
 use Rattle.kmip_runs.specs.Reporting.{identifier_text, verdict_word}
 use Rattle.kmip_plan_commands.specs.Listing.{list_line, without_end}
+use Rattle.kmip_plan_commands.specs.Standings.{standing}
 
 -- a line without its line feed is what stands before that
 without : (line : List ℕ) → without_end (line ++ codes "\n") ≡ line
@@ -25,7 +26,7 @@ pub line_is : (key : Key) (known : Known) (verdict : Verdict) (done steps : ℕ)
     → name ≡ key.attrs.name → target ≡ target_word key.target → done ≡ known.done → steps ≡ chain_length key → word ≡ verdict_word verdict
     → identifier ≡ identifier_text known.identifier
     → name ++ (codes " " ++ (target ++ (codes " " ++ (decimal done ++ (codes "/" ++ (decimal steps ++ (codes " " ++ (word ++ (codes " " ++ (identifier ++ codes "\n"))))))))))
-    ≡ list_line key known verdict
+    ≡ list_line (standing key known verdict)
 unfolding list_line
 line_is key known verdict done steps name target word identifier p q d r s t =
     rw (p, q, d, r, s, t)

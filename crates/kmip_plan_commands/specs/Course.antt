@@ -46,7 +46,7 @@ run_state link keeper is_tired = record { link = link; keeper = keeper; is_tired
 -- was known was true.
 pub record Came (limit most : ℕ) (good : List Key → Type 0) (old new : RunState) (keys : List Key) (knowns : List Knowledge) (outcome : Outcome) : Type 0 where
   -- No identifier or count is taken back.
-  pub kept : AllZip IsKept knowns outcome.knowns
+  pub forgets_nothing : AllZip IsKept knowns outcome.knowns
   -- Over an honest link, each message asked about keys of the plan. What is known then is what was known
   -- at first and what the exchanges handed over.
   pub learnt : old.link.honest (is_planned keys) → Learnt keys most old.link.past new.link.past knowns outcome.knowns outcome.exchanges

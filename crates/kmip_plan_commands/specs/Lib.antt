@@ -3,6 +3,12 @@
 -- what is written for a plan, alone or after an earlier one
 pub mod Checking
 -- What the definitions of this crate are for: what the command `sim` writes, and how it ends.
+
+-- how a simulation ended, for a plan, a further one and a script
+pub mod SimEnds
+-- what is printed of the end of a simulation
+pub mod SimEndText
+-- what `sim` writes
 pub mod Simulating
 -- What `run` writes, what its exchanges come to, and what stays safe.
 
@@ -18,6 +24,8 @@ pub mod Course
 pub mod Runs
 -- the line that says how far a run is
 pub mod ProgressLineText
+-- how the keys of a plan stand, by what is known of them and the verdicts on them
+pub mod Standings
 -- what `list` writes for a plan and a progress
 pub mod Listing
 -- private: what the parts of a run promise

@@ -1,6 +1,7 @@
 -- What `list` writes for what was read of a plan and of a progress, and `run` of what its client knows.
 -- Source: own (text): what the program prints.
-use Rattle.std.specs.Prelude.{ℕ, ◌-◌, Bool, true, false, List, [], ◌∷◌, ◌++◌, length, take, codes, Result, Ok, Err}
+use Rattle.std.specs.Prelude.{ℕ, ◌-◌, Bool, true, false, List, ◌++◌, length, take, codes, Result, Ok, Err}
+use Rattle.std.specs.List.{flat_map}
 use Rattle.kmip_plan.specs.declared.plan_fault.PlanFault.{PlanFault}
 use Rattle.kmip_plan.specs.declared.key.Key.{Key}
 use Rattle.kmip_progress.specs.Reading.{read_text}
@@ -13,26 +14,25 @@ use Rattle.kmip_client.specs.declared.verdict.Verdict.{Verdict}
 use Rattle.kmip_runs.specs.Reporting.{identifier_text, report_line, sum_line}
 use Rattle.kmip_plan_commands.specs.Checking.{plan_refusal_text}
 use Rattle.kmip_plan_commands.specs.ProgressRefusals.{progress_refusal_text}
+use Rattle.kmip_plan_commands.specs.Standings.{Standing, standings}
 
 -- A line without its line feed.
 abbrev pub without_end : List ℕ → List ℕ
 without_end line = take (length line - 1) line
 
 -- The line of a key: that of the report of `run`, and behind it the key's identifier.
-unfoldable pub list_line : Key → Known → Verdict → List ℕ
-list_line key known verdict =
-    without_end (report_line key known.done verdict) ++ codes " " ++ identifier_text known.identifier ++ codes "\n"
+unfoldable pub list_line : Standing → List ℕ
+list_line standing =
+    without_end (report_line standing.key standing.known.done standing.verdict)
+    ++ codes " " ++ identifier_text standing.known.identifier ++ codes "\n"
 
--- The lines of the keys, in the order of the plan.
-abbrev pub list_lines : List Key → List Known → List Verdict → List ℕ
-list_lines [] saved verdicts = []
-list_lines (key ∷ keys) [] verdicts = []
-list_lines (key ∷ keys) (known ∷ saved) [] = []
-list_lines (key ∷ keys) (known ∷ saved) (verdict ∷ verdicts) = list_line key known verdict ++ list_lines keys saved verdicts
+-- The lines of keys that stand so, in their order.
+abbrev pub list_lines : List Standing → List ℕ
+list_lines standings = flat_map list_line standings
 
 -- The lines of the keys by these verdicts, and the last line of the report.
 abbrev pub list_text_by : List Verdict → List Key → List Known → List ℕ
-list_text_by verdicts keys saved = list_lines keys saved verdicts ++ sum_line keys verdicts
+list_text_by verdicts keys saved = list_lines (standings keys saved verdicts) ++ sum_line keys verdicts
 
 -- The listing of what a client knows: the counts and identifiers that are kept of it, by its verdicts.
 abbrev pub client_listing : ClientState → List ℕ

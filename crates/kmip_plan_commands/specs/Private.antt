@@ -10,7 +10,7 @@ use Rattle.kmip_scripted.specs.declared.script_fault.ScriptFault.TheVariants.{Li
 use Rattle.kmip_scripted.specs.declared.word.Word.{Word}
 use Rattle.kmip_ttlv.specs.declared.no_memory.NoMemory.{NoMemory}
 use Rattle.kmip_plan_commands.specs.Checking.{check_after_text, IsRefusedAfter}
-use Rattle.kmip_plan_commands.specs.Simulating.{IsRefusedFor}
+use Rattle.kmip_plan_commands.specs.SimEnds.{IsRefusedFor}
 
 -- What reading a script gives in which `prolong` has to stand so often.
 abbrev pub GivesWords : List ℕ → ℕ → Result (List Word) ScriptFault → Type 0

@@ -12,9 +12,8 @@ use Rattle.kmip_plan.specs.declared.key.Key.{Key}
 use Rattle.kmip_plan.specs.declared.plan_fault.PlanFault.{PlanFault}
 use Rattle.kmip_protocol.specs.Past.{is_planned}
 use Rattle.kmip_protocol.specs.Seen.{Seen}
-use Rattle.kmip_runs.specs.Keeping.{Kept}
 use Rattle.kmip_ttlv.specs.declared.no_memory.NoMemory.{NoMemory}
-use Rattle.kmip_plan_commands.specs.Course.{AreUntouched, AsksFew, Came, IsGoodStart, KeepsSafe, RunState, run_state}
+use Rattle.kmip_plan_commands.specs.Course.{AsksFew, Came, IsGoodStart, KeepsSafe, RunState}
 use Rattle.kmip_plan_commands.specs.RunEnds.{EndsRun, Outcome}
 use Rattle.kmip_plan_commands.specs.RunText.{WritesEnd}
 use Rattle.kmip_plan_commands.specs.declared.run_end.RunEnd.{RunEnd}
@@ -41,13 +40,9 @@ pub record RunChange : Type 1 where
   -- That nothing was sent, and nothing was kept.
   pub untouched : Type 0
 
--- The change of these, by what is seen of each.
-abbrev pub run_change : {L K E : Type 0} → (L → Seen) → (K → Kept) → (E → Bool) → L → L → K → K → E → E → RunChange
-run_change seen kept is_tired link next_link keeper next_keeper patience next_patience = record {
-  before = run_state (seen link) (kept keeper) (is_tired patience);
-  after = run_state (seen next_link) (kept next_keeper) (is_tired next_patience);
-  untouched = AreUntouched link next_link keeper next_keeper;
-}
+-- The change from one state to another, where this says that nothing was sent, and nothing was kept.
+abbrev pub run_change : RunState → RunState → Type 0 → RunChange
+run_change before after untouched = record { before = before; after = after; untouched = untouched }
 
 -- How a call ended.
 pub record CallEnd : Type 1 where

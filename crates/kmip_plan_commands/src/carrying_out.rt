@@ -1,6 +1,7 @@
 //! A plan is carried out over a link, and what is known is kept after each exchange.
 ghost use Rattle.std.specs.Prelude.{IsTrue, option_map};
 ghost use Rattle.kmip_messages.specs.Members.{may_have};
+ghost use Rattle.kmip_plan_commands.specs.Course.{AreUntouched, run_state};
 ghost use Rattle.kmip_plan_commands.specs.PrivateRuns.{CarriesToEnd};
 ghost use Rattle.kmip_plan_commands.specs.Runs.{RunsPlan, call_to_end, run_change, run_start};
 
@@ -38,8 +39,10 @@ pub fn run_to_end<'a, L: Link, K: Keeper, E: Patience>(
     requires { IsTrue (may_have input.now.batch) }
     ensures { RunsPlan plan.now
         (run_start (option_map (λ text. text.now) saved.entry) input.now.batch input.now.limit)
-        (run_change L.seen K.kept E.has_given_up link.old link.new keeper.old keeper.new
-        patience.old patience.new)
+        (run_change
+        (run_state (L.seen link.old) (K.kept keeper.old) (E.has_given_up patience.old))
+        (run_state (L.seen link.new) (K.kept keeper.new) (E.has_given_up patience.new))
+        (AreUntouched link.old link.new keeper.old keeper.new))
         (call_to_end result) }
 {
     onward_is_an_order();
@@ -77,8 +80,10 @@ fn carry_to_end<L: Link, K: Keeper, E: Patience>(
     patience: &mut E,
 ) -> Result<(Option<Stop>, usize), NoMemory>
     ensures { CarriesToEnd client.old limit
-        (run_change L.seen K.kept E.has_given_up link.old link.new keeper.old keeper.new
-        patience.old patience.new)
+        (run_change
+        (run_state (L.seen link.old) (K.kept keeper.old) (E.has_given_up patience.old))
+        (run_state (L.seen link.new) (K.kept keeper.new) (E.has_given_up patience.new))
+        (AreUntouched link.old link.new keeper.old keeper.new))
         result client.new }
 {
     let (ended, exchanges) = carry_out(alloc, client, link, keeper, patience, limit);

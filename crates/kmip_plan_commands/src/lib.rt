@@ -11,12 +11,14 @@
 //!
 //! `sim` does the work and returns a fault as a value; `run_sim` also prints the fault and says how the
 //! program ends. `sim_bytes` does the same work in memory, where nothing but memory can fail.
+//! `sim_to_end` simulates alone, and `push_sim_end` says in words how that ended.
 //!
 //! The command `run`: carries out a plan, saves its progress, and reports on it. `run_to_end` does the
 //! work alone, and `push_run_end` says in words how it ended.
 //!
 //! The command `list`: what a progress says of each key of its plan. `list`, `run_list` and `list_bytes`
-//! stand to each other as those of `check`.
+//! stand to each other as those of `check`. `standings` says how each key stands, for what lists the
+//! keys in another form.
 #![tactic(auto)]
 
 mod batch;
@@ -25,12 +27,16 @@ mod carrying_out;
 mod checking;
 mod checking_after;
 mod ending;
+mod key_standing;
 mod line;
 mod listing;
+mod playing;
 mod run_end;
 mod run_input;
 mod run_tally;
 mod running;
+mod sim_end;
+mod sim_ending;
 mod sim_input;
 mod simulating;
 mod spent;
@@ -42,13 +48,17 @@ pub use carrying_out::run_to_end;
 pub use checking::{check, check_bytes, push_refusal, run_check};
 pub use checking_after::{check_after, check_after_bytes, run_check_after};
 pub use ending::push_run_end;
+pub use key_standing::{KeyStanding, standings};
 pub use kmip_choices::{Detail, Report};
 pub use line::progress_line;
 pub use listing::{list, list_bytes, run_list};
+pub use playing::sim_to_end;
 pub use run_end::RunEnd;
 pub use run_input::RunInput;
 pub use run_tally::RunTally;
 pub use running::{run, run_bytes, run_plan, run_run};
+pub use sim_end::SimEnd;
+pub use sim_ending::push_sim_end;
 pub use sim_input::SimInput;
 pub use simulating::{run_sim, sim, sim_bytes};
 pub use spent::Spent;

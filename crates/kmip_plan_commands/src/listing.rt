@@ -1,5 +1,5 @@
 //! The command `list`: what a progress says of each key of its plan.
-ghost use Rattle.std.specs.Prelude.{◌≡◌, ◌++◌, IfOk, OnOk, IfErr, OnErr, string_bytes};
+ghost use Rattle.std.specs.Prelude.{◌≡◌, ◌++◌, IfOk, OnOk, IfErr, OnErr, map, string_bytes};
 ghost use Rattle.std.specs.Io.KnownBytes.{Appends};
 ghost use Rattle.kmip_plan.specs.Reading.{plan_read};
 ghost use Rattle.kmip_progress.specs.Reading.{read_text};
@@ -16,7 +16,9 @@ ghost use Rattle.kmip_plan_commands.specs.Listing.{
   listing,
   progress_listing,
 };
+ghost use Rattle.kmip_plan_commands.specs.Standings.{standing_of};
 
+use crate::key_standing::{KeyStanding, standings};
 use crate::push_refusal;
 use crate::telling::push_progress_refusal;
 use kmip_client::{Client, Verdict};
@@ -186,49 +188,38 @@ fn push_text_by(
     ensures { OnOk result (text.new.items
         ≡ text.old.items ++ list_text_by verdicts.now keys.now saved.now) }
 {
-    push_lines(alloc, keys, saved, verdicts, text)?;
+    let standings = standings(alloc, keys, saved, verdicts)?;
+    push_lines(alloc, standings.as_slice(), text)?;
     let line = sum_line(alloc, keys, verdicts)?;
     push_text(line.as_bytes(), text)
 }
 
-/// Appends the lines of the keys.
+/// Appends the lines of keys that stand so.
 fn push_lines(
     alloc: Global,
-    keys: &[Key],
-    saved: &[Known],
-    verdicts: &[Verdict],
+    standings: &[KeyStanding<'_>],
     text: &mut Vec<u8>,
 ) -> Result<(), NoMemory>
     ensures { OnOk result (text.new.items
-        ≡ text.old.items ++ list_lines keys.now saved.now verdicts.now) }
+        ≡ text.old.items ++ list_lines (map standing_of standings.now)) }
 {
-    let mut saved_left = saved;
-    let mut verdicts_left = verdicts;
-    for key in keys {
-        let Some((known, saved_behind)) = saved_left.split_first() else {
-            return Ok(());
-        };
-        let Some((verdict, verdicts_behind)) = verdicts_left.split_first() else {
-            return Ok(());
-        };
-        let line = list_line(alloc, key, known, *verdict)?;
+    for standing in standings {
+        let line = list_line(alloc, standing)?;
         push_text(line.as_bytes(), text)?;
-        saved_left = saved_behind;
-        verdicts_left = verdicts_behind;
     }
     Ok(())
 }
 
-/// The line of a key.
-fn list_line(alloc: Global, key: &Key, known: &Known, verdict: Verdict) -> Result<String, NoMemory>
-    ensures { IfOk result (λ line. string_bytes line ≡ list_line key.now known.now verdict) }
+/// The line of a key that stands so.
+fn list_line(alloc: Global, standing: &KeyStanding<'_>) -> Result<String, NoMemory>
+    ensures { IfOk result (λ line. string_bytes line ≡ list_line (standing_of standing.now)) }
 {
-    let name = key.attrs.name.as_str();
-    let target = key.target.word();
-    let done = known.done;
-    let steps = chain_length(key);
-    let word = verdict_word(verdict);
-    let identifier = identifier_text(alloc, &known.identifier)?;
+    let name = standing.key.attrs.name.as_str();
+    let target = standing.key.target.word();
+    let done = standing.known.done;
+    let steps = chain_length(standing.key);
+    let word = verdict_word(standing.verdict);
+    let identifier = identifier_text(alloc, &standing.known.identifier)?;
     let line = format!(in alloc; "{name} {target} {done}/{steps} {word} {identifier}\n")?;
     Ok(line)
 }

@@ -5,6 +5,7 @@ ghost use Rattle.kmip_messages.specs.Members.{may_have};
 ghost use Rattle.kmip_plan.specs.Reading.{plan_read};
 ghost use Rattle.kmip_message_commands.specs.Private.{Fails};
 ghost use Rattle.kmip_plan_commands.specs.Checking.{is_memory, plan_refusal_text};
+ghost use Rattle.kmip_plan_commands.specs.Course.{AreUntouched, run_state};
 ghost use Rattle.kmip_plan_commands.specs.PrivateRuns.{call_on_printer};
 ghost use Rattle.kmip_plan_commands.specs.RunText.{is_end_refused, run_end_text};
 ghost use Rattle.kmip_plan_commands.specs.Runs.{RunsPlan, RunsText, call_ended, call_in_memory, call_on_writer, run_change, run_start};
@@ -40,8 +41,10 @@ pub fn run_run<L: Link, K: Keeper, E: Patience, W: Write>(
     requires { IsTrue (may_have input.now.batch) }
     ensures { RunsText (plan_read plan.now)
         (run_start (option_map (λ text. text.now) saved.entry) input.now.batch input.now.limit)
-        (run_change L.seen K.kept E.has_given_up link.old link.new keeper.old keeper.new
-        patience.old patience.new)
+        (run_change
+        (run_state (L.seen link.old) (K.kept keeper.old) (E.has_given_up patience.old))
+        (run_state (L.seen link.new) (K.kept keeper.new) (E.has_given_up patience.new))
+        (AreUntouched link.old link.new keeper.old keeper.new))
         (call_ended input.now.report input.now.path.now result
         (W.contents writer.old) (W.contents writer.new)) }
 {
@@ -64,8 +67,10 @@ pub fn run_plan<L: Link, K: Keeper, E: Patience, W: Write>(
     requires { IsTrue (may_have input.now.batch) }
     ensures { RunsPlan plan.now
         (run_start (option_map (λ text. text.now) saved.entry) input.now.batch input.now.limit)
-        (run_change L.seen K.kept E.has_given_up link.old link.new keeper.old keeper.new
-        patience.old patience.new)
+        (run_change
+        (run_state (L.seen link.old) (K.kept keeper.old) (E.has_given_up patience.old))
+        (run_state (L.seen link.new) (K.kept keeper.new) (E.has_given_up patience.new))
+        (AreUntouched link.old link.new keeper.old keeper.new))
         (call_ended input.now.report input.now.path.now result
         (W.contents writer.old) (W.contents writer.new)) }
 {
@@ -107,8 +112,10 @@ pub fn run<L: Link, K: Keeper, E: Patience, W: Write>(
     requires { IsTrue (may_have input.now.batch) }
     ensures { RunsText (plan_read plan.now)
         (run_start (option_map (λ text. text.now) saved.entry) input.now.batch input.now.limit)
-        (run_change L.seen K.kept E.has_given_up link.old link.new keeper.old keeper.new
-        patience.old patience.new)
+        (run_change
+        (run_state (L.seen link.old) (K.kept keeper.old) (E.has_given_up patience.old))
+        (run_state (L.seen link.new) (K.kept keeper.new) (E.has_given_up patience.new))
+        (AreUntouched link.old link.new keeper.old keeper.new))
         (call_on_writer input.now.report input.now.path.now result
         (W.contents writer.old) (W.contents writer.new)) }
 {
@@ -133,8 +140,10 @@ pub fn run_bytes<L: Link, K: Keeper, E: Patience>(
     requires { IsTrue (may_have input.now.batch) }
     ensures { RunsText (plan_read plan.now)
         (run_start (option_map (λ text. text.now) saved.entry) input.now.batch input.now.limit)
-        (run_change L.seen K.kept E.has_given_up link.old link.new keeper.old keeper.new
-        patience.old patience.new)
+        (run_change
+        (run_state (L.seen link.old) (K.kept keeper.old) (E.has_given_up patience.old))
+        (run_state (L.seen link.new) (K.kept keeper.new) (E.has_given_up patience.new))
+        (AreUntouched link.old link.new keeper.old keeper.new))
         (call_in_memory input.now.report input.now.path.now result
         output.old.items output.new.items) }
 {
@@ -176,8 +185,10 @@ fn run_to<L: Link, K: Keeper, E: Patience, P: Printer>(
     requires { IsTrue (may_have input.now.batch) }
     ensures { RunsText (plan_read plan.now)
         (run_start (option_map (λ text. text.now) saved.entry) input.now.batch input.now.limit)
-        (run_change L.seen K.kept E.has_given_up link.old link.new keeper.old keeper.new
-        patience.old patience.new)
+        (run_change
+        (run_state (L.seen link.old) (K.kept keeper.old) (E.has_given_up patience.old))
+        (run_state (L.seen link.new) (K.kept keeper.new) (E.has_given_up patience.new))
+        (AreUntouched link.old link.new keeper.old keeper.new))
         (call_on_printer input.now.report input.now.path.now result P.own_fault P.IsWhole
         (P.contents printer.old) (P.contents printer.new)) }
 {
@@ -229,8 +240,10 @@ fn run_plan_to<L: Link, K: Keeper, E: Patience, P: Printer>(
     requires { IsTrue (may_have input.now.batch) }
     ensures { RunsPlan plan.now
         (run_start (option_map (λ text. text.now) saved.entry) input.now.batch input.now.limit)
-        (run_change L.seen K.kept E.has_given_up link.old link.new keeper.old keeper.new
-        patience.old patience.new)
+        (run_change
+        (run_state (L.seen link.old) (K.kept keeper.old) (E.has_given_up patience.old))
+        (run_state (L.seen link.new) (K.kept keeper.new) (E.has_given_up patience.new))
+        (AreUntouched link.old link.new keeper.old keeper.new))
         (call_on_printer input.now.report input.now.path.now result P.own_fault P.IsWhole
         (P.contents printer.old) (P.contents printer.new)) }
 {

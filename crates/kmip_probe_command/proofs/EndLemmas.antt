@@ -1,5 +1,5 @@
 -- How the program ends after a command that reads nothing.
-use Rattle.std.proofs.Common.{◌≡◌, ◌≢◌, ℕ, Bool, true, false, List, Option, Result, Ok, Err, IfErr, sym}
+use Rattle.std.proofs.Common.{◌≢◌, ℕ, Bool, true, false, List, Option, Result, Ok, Err, IfErr, sym}
 use Rattle.kmip_message_commands.specs.Printing.{Finishes, IfFailed}
 use Rattle.kmip_message_commands.specs.declared.exit_status.ExitStatus.{ExitStatus}
 use Rattle.kmip_message_commands.specs.declared.exit_status.ExitStatus.TheVariants.{Done, Refused, Failed, Usage}

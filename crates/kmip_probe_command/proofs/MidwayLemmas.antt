@@ -1,25 +1,26 @@
 -- What has been written where a probe breaks off.
-use Rattle.std.proofs.Common.{◌≡◌, ◌≢◌, ◌≤◌, ℕ, Bool, true, false, List, [], ◌∷◌, ◌++◌, length, append-nil, Option, Some, Result, Ok, Err, IfErr, refl, sym, ap, subst, ◌∙◌, inl, inr}
+use Rattle.std.proofs.Common.{◌≡◌, ◌≢◌, ◌≤◌, ℕ, Bool, true, false, List, [], ◌++◌, length, append-nil, Option, Some, Result, Ok, Err, IfErr, refl, sym, ap, subst, ◌∙◌, inl, inr}
 use Rattle.std.specs.Prelude.{take}
 use Rattle.std.specs.List.{concat}
 use Rattle.std.specs.Io.KnownBytes.{Appends}
 use Rattle.std.proofs.KnownBytes.{Appends-kept, Appends-trans}
 use Rattle.std.proofs.lemmas.List.{take_at}
 use Rattle.kmip_message_commands.specs.Private.{Fails}
-use Rattle.kmip_message_commands.specs.Printing.{FailsBy, Finishes, IfFailed, UnlessOutput, fault_line}
+use Rattle.kmip_message_commands.specs.Printing.{Finishes, IfFailed, UnlessOutput, fault_line}
 use Rattle.kmip_message_commands.specs.declared.exit_status.ExitStatus.{ExitStatus}
 use Rattle.kmip_message_commands.specs.declared.exit_status.ExitStatus.TheVariants.{Done, Refused, Failed, Usage}
 use Rattle.kmip_message_commands.specs.declared.command_fault.CommandFault.{CommandFault}
 use Rattle.kmip_message_commands.specs.declared.command_fault.CommandFault.TheVariants.{Input, Output, NoMemory}
 use Rattle.kmip_probe.specs.declared.answer.Answer.{Answer}
+use Rattle.kmip_probe_command.specs.FormTexts.{FormTexts}
 use Rattle.kmip_probe_command.specs.Private.{BreaksMidway}
 use Rattle.kmip_probe_command.specs.Midway.{TellsSome, answers_before, lines_by}
 
 -- ---- how it breaks off
 
-told_some : (prefix : List ℕ) (answers : List Answer) (told left : List (List ℕ)) (old new : Option (List ℕ)) → lines_by prefix answers ≡ told ++ left
-    → answers_before told ≤ length answers → Appends old new (concat told) → TellsSome prefix [] old new
-told_some prefix answers told left old new whole decided written = record {
+told_some : (texts : FormTexts) (prefix : List ℕ) (answers : List Answer) (told left : List (List ℕ)) (old new : Option (List ℕ)) → lines_by texts prefix answers ≡ told ++ left
+    → answers_before told ≤ length answers → Appends old new (concat told) → TellsSome texts prefix [] old new
+told_some texts prefix answers told left old new whole decided written = record {
   answers = answers;
   told = told;
   left = left;
@@ -28,66 +29,66 @@ told_some prefix answers told left old new whole decided written = record {
   written = subst (Appends old new) (sym (append-nil (concat told))) written;
 }
 
-pub broken_at : (prefix : List ℕ) (answers : List Answer) (told left : List (List ℕ)) (fault own_fault : CommandFault) (Whole : Type 0) (old between new : Option (List ℕ))
-    → lines_by prefix answers ≡ told ++ left → answers_before told ≤ length answers → Appends old between (concat told) → Fails fault own_fault Whole between new
-    → BreaksMidway fault own_fault Whole prefix old new
-broken_at prefix answers told left fault own_fault Whole old between new whole decided written (inl (is, kept)) =
-    inl (is, told_some prefix answers told left old new whole decided (Appends-kept old between new (concat told) written kept))
-broken_at prefix answers told left fault own_fault Whole old between new whole decided written (inr (is, kept)) =
-    inr (is, λ all. told_some prefix answers told left old new whole decided (Appends-kept old between new (concat told) written (kept all)))
+pub broken_at : (texts : FormTexts) (prefix : List ℕ) (answers : List Answer) (told left : List (List ℕ)) (fault own_fault : CommandFault) (Whole : Type 0) (old between new : Option (List ℕ))
+    → lines_by texts prefix answers ≡ told ++ left → answers_before told ≤ length answers → Appends old between (concat told) → Fails fault own_fault Whole between new
+    → BreaksMidway texts fault own_fault Whole prefix old new
+broken_at texts prefix answers told left fault own_fault Whole old between new whole decided written (inl (is, kept)) =
+    inl (is, told_some texts prefix answers told left old new whole decided (Appends-kept old between new (concat told) written kept))
+broken_at texts prefix answers told left fault own_fault Whole old between new whole decided written (inr (is, kept)) =
+    inr (is, λ all. told_some texts prefix answers told left old new whole decided (Appends-kept old between new (concat told) written (kept all)))
 
 -- behind some lines of these answers a part of the command failed
-pub broke : {A : Type 0} (result : Result A CommandFault) (prefix : List ℕ) (answers : List Answer) (told left : List (List ℕ)) (own_fault : CommandFault)
+pub broke : {A : Type 0} (result : Result A CommandFault) (texts : FormTexts) (prefix : List ℕ) (answers : List Answer) (told left : List (List ℕ)) (own_fault : CommandFault)
     (Whole : Type 0) (old between new : Option (List ℕ))
-    → lines_by prefix answers ≡ told ++ left → answers_before told ≤ length answers → Appends old between (concat told)
-    → IfErr result (λ fault. Fails fault own_fault Whole between new) → IfErr result (λ fault. BreaksMidway fault own_fault Whole prefix old new)
-broke (Ok a) prefix answers told left own_fault Whole old between new whole decided written fails = tt
-broke (Err fault) prefix answers told left own_fault Whole old between new whole decided written fails =
-    broken_at prefix answers told left fault own_fault Whole old between new whole decided written fails
+    → lines_by texts prefix answers ≡ told ++ left → answers_before told ≤ length answers → Appends old between (concat told)
+    → IfErr result (λ fault. Fails fault own_fault Whole between new) → IfErr result (λ fault. BreaksMidway texts fault own_fault Whole prefix old new)
+broke (Ok a) texts prefix answers told left own_fault Whole old between new whole decided written fails = tt
+broke (Err fault) texts prefix answers told left own_fault Whole old between new whole decided written fails =
+    broken_at texts prefix answers told left fault own_fault Whole old between new whole decided written fails
 
 -- or there was no memory
-pub lacked : (fault : CommandFault) (prefix : List ℕ) (answers : List Answer) (told left : List (List ℕ)) (own_fault : CommandFault)
+pub lacked : (fault : CommandFault) (texts : FormTexts) (prefix : List ℕ) (answers : List Answer) (told left : List (List ℕ)) (own_fault : CommandFault)
     (Whole : Type 0) (old new : Option (List ℕ))
-    → lines_by prefix answers ≡ told ++ left → answers_before told ≤ length answers → Appends old new (concat told) → fault ≡ NoMemory
-    → BreaksMidway fault own_fault Whole prefix old new
-lacked fault prefix answers told left own_fault Whole old new whole decided written is =
-    inl (is, told_some prefix answers told left old new whole decided written)
+    → lines_by texts prefix answers ≡ told ++ left → answers_before told ≤ length answers → Appends old new (concat told) → fault ≡ NoMemory
+    → BreaksMidway texts fault own_fault Whole prefix old new
+lacked fault texts prefix answers told left own_fault Whole old new whole decided written is =
+    inl (is, told_some texts prefix answers told left old new whole decided written)
 
 -- ---- on a writer, and in memory
 
-at_writer : (fault : CommandFault) (Whole : Type 0) (prefix : List ℕ) (old new : Option (List ℕ)) → BreaksMidway fault Output Whole prefix old new
-    → UnlessOutput fault (TellsSome prefix [] old new)
-at_writer fault Whole prefix old new (inl (is, some)) = rw is some
-at_writer fault Whole prefix old new (inr (is, some)) = rw is tt
+at_writer : (fault : CommandFault) (Whole : Type 0) (texts : FormTexts) (prefix : List ℕ) (old new : Option (List ℕ)) → BreaksMidway texts fault Output Whole prefix old new
+    → UnlessOutput fault (TellsSome texts prefix [] old new)
+at_writer fault Whole texts prefix old new (inl (is, some)) = rw is some
+at_writer fault Whole texts prefix old new (inr (is, some)) = rw is tt
 
-pub on_writer : {A : Type 0} (result : Result A CommandFault) (Whole : Type 0) (prefix : List ℕ) (old new : Option (List ℕ))
-    → IfErr result (λ fault. BreaksMidway fault Output Whole prefix old new) → IfErr result (λ fault. UnlessOutput fault (TellsSome prefix [] old new))
-on_writer (Ok a) Whole prefix old new broken = tt
-on_writer (Err fault) Whole prefix old new broken = at_writer fault Whole prefix old new broken
+pub on_writer : {A : Type 0} (result : Result A CommandFault) (Whole : Type 0) (texts : FormTexts) (prefix : List ℕ) (old new : Option (List ℕ))
+    → IfErr result (λ fault. BreaksMidway texts fault Output Whole prefix old new) → IfErr result (λ fault. UnlessOutput fault (TellsSome texts prefix [] old new))
+on_writer (Ok a) Whole texts prefix old new broken = tt
+on_writer (Err fault) Whole texts prefix old new broken = at_writer fault Whole texts prefix old new broken
 
-no_input_at : (fault : CommandFault) (Whole : Type 0) (prefix : List ℕ) (old new : Option (List ℕ)) → BreaksMidway fault Output Whole prefix old new → fault ≢ Input
-no_input_at fault Whole prefix old new (inl (is, some)) = λ input. let both : NoMemory ≡ Input = sym is ∙ input in absurd cc
-no_input_at fault Whole prefix old new (inr (is, some)) = λ input. let both : Output ≡ Input = sym is ∙ input in absurd cc
+no_input_at : (fault : CommandFault) (Whole : Type 0) (texts : FormTexts) (prefix : List ℕ) (old new : Option (List ℕ)) → BreaksMidway texts fault Output Whole prefix old new → fault ≢ Input
+no_input_at fault Whole texts prefix old new (inl (is, some)) = λ input. let both : NoMemory ≡ Input = sym is ∙ input in absurd cc
+no_input_at fault Whole texts prefix old new (inr (is, some)) = λ input. let both : Output ≡ Input = sym is ∙ input in absurd cc
 
 -- nothing is said of a reader
-pub without_input : {A : Type 0} (result : Result A CommandFault) (Whole : Type 0) (prefix : List ℕ) (old new : Option (List ℕ))
-    → IfErr result (λ fault. BreaksMidway fault Output Whole prefix old new) → IfErr result (λ fault. fault ≢ Input)
-without_input (Ok a) Whole prefix old new broken = tt
-without_input (Err fault) Whole prefix old new broken = no_input_at fault Whole prefix old new broken
+pub without_input : {A : Type 0} (result : Result A CommandFault) (Whole : Type 0) (texts : FormTexts) (prefix : List ℕ) (old new : Option (List ℕ))
+    → IfErr result (λ fault. BreaksMidway texts fault Output Whole prefix old new) → IfErr result (λ fault. fault ≢ Input)
+without_input (Ok a) Whole texts prefix old new broken = tt
+without_input (Err fault) Whole texts prefix old new broken = no_input_at fault Whole texts prefix old new broken
 
-front_kept : (prefix old new : List ℕ) → TellsSome prefix [] (Some old) (Some new) → take (length old) new ≡ old
-front_kept prefix old new some = ap (take (length old)) some.written ∙ take_at old (concat some.told ++ []) (length old) refl
+front_kept : (texts : FormTexts) (prefix old new : List ℕ) → TellsSome texts prefix [] (Some old) (Some new) → take (length old) new ≡ old
+front_kept texts prefix old new some = ap (take (length old)) some.written ∙ take_at old (concat some.told ++ []) (length old) refl
 
 -- in memory what was there is the front of what is there
-pub front_is_kept : (fault : CommandFault) (prefix old new : List ℕ) → BreaksMidway fault NoMemory (Unit {0}) prefix (Some old) (Some new)
+pub front_is_kept : (fault : CommandFault) (texts : FormTexts) (prefix old new : List ℕ) → BreaksMidway texts fault NoMemory (Unit {0}) prefix (Some old) (Some new)
     → take (length old) new ≡ old
-front_is_kept fault prefix old new (inl (is, some)) = front_kept prefix old new some
-front_is_kept fault prefix old new (inr (is, some)) = front_kept prefix old new (some tt)
+front_is_kept fault texts prefix old new (inl (is, some)) = front_kept texts prefix old new some
+front_is_kept fault texts prefix old new (inr (is, some)) = front_kept texts prefix old new (some tt)
 
 -- ---- behind it the line of the fault
 
-with_line : (prefix line : List ℕ) (old between new : Option (List ℕ)) → TellsSome prefix [] old between → Appends between new line → TellsSome prefix line old new
-with_line prefix line old between new some written = record {
+with_line : (texts : FormTexts) (prefix line : List ℕ) (old between new : Option (List ℕ)) → TellsSome texts prefix [] old between → Appends between new line → TellsSome texts prefix line old new
+with_line texts prefix line old between new some written = record {
   answers = some.answers;
   told = some.told;
   left = some.left;
@@ -96,23 +97,23 @@ with_line prefix line old between new some written = record {
   written = subst (λ bytes. Appends old new (bytes ++ line)) (append-nil (concat some.told)) (Appends-trans old between new (concat some.told ++ []) line some.written written);
 }
 
-unless_output : (last fault : CommandFault) (prefix : List ℕ) (old between new : Option (List ℕ))
-    → UnlessOutput last ((last ≡ fault) × Appends between new (fault_line fault)) → UnlessOutput fault (TellsSome prefix [] old between)
-    → UnlessOutput last (TellsSome prefix (fault_line last) old new)
-unless_output Output fault prefix old between new ends some = tt
-unless_output Input Input prefix old between new (is, written) some = with_line prefix (fault_line Input) old between new some written
-unless_output NoMemory NoMemory prefix old between new (is, written) some = with_line prefix (fault_line NoMemory) old between new some written
-unless_output Input Output prefix old between new (is, written) some = absurd cc
-unless_output Input NoMemory prefix old between new (is, written) some = absurd cc
-unless_output NoMemory Input prefix old between new (is, written) some = absurd cc
-unless_output NoMemory Output prefix old between new (is, written) some = absurd cc
+unless_output : (last fault : CommandFault) (texts : FormTexts) (prefix : List ℕ) (old between new : Option (List ℕ))
+    → UnlessOutput last ((last ≡ fault) × Appends between new (fault_line fault)) → UnlessOutput fault (TellsSome texts prefix [] old between)
+    → UnlessOutput last (TellsSome texts prefix (fault_line last) old new)
+unless_output Output fault texts prefix old between new ends some = tt
+unless_output Input Input texts prefix old between new (is, written) some = with_line texts prefix (fault_line Input) old between new some written
+unless_output NoMemory NoMemory texts prefix old between new (is, written) some = with_line texts prefix (fault_line NoMemory) old between new some written
+unless_output Input Output texts prefix old between new (is, written) some = absurd cc
+unless_output Input NoMemory texts prefix old between new (is, written) some = absurd cc
+unless_output NoMemory Input texts prefix old between new (is, written) some = absurd cc
+unless_output NoMemory Output texts prefix old between new (is, written) some = absurd cc
 
-pub ends_midway : (ended : Result Bool CommandFault) (status : ExitStatus) (prefix : List ℕ) (old between new : Option (List ℕ))
-    → Finishes ended status between new → IfErr ended (λ fault. UnlessOutput fault (TellsSome prefix [] old between))
-    → IfFailed status (λ last. UnlessOutput last (TellsSome prefix (fault_line last) old new))
-ends_midway (Ok false) status prefix old between new (is, same) some = rw is tt
-ends_midway (Ok true) status prefix old between new (is, same) some = rw is tt
-ends_midway (Err fault) Done prefix old between new ends some = tt
-ends_midway (Err fault) Refused prefix old between new ends some = tt
-ends_midway (Err fault) Usage prefix old between new ends some = absurd ends
-ends_midway (Err fault) (Failed last) prefix old between new ends some = unless_output last fault prefix old between new ends some
+pub ends_midway : (ended : Result Bool CommandFault) (status : ExitStatus) (texts : FormTexts) (prefix : List ℕ) (old between new : Option (List ℕ))
+    → Finishes ended status between new → IfErr ended (λ fault. UnlessOutput fault (TellsSome texts prefix [] old between))
+    → IfFailed status (λ last. UnlessOutput last (TellsSome texts prefix (fault_line last) old new))
+ends_midway (Ok false) status texts prefix old between new (is, same) some = rw is tt
+ends_midway (Ok true) status texts prefix old between new (is, same) some = rw is tt
+ends_midway (Err fault) Done texts prefix old between new ends some = tt
+ends_midway (Err fault) Refused texts prefix old between new ends some = tt
+ends_midway (Err fault) Usage texts prefix old between new ends some = absurd ends
+ends_midway (Err fault) (Failed last) texts prefix old between new ends some = unless_output last fault texts prefix old between new ends some

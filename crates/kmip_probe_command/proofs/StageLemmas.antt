@@ -1,17 +1,18 @@
 -- What is told early is what all answers tell.
-use Rattle.std.proofs.Common.{◌≡◌, ◌≤◌, ◌<◌, ◌+◌, ℕ, List, [], ◌∷◌, ◌++◌, length, take, drop, flat_map, true, false, Some, None, Option, refl, sym, ap, ◌∙◌, arith, append-nil}
+use Rattle.std.proofs.Common.{◌≡◌, ◌≤◌, ◌<◌, ◌+◌, ℕ, List, [], ◌∷◌, ◌++◌, length, take, drop, flat_map, refl, sym, ap, ap₂, ◌∙◌, arith, append-nil}
 use Rattle.std.proofs.lemmas.List.{append_assoc, drop-append-le, get_or_append_left, length-drop, take-append-le}
 use Rattle.std.proofs.lemmas.List.Concat.{flat_map-append}
-use Rattle.kmip_probe.specs.Judging.{AreFindings, answer_at, names_are_unique, is_destroyed, names_stay_used, steps_count_once, active_is_kept, found_at, objects_are_found, destroyed_are_found, attributes_are_told}
+use Rattle.kmip_probe.specs.Judging.{AreFindings, answer_at, names_are_unique, is_destroyed, names_stay_used, steps_count_once, active_is_kept, objects_are_found, destroyed_are_found, attributes_are_told}
 use Rattle.kmip_probe.specs.declared.answer.Answer.{Answer}
 use Rattle.kmip_probe.specs.declared.answer.Answer.TheVariants.{Nothing}
 use Rattle.kmip_probe.specs.declared.findings.Findings.{Findings}
+use Rattle.kmip_probe_command.specs.FormTexts.{FormTexts}
 use Rattle.kmip_probe_command.specs.Midway.{line_by}
-use Rattle.kmip_probe_command.specs.Wording.{ending_text, line_text, premise_line, report_text}
+use Rattle.kmip_probe_command.specs.ProbeText.{line_of, report_text}
 use Rattle.kmip_probe_command.specs.Private.{rest_text}
 use Rattle.kmip_probe_command.specs.declared.premise.Premise.{Premise}
 use Rattle.kmip_probe_command.specs.declared.premise.Premise.TheVariants as premise
-use Rattle.kmip_probe_command.specs.declared.premise.TheConstants.{EARLY, LATE, PREMISES}
+use Rattle.kmip_probe_command.specs.declared.premise.TheConstants.{EARLY, LATE}
 
 -- ---- what more answers leave
 
@@ -75,43 +76,47 @@ told_stays prefix answers more all = let a = at answers more 8 (omega (arith, al
 
 -- ---- the lines
 
-pub early_stays : (prefix : List ℕ) (answers later more : List Answer) → later ≡ answers ++ more → 8 ≤ length answers
-    → flat_map (line_by prefix later) EARLY ≡ flat_map (line_by prefix answers) EARLY
-early_stays prefix answers later more is all =
-    ap (λ xs. flat_map (line_by prefix xs) EARLY) is
-    ∙ ap (λ finding. line_text premise.NamesAreUnique finding ++ []) (unique_stays answers more all)
+pub early_stays : (texts : FormTexts) (prefix : List ℕ) (answers later more : List Answer) → later ≡ answers ++ more → 8 ≤ length answers
+    → flat_map (line_by texts prefix later) EARLY ≡ flat_map (line_by texts prefix answers) EARLY
+early_stays texts prefix answers later more is all =
+    ap (λ xs. flat_map (line_by texts prefix xs) EARLY) is
+    ∙ ap (λ finding. texts.premise_line premise.NamesAreUnique finding ++ []) (unique_stays answers more all)
 
-late_lines : (prefix : List ℕ) (answers more : List Answer) → 23 ≤ length answers
-    → flat_map (line_by prefix (answers ++ more)) LATE ≡ flat_map (line_by prefix answers) LATE
-late_lines prefix answers more all =
-    let used = used_stays answers more all in
-    let once = once_stays answers more all in
-    let active = active_stays answers more all in
-    let found = found_stays answers more all in
-    let destroyed = destroyed_found_stays answers more all in
-    let told = told_stays prefix answers more all in rw (used, once, active, found, destroyed, told) refl
+-- a line before others
+before : {line same lines others : List ℕ} → line ≡ same → lines ≡ others → line ++ lines ≡ same ++ others
+before is are = ap₂ (λ line lines. line ++ lines) is are
 
-pub late_stays : (prefix : List ℕ) (answers later more : List Answer) → later ≡ answers ++ more → 23 ≤ length answers
-    → flat_map (line_by prefix later) LATE ≡ flat_map (line_by prefix answers) LATE
-late_stays prefix answers later more is all = ap (λ xs. flat_map (line_by prefix xs) LATE) is ∙ late_lines prefix answers more all
+late_lines : (texts : FormTexts) (prefix : List ℕ) (answers more : List Answer) → 23 ≤ length answers
+    → flat_map (line_by texts prefix (answers ++ more)) LATE ≡ flat_map (line_by texts prefix answers) LATE
+late_lines texts prefix answers more all =
+    before (ap (texts.premise_line premise.NamesStayUsed) (used_stays answers more all))
+    (before (ap (texts.premise_line premise.StepsCountOnce) (once_stays answers more all))
+    (before (ap (texts.premise_line premise.ActiveIsKept) (active_stays answers more all))
+    (before (ap (texts.premise_line premise.ObjectsAreFound) (found_stays answers more all))
+    (before (ap (texts.premise_line premise.DestroyedAreFound) (destroyed_found_stays answers more all))
+    (before (ap (texts.premise_line premise.AttributesAreTold) (told_stays prefix answers more all)) refl)))))
 
-line_is : (prefix : List ℕ) (answers : List Answer) (findings : Findings) → AreFindings prefix answers findings → (p : Premise)
-    → premise_line findings p ≡ line_by prefix answers p
-line_is prefix answers findings are premise.NamesAreUnique = ap (line_text premise.NamesAreUnique) are.unique
-line_is prefix answers findings are premise.NamesStayUsed = ap (line_text premise.NamesStayUsed) are.used
-line_is prefix answers findings are premise.StepsCountOnce = ap (line_text premise.StepsCountOnce) are.once
-line_is prefix answers findings are premise.ActiveIsKept = ap (line_text premise.ActiveIsKept) are.active
-line_is prefix answers findings are premise.ObjectsAreFound = ap (line_text premise.ObjectsAreFound) are.found
-line_is prefix answers findings are premise.DestroyedAreFound = ap (line_text premise.DestroyedAreFound) are.destroyed
-line_is prefix answers findings are premise.AttributesAreTold = ap (line_text premise.AttributesAreTold) are.told
-line_is prefix answers findings are premise.IdsAreEchoed = ap (line_text premise.IdsAreEchoed) are.echoed
+pub late_stays : (texts : FormTexts) (prefix : List ℕ) (answers later more : List Answer) → later ≡ answers ++ more → 23 ≤ length answers
+    → flat_map (line_by texts prefix later) LATE ≡ flat_map (line_by texts prefix answers) LATE
+late_stays texts prefix answers later more is all = ap (λ xs. flat_map (line_by texts prefix xs) LATE) is ∙ late_lines texts prefix answers more all
 
-pub lines_are : (prefix : List ℕ) (answers : List Answer) (findings : Findings) → AreFindings prefix answers findings → (ps : List Premise)
-    → flat_map (premise_line findings) ps ≡ flat_map (line_by prefix answers) ps
-lines_are prefix answers findings are [] = refl
-lines_are prefix answers findings are (p ∷ ps) =
-    ap (λ line. line ++ flat_map (premise_line findings) ps) (line_is prefix answers findings are p)
-    ∙ ap (λ lines. line_by prefix answers p ++ lines) (lines_are prefix answers findings are ps)
+line_is : (texts : FormTexts) (prefix : List ℕ) (answers : List Answer) (findings : Findings) → AreFindings prefix answers findings → (p : Premise)
+    → line_of texts findings p ≡ line_by texts prefix answers p
+line_is texts prefix answers findings are premise.NamesAreUnique = ap (texts.premise_line premise.NamesAreUnique) are.unique
+line_is texts prefix answers findings are premise.NamesStayUsed = ap (texts.premise_line premise.NamesStayUsed) are.used
+line_is texts prefix answers findings are premise.StepsCountOnce = ap (texts.premise_line premise.StepsCountOnce) are.once
+line_is texts prefix answers findings are premise.ActiveIsKept = ap (texts.premise_line premise.ActiveIsKept) are.active
+line_is texts prefix answers findings are premise.ObjectsAreFound = ap (texts.premise_line premise.ObjectsAreFound) are.found
+line_is texts prefix answers findings are premise.DestroyedAreFound = ap (texts.premise_line premise.DestroyedAreFound) are.destroyed
+line_is texts prefix answers findings are premise.AttributesAreTold = ap (texts.premise_line premise.AttributesAreTold) are.told
+line_is texts prefix answers findings are premise.IdsAreEchoed = ap (texts.premise_line premise.IdsAreEchoed) are.echoed
+
+pub lines_are : (texts : FormTexts) (prefix : List ℕ) (answers : List Answer) (findings : Findings) → AreFindings prefix answers findings → (ps : List Premise)
+    → flat_map (line_of texts findings) ps ≡ flat_map (line_by texts prefix answers) ps
+lines_are texts prefix answers findings are [] = refl
+lines_are texts prefix answers findings are (p ∷ ps) =
+    ap (λ line. line ++ flat_map (line_of texts findings) ps) (line_is texts prefix answers findings are p)
+    ∙ ap (λ lines. line_by texts prefix answers p ++ lines) (lines_are texts prefix answers findings are ps)
 
 -- ---- all together
 
@@ -123,20 +128,20 @@ parts f early late last end =
     ∙ append_assoc (flat_map f early) (flat_map f late ++ flat_map f last) end
     ∙ ap (λ lines. flat_map f early ++ lines) (append_assoc (flat_map f late) (flat_map f last) end)
 
-report_in_parts : (findings : Findings) → report_text findings ≡ flat_map (premise_line findings) EARLY ++ (flat_map (premise_line findings) LATE ++ rest_text findings)
-report_in_parts findings =
-    parts (premise_line findings) EARLY LATE (premise.IdsAreEchoed ∷ []) (ending_text findings)
-    ∙ ap (λ line. flat_map (premise_line findings) EARLY ++ (flat_map (premise_line findings) LATE ++ (line ++ ending_text findings)))
-    (append-nil (premise_line findings premise.IdsAreEchoed))
+report_in_parts : (texts : FormTexts) (findings : Findings) → report_text texts findings ≡ flat_map (line_of texts findings) EARLY ++ (flat_map (line_of texts findings) LATE ++ rest_text texts findings)
+report_in_parts texts findings =
+    parts (line_of texts findings) EARLY LATE (premise.IdsAreEchoed ∷ []) (texts.last_lines findings)
+    ∙ ap (λ line. flat_map (line_of texts findings) EARLY ++ (flat_map (line_of texts findings) LATE ++ (line ++ texts.last_lines findings)))
+    (append-nil (line_of texts findings premise.IdsAreEchoed))
 
 -- what was told early, late and at last is the report
-pub report_is : (prefix : List ℕ) (early late all more rest : List Answer) (findings : Findings) → late ≡ early ++ more → all ≡ late ++ rest
+pub report_is : (texts : FormTexts) (prefix : List ℕ) (early late all more rest : List Answer) (findings : Findings) → late ≡ early ++ more → all ≡ late ++ rest
     → 8 ≤ length early → 23 ≤ length late → AreFindings prefix all findings
-    → flat_map (line_by prefix early) EARLY ++ (flat_map (line_by prefix late) LATE ++ rest_text findings) ≡ report_text findings
-report_is prefix early late all more rest findings is_late is_all eight most are =
-    let first = sym (early_stays prefix early late more is_late eight)
-    ∙ sym (early_stays prefix late all rest is_all (omega (arith, most))) ∙ sym (lines_are prefix all findings are EARLY) in
-    let later = sym (late_stays prefix late all rest is_all most) ∙ sym (lines_are prefix all findings are LATE) in
-    ap (λ lines. lines ++ (flat_map (line_by prefix late) LATE ++ rest_text findings)) first
-    ∙ ap (λ lines. flat_map (premise_line findings) EARLY ++ (lines ++ rest_text findings)) later
-    ∙ sym (report_in_parts findings)
+    → flat_map (line_by texts prefix early) EARLY ++ (flat_map (line_by texts prefix late) LATE ++ rest_text texts findings) ≡ report_text texts findings
+report_is texts prefix early late all more rest findings is_late is_all eight most are =
+    let first = sym (early_stays texts prefix early late more is_late eight)
+    ∙ sym (early_stays texts prefix late all rest is_all (omega (arith, most))) ∙ sym (lines_are texts prefix all findings are EARLY) in
+    let later = sym (late_stays texts prefix late all rest is_all most) ∙ sym (lines_are texts prefix all findings are LATE) in
+    ap (λ lines. lines ++ (flat_map (line_by texts prefix late) LATE ++ rest_text texts findings)) first
+    ∙ ap (λ lines. flat_map (line_of texts findings) EARLY ++ (lines ++ rest_text texts findings)) later
+    ∙ sym (report_in_parts texts findings)

@@ -1,6 +1,6 @@
 -- What `probe` writes of its looks at the two names: why nothing was made, or which keys are about to be.
 -- Source: own (text): what the program prints.
-use Rattle.std.specs.Prelude.{ℕ, List, [], ◌∷◌, ◌++◌, codes, Option, Some, None, if◌then◌else◌}
+use Rattle.std.specs.Prelude.{ℕ, List, [], ◌∷◌, ◌++◌, codes, Option, Some, None}
 use Rattle.std.specs.Fmt.{decimal}
 use Rattle.hex.specs.Hex.{encode_lower}
 use Rattle.byteorder.specs.Endian.{big_bytes}
@@ -13,23 +13,12 @@ use Rattle.kmip_batch_items.specs.declared.message_fault.MessageFault.TheVariant
 use Rattle.kmip_batch_items.specs.declared.outcome.Outcome.{Outcome}
 use Rattle.kmip_batch_items.specs.declared.outcome.Outcome.TheVariants.{Located, Failed}
 use Rattle.kmip_message_commands.specs.Showing.{offset_text}
-use Rattle.kmip_probe.specs.Answers.{outcome_in, unread_in}
-use Rattle.kmip_probe.specs.Asking.{is_free_at}
-use Rattle.kmip_probe.specs.Inquiries.{name_of}
-use Rattle.kmip_probe.specs.Judging.{answer_at}
-use Rattle.kmip_probe.specs.declared.answer.Answer.{Answer}
-use Rattle.kmip_probe.specs.declared.inquiry.TheConstants.{LOOK_FIRST, LOOK_SECOND}
-use Rattle.kmip_probe.specs.declared.which.Which.TheVariants.{First, Second}
 use Rattle.kmip_probe.specs.declared.protocol_version.ProtocolVersion.{ProtocolVersion}
 use Rattle.kmip_probe.specs.declared.unread.Unread.{Unread}
 
 -- The line of two keys that are about to be made.
 abbrev pub pair_text : List ℕ → List ℕ → List ℕ
 pair_text first second = codes "making two keys: " ++ first ++ codes " and " ++ second ++ codes "\n"
-
--- The line of the two keys that a probe with this prefix is about to make.
-unfoldable pub making_text : List ℕ → List ℕ
-making_text prefix = pair_text (name_of First prefix) (name_of Second prefix)
 
 -- The line that says that an object has the name, and so nothing was made.
 unfoldable pub used_text : List ℕ → List ℕ → List ℕ
@@ -85,14 +74,3 @@ why_text outcome unread = silent_text unread
 abbrev pub look_text : List ℕ → Option Outcome → Option Unread → List ℕ
 look_text name (Some (Located (uid ∷ uids))) unread = used_text name uid
 look_text name outcome unread = unsure_text (why_text outcome unread) name
-
--- What is told by the answer to the look at a name that is not seen to be free.
-abbrev pub looked_text : List ℕ → Answer → List ℕ
-looked_text name answer = look_text name (outcome_in answer) (unread_in answer)
-
--- What is told where a name is not seen to be free, the first one first. None where both are free.
-abbrev pub unbegun_text : List ℕ → List Answer → Option (List ℕ)
-unbegun_text prefix answers =
-    if is_free_at answers LOOK_FIRST
-    then (if is_free_at answers LOOK_SECOND then None else Some (looked_text (name_of Second prefix) (answer_at answers LOOK_SECOND)))
-    else Some (looked_text (name_of First prefix) (answer_at answers LOOK_FIRST))

@@ -1,51 +1,71 @@
--- What `probe` writes for the answers of its questions.
+-- What `probe` writes for the answers of its questions, in a form.
 -- Source: own (text): what the program prints.
-use Rattle.std.specs.Prelude.{◌≡◌, ℕ, Bool, true, not, List, [], ◌∷◌, ◌++◌, codes, Option, Some, None}
+use Rattle.std.specs.Prelude.{◌≡◌, ℕ, Bool, true, not, List, ◌++◌, flat_map, Option, Some, None, if◌then◌else◌}
 use Rattle.std.specs.Io.KnownBytes.{Appends}
-use Rattle.kmip_batch_items.specs.declared.standard.TheConstants.{REASON_NON_UNIQUE_NAME, REASON_WRONG_STATE}
-use Rattle.kmip_protocol.specs.Past.{Names, Past}
+use Rattle.kmip_protocol.specs.Past.{Names}
 use Rattle.kmip_protocol.specs.Seen.{Seen}
-use Rattle.kmip_probe.specs.Judging.{AreFindings}
+use Rattle.kmip_probe.specs.Answers.{outcome_in, unread_in}
+use Rattle.kmip_probe.specs.Asking.{is_free_at}
+use Rattle.kmip_probe.specs.Inquiries.{name_of}
+use Rattle.kmip_probe.specs.Judging.{AreFindings, answer_at}
+use Rattle.kmip_probe.specs.Laws.{AreAllKept}
 use Rattle.kmip_probe.specs.Putting.{AreAsked}
-use Rattle.kmip_probe_command.specs.LookText.{making_text, unbegun_text}
-use Rattle.kmip_probe_command.specs.Wording.{are_all_kept, listed, report_text}
 use Rattle.kmip_probe.specs.declared.answer.Answer.{Answer}
 use Rattle.kmip_probe.specs.declared.findings.Findings.{Findings}
+use Rattle.kmip_probe.specs.declared.inquiry.TheConstants.{LOOK_FIRST, LOOK_SECOND}
+use Rattle.kmip_probe.specs.declared.which.Which.TheVariants.{First, Second}
+use Rattle.kmip_probe_command.specs.FormTexts.{FormTexts}
+use Rattle.kmip_probe_command.specs.Wording.{are_all_kept, finding_of}
+use Rattle.kmip_probe_command.specs.declared.premise.Premise.{Premise}
+use Rattle.kmip_probe_command.specs.declared.premise.TheConstants.{PREMISES}
 
--- The line of a prefix that can't begin names.
-abbrev pub unfit_text : List ℕ
-unfit_text = codes "prefix refused: it is not 1 to 62 printable ASCII characters without a space\n"
+-- The line of the two keys that a probe with this prefix is about to make.
+abbrev pub making_text : FormTexts → List ℕ → List ℕ
+making_text texts prefix = texts.making_line (name_of First prefix) (name_of Second prefix)
+
+-- What is told by the answer to the look at a name that is not seen to be free.
+abbrev pub looked_text : FormTexts → List ℕ → Answer → List ℕ
+looked_text texts name answer = texts.unmade_line name (outcome_in answer) (unread_in answer)
+
+-- What is told where a name is not seen to be free, the first one first. None where both are free.
+abbrev pub unbegun_text : FormTexts → List ℕ → List Answer → Option (List ℕ)
+unbegun_text texts prefix answers =
+    if is_free_at answers LOOK_FIRST
+    then (if is_free_at answers LOOK_SECOND then None else Some (looked_text texts (name_of Second prefix) (answer_at answers LOOK_SECOND)))
+    else Some (looked_text texts (name_of First prefix) (answer_at answers LOOK_FIRST))
+
+-- The line of a premise, by all that is found.
+abbrev pub line_of : FormTexts → Findings → Premise → List ℕ
+line_of texts findings p = texts.premise_line p (finding_of findings p)
+
+-- All that is printed of the premises.
+abbrev pub report_text : FormTexts → Findings → List ℕ
+report_text texts findings = flat_map (line_of texts findings) PREMISES ++ texts.last_lines findings
 
 -- What is told of answers, and whether a premise is not seen to be kept. Either why nothing was made,
 -- which is refused; or which keys are to be made, and what is found.
-abbrev pub TellsFrom : List ℕ → List Answer → Option (List ℕ) → Bool → List ℕ → Type 0
-TellsFrom prefix answers (Some unbegun) refused text = (refused ≡ true) × (text ≡ unbegun)
-TellsFrom prefix answers None refused text =
-    (findings : Findings) × AreFindings prefix answers findings × (refused ≡ not (are_all_kept findings)) × (text ≡ making_text prefix ++ report_text findings)
+abbrev pub TellsFrom : FormTexts → List ℕ → List Answer → Option (List ℕ) → Bool → List ℕ → Type 0
+TellsFrom texts prefix answers (Some unbegun) refused text = (refused ≡ true) × (text ≡ unbegun)
+TellsFrom texts prefix answers None refused text =
+    (findings : Findings) × AreFindings prefix answers findings × (refused ≡ not (are_all_kept findings))
+    × (text ≡ making_text texts prefix ++ report_text texts findings)
 
 -- The text tells of these answers: why nothing was made, where a name was not seen to be free, or which
 -- keys are to be made and what is found.
-abbrev pub TellsProbe : List ℕ → List Answer → Bool → List ℕ → Type 0
-TellsProbe prefix answers refused text = TellsFrom prefix answers (unbegun_text prefix answers) refused text
+abbrev pub TellsProbe : FormTexts → List ℕ → List Answer → Bool → List ℕ → Type 0
+TellsProbe texts prefix answers refused text = TellsFrom texts prefix answers (unbegun_text texts prefix answers) refused text
 
 -- The questions were asked over the link, where it is honest, and what their answers tell was written.
-pub record WritesProbe (prefix : List ℕ) (before after : Seen) (refused : Bool) (old new : Option (List ℕ)) : Type 0 where
+pub record WritesProbe (texts : FormTexts) (prefix : List ℕ) (before after : Seen) (refused : Bool) (old new : Option (List ℕ)) : Type 0 where
   pub answers : List Answer
   pub text : List ℕ
   pub asked : (names : Names) → before.honest names → AreAsked prefix answers before.past after.past
-  pub tells : TellsProbe prefix answers refused text
+  pub tells : TellsProbe texts prefix answers refused text
   pub written : Appends old new text
 
--- What is written of the premises where each is kept, after the line of the keys.
-abbrev pub kept_text : List ℕ
-kept_text =
-    codes "names are unique: yes\n"
-    ++ codes "names stay used after Destroy: yes\n"
-    ++ codes "a step made twice changes nothing: yes\n"
-    ++ codes "an active object is not destroyed: yes\n"
-    ++ codes "Locate finds objects by their names: yes\n"
-    ++ codes "Locate finds destroyed objects: yes\n"
-    ++ codes "Get Attributes tells all six attributes: yes\n"
-    ++ codes "the batch id is echoed: yes\n"
-    ++ (codes "reasons seen: " ++ listed (REASON_NON_UNIQUE_NAME ∷ REASON_WRONG_STATE ∷ []) ++ codes "\n")
-    ++ codes "the promise holds here: each key is made once, and its steps are made once and in order\n"
+-- Where answers say that each premise is kept, for the two reasons of the profile, what is printed of the
+-- premises is `kept_lines`.
+abbrev pub TellsAllKept : FormTexts → Type 0
+TellsAllKept texts =
+    (prefix : List ℕ) (answers : List Answer) (findings : Findings)
+    → AreAllKept prefix answers → AreFindings prefix answers findings → report_text texts findings ≡ texts.kept_lines

@@ -69,10 +69,6 @@ finding_of findings premise.IdsAreEchoed = findings.ids_are_echoed
 abbrev pub line_text : Premise → Finding → List ℕ
 line_text p finding = premise_text p ++ codes ": " ++ finding_text finding ++ codes "\n"
 
--- The line of a premise, by all that is found.
-abbrev pub premise_line : Findings → Premise → List ℕ
-premise_line findings p = line_text p (finding_of findings p)
-
 -- Whether a premise is seen to be broken. One that could not be told is not.
 abbrev pub is_broken : Finding → Bool
 is_broken (Broken flaw) = true
@@ -124,7 +120,3 @@ sum_text findings =
 -- What is printed after the lines of the premises: the reasons, what may go wrong, and the sum.
 abbrev pub ending_text : Findings → List ℕ
 ending_text findings = reasons_line findings ++ flat_map (risk_line findings) PREMISES ++ sum_text findings
-
--- All that is printed of the premises.
-abbrev pub report_text : Findings → List ℕ
-report_text findings = flat_map (premise_line findings) PREMISES ++ ending_text findings

@@ -1,18 +1,18 @@
 //! What is told of the looks at the two names of a probe: why nothing was made, or which keys it is
 //! about to make.
 ghost use Rattle.std.specs.Prelude.{◌≡◌, ◌++◌, IfOk, string_bytes, option_map};
-ghost use Rattle.kmip_probe.specs.Inquiries.{name_of};
+ghost use Rattle.kmip_probe.specs.Judging.{answer_at};
 ghost use Rattle.kmip_probe_command.specs.LookText.{
   look_text,
-  making_text,
   pair_text,
   refused_text,
-  unbegun_text,
   unsure_text,
   used_text,
   why_text,
 };
+ghost use Rattle.kmip_probe_command.specs.ProbeText.{looked_text, making_text, unbegun_text};
 
+use crate::probe_form::ProbeForm;
 use crate::unread::unread_text;
 use kmip_batch_items::Outcome;
 use kmip_probe::{
@@ -21,24 +21,73 @@ use kmip_probe::{
 use kmip_ttlv::{NoMemory, plain_text};
 use std::alloc::Global;
 
-/// Which keys a probe is about to make.
+/// Which keys a probe is about to make, in a form.
 ///
 /// # Errors
 /// Where there is no memory.
-#[tactic(auto, unfolding(crate::specs::LookText::making_text))]
-pub(crate) fn making_text(alloc: Global, prefix: &str) -> Result<String, NoMemory>
-    ensures { IfOk result (λ text. string_bytes text ≡ making_text prefix.now) }
+pub(crate) fn making_text<F: ProbeForm>(
+    alloc: Global,
+    prefix: &str,
+    form: &F,
+) -> Result<Vec<u8>, NoMemory>
+    ensures { IfOk result (λ text. text.items ≡ making_text F.texts prefix.now) }
 {
     let first = name_of(alloc, Which::First, prefix)?;
     let second = name_of(alloc, Which::Second, prefix)?;
-    pair_text(alloc, first.as_str(), second.as_str())
+    form.making_line(alloc, first.as_str(), second.as_str())
+}
+
+/// What is told in a form where a name is not seen to be free; none where both are.
+///
+/// # Errors
+/// Where there is no memory.
+pub(crate) fn unbegun_text<F: ProbeForm>(
+    alloc: Global,
+    prefix: &str,
+    form: &F,
+    answers: &[Answer],
+) -> Result<Option<Vec<u8>>, NoMemory>
+    ensures { IfOk result (λ text. option_map (λ bytes. bytes.items) text
+        ≡ unbegun_text F.texts prefix.now answers.now) }
+{
+    if !is_free_at(answers, LOOK_FIRST) {
+        let name = name_of(alloc, Which::First, prefix)?;
+        let text = looked_text(alloc, name.as_str(), form, answers, LOOK_FIRST)?;
+        return Ok(Some(text));
+    }
+    if !is_free_at(answers, LOOK_SECOND) {
+        let name = name_of(alloc, Which::Second, prefix)?;
+        let text = looked_text(alloc, name.as_str(), form, answers, LOOK_SECOND)?;
+        return Ok(Some(text));
+    }
+    Ok(None)
+}
+
+/// What is told in a form of the look at a name that is not seen to be free, by its answer, which stands
+/// at this place.
+///
+/// # Errors
+/// Where there is no memory.
+fn looked_text<F: ProbeForm>(
+    alloc: Global,
+    name: &str,
+    form: &F,
+    answers: &[Answer],
+    place: usize,
+) -> Result<Vec<u8>, NoMemory>
+    ensures { IfOk result (λ text. text.items
+        ≡ looked_text F.texts name.now (answer_at answers.now place)) }
+{
+    let outcome = outcome_at(answers, place);
+    let unread = unread_at(answers, place);
+    form.unmade_line(alloc, name, outcome, unread)
 }
 
 /// The line of two keys that are about to be made.
 ///
 /// # Errors
 /// Where there is no memory.
-fn pair_text(alloc: Global, first: &str, second: &str) -> Result<String, NoMemory>
+pub(crate) fn pair_text(alloc: Global, first: &str, second: &str) -> Result<String, NoMemory>
     ensures { IfOk result (λ text. string_bytes text ≡ pair_text first.now second.now) }
 {
     let mut text = format!(in alloc; "making two keys: {first}")?;
@@ -48,55 +97,26 @@ fn pair_text(alloc: Global, first: &str, second: &str) -> Result<String, NoMemor
     Ok(text)
 }
 
-/// What is told where a name is not seen to be free; none where both are.
-///
-/// # Errors
-/// Where there is no memory.
-pub(crate) fn unbegun_text(
-    alloc: Global,
-    prefix: &str,
-    answers: &[Answer],
-) -> Result<Option<String>, NoMemory>
-    ensures { IfOk result (λ text. option_map string_bytes text
-        ≡ unbegun_text prefix.now answers.now) }
-{
-    if !is_free_at(answers, LOOK_FIRST) {
-        let outcome = outcome_at(answers, LOOK_FIRST);
-        let unread = unread_at(answers, LOOK_FIRST);
-        let text = look_text(alloc, Which::First, prefix, outcome, unread)?;
-        return Ok(Some(text));
-    }
-    if !is_free_at(answers, LOOK_SECOND) {
-        let outcome = outcome_at(answers, LOOK_SECOND);
-        let unread = unread_at(answers, LOOK_SECOND);
-        let text = look_text(alloc, Which::Second, prefix, outcome, unread)?;
-        return Ok(Some(text));
-    }
-    Ok(None)
-}
-
 /// Why nothing was made, by the outcome of the look at a name, or why its reply can't be read.
 ///
 /// # Errors
 /// Where there is no memory.
-fn look_text(
+pub(crate) fn look_text(
     alloc: Global,
-    which: Which,
-    prefix: &str,
+    name: &str,
     outcome: Option<&Outcome>,
     unread: Option<Unread>,
 ) -> Result<String, NoMemory>
     ensures { IfOk result (λ text. string_bytes text
-        ≡ look_text (name_of which prefix.now) (option_map (λ o. o.now) outcome.entry) unread) }
+        ≡ look_text name.now (option_map (λ o. o.now) outcome.entry) unread) }
 {
-    let name = name_of(alloc, which, prefix)?;
     if let Some(Outcome::Located(uids)) = outcome {
         if let Some(uid) = uids.as_slice().first() {
-            return used_text(alloc, name.as_str(), uid.as_str());
+            return used_text(alloc, name, uid.as_str());
         }
     }
     let why = why_text(alloc, outcome, unread)?;
-    unsure_text(alloc, why.as_str(), name.as_str())
+    unsure_text(alloc, why.as_str(), name)
 }
 
 /// An object has the name.

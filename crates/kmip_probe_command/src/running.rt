@@ -1,17 +1,16 @@
-//! The command `probe`: whether a server keeps what the theorem asks of it.
-ghost use Rattle.std.specs.Prelude.{◌≡◌, ◌≢◌, ◌≤◌, ◌+◌, ◌++◌, length, false, true, Some, IfErr, IfOk, OnErr, IsTrue};
+//! The command `probe`: whether a server keeps what the theorem asks of it, told in a form.
+ghost use Rattle.std.specs.Prelude.{◌≡◌, ◌≢◌, ◌≤◌, ◌+◌, ◌++◌, length, [], false, true, Some, IfErr, IfOk, OnErr, IsTrue};
 ghost use Rattle.std.specs.Io.KnownBytes.{Appends};
-ghost use Rattle.kmip_message_commands.specs.Private.{Fails};
 ghost use Rattle.kmip_message_commands.specs.Printing.{IfFailed, IfWhole, UnlessOutput, fault_line};
 ghost use Rattle.kmip_protocol.specs.Past.{Names};
 ghost use Rattle.kmip_probe.specs.Inquiries.{is_prefix};
 ghost use Rattle.kmip_probe.specs.Serving.{IsUnprobed};
-ghost use Rattle.kmip_probe_command.specs.LookText.{making_text};
-ghost use Rattle.kmip_probe_command.specs.ProbeText.{WritesProbe, kept_text, unfit_text};
+ghost use Rattle.kmip_probe_command.specs.ProbeText.{WritesProbe, making_text};
 ghost use Rattle.kmip_probe_command.specs.Private.{BreaksMidway};
 ghost use Rattle.kmip_probe_command.specs.Midway.{TellsSome};
 
-use crate::telling::tell;
+use crate::probe_form::ProbeForm;
+use crate::telling::{print_refusal, tell};
 use kmip_message_commands::{CommandFault, ExitStatus, Printed, Printer, finished};
 use kmip_probe::{QUESTIONS, is_prefix};
 use kmip_protocol::Link;
@@ -20,19 +19,16 @@ use std::alloc::Global;
 use std::io::Write;
 use std::mem;
 
-/// The line of a prefix that can't begin names.
-const UNFIT_PREFIX: &str =
-    "prefix refused: it is not 1 to 62 printable ASCII characters without a space\n";
-
-/// Probes over the link, writes what came of it, and prints the line of a fault. `Done` where every
-/// premise is seen to be kept, and else `Refused`; `Failed` with the fault. A prefix that can't begin
-/// names is refused by a line of its own.
+/// Probes over the link, writes in this form what came of it, and prints the line of a fault, which is
+/// plain text in each form. `Done` where every premise is seen to be kept, and else `Refused`; `Failed`
+/// with the fault. A prefix that can't begin names is refused by a line of its own.
 ///
 /// Which keys are to be made is written before the first is. Each line of what is found is written once
 /// the answers that decide it have come, and those of the lines before it.
-pub fn run_probe<L: Link, W: Write>(
+pub fn run_probe<F: ProbeForm, L: Link, W: Write>(
     alloc: Global,
     prefix: &str,
+    form: &F,
     link: &mut L,
     writer: &mut W,
 ) -> ExitStatus
@@ -41,15 +37,16 @@ pub fn run_probe<L: Link, W: Write>(
     // has a name, or that it could not be told, with the reason where the look was refused or its reply
     // can't be read. Over an honest link these are the answers of the questions that were asked.
     ensures text { IsTrue (is_prefix prefix.now) → IfWhole result
-        (λ r. WritesProbe prefix.now (L.seen link.old) (L.seen link.new) r
+        (λ r. WritesProbe F.texts prefix.now (L.seen link.old) (L.seen link.new) r
         (W.contents writer.old) (W.contents writer.new)) }
     // Of any other prefix nothing is asked. Where it does not fail, a line says so, and it is refused.
     ensures unfit { is_prefix prefix.now ≡ false → (link.new ≡ link.old) × IfWhole result
-        (λ r. (r ≡ true) × Appends (W.contents writer.old) (W.contents writer.new) unfit_text) }
+        (λ r. (r ≡ true) × Appends (W.contents writer.old) (W.contents writer.new)
+        F.texts.unfit_line) }
     // Where it ends with `Failed`, what was written is some first lines of what is told of answers that
     // have come, and then the line of the fault. No line was written before the answers that decide it
     // (`TellsSome`). Of a writer that failed, nothing is said.
-    ensures broken { IfFailed result (λ fault. UnlessOutput fault (TellsSome prefix.now
+    ensures broken { IfFailed result (λ fault. UnlessOutput fault (TellsSome F.texts prefix.now
         (fault_line fault) (W.contents writer.old) (W.contents writer.new))) }
     // The fault is never that of a reader.
     ensures no_input { IfFailed result (λ fault. fault ≢ CommandFault.Input) }
@@ -62,20 +59,60 @@ pub fn run_probe<L: Link, W: Write>(
     ensures kept { IsTrue (is_prefix prefix.now) → (names : Names) → (L.seen link.old).calm names
         → IsUnprobed prefix.now (L.seen link.old).past → IfWhole result (λ r. (r ≡ false)
         × Appends (W.contents writer.old) (W.contents writer.new)
-        (making_text prefix.now ++ kept_text)) }
+        (making_text F.texts prefix.now ++ F.texts.kept_lines)) }
 {
-    let ended = probe_to(alloc, prefix, link, writer);
+    let ended = probe(alloc, prefix, form, link, writer);
     finished(ended, writer)
 }
 
-/// Probes in memory: appends what `run_probe` writes to `output`. Says whether the prefix was refused,
-/// or a premise is not seen to be kept.
+/// Probes over the link, and writes what came of it, each line when `run_probe` does. Says whether the
+/// prefix was refused, or a premise is not seen to be kept.
+///
+/// # Errors
+/// `NoMemory`, and `Output` where the writer fails. The lines that were written before stay.
+pub fn probe<F: ProbeForm, L: Link, W: Write>(
+    alloc: Global,
+    prefix: &str,
+    form: &F,
+    link: &mut L,
+    writer: &mut W,
+) -> Result<bool, CommandFault>
+    // Of a prefix that can begin names, what is written is what some answers tell, as of `run_probe`.
+    ensures text { IsTrue (is_prefix prefix.now) → IfOk result
+        (λ r. WritesProbe F.texts prefix.now (L.seen link.old) (L.seen link.new) r
+        (W.contents writer.old) (W.contents writer.new)) }
+    // Of any other prefix nothing is asked. Where it does not fail, a line says so, and it is refused.
+    ensures unfit { is_prefix prefix.now ≡ false → (link.new ≡ link.old) × IfOk result
+        (λ r. (r ≡ true) × Appends (W.contents writer.old) (W.contents writer.new)
+        F.texts.unfit_line) }
+    // Where it fails, what was written is some first lines of what is told of answers that have come. No
+    // line was written before the answers that decide it. Of a writer that failed, nothing is said.
+    ensures broken { IfErr result (λ fault. UnlessOutput fault (TellsSome F.texts prefix.now []
+        (W.contents writer.old) (W.contents writer.new))) }
+    // The fault is never that of a reader.
+    ensures no_input { IfErr result (λ fault. fault ≢ CommandFault.Input) }
+    // Over an honest link at most 25 messages are sent, however it ends.
+    ensures few { (names : Names) → (L.seen link.old).honest names
+        → length (L.seen link.new).past.sent ≤ length (L.seen link.old).past.sent + QUESTIONS }
+    // It asks for a link and a server as `run_probe` does. Then the text names the two keys and says yes
+    // to every premise, and nothing is refused, unless memory or the writer fails.
+    ensures kept { IsTrue (is_prefix prefix.now) → (names : Names) → (L.seen link.old).calm names
+        → IsUnprobed prefix.now (L.seen link.old).past → IfOk result (λ r. (r ≡ false)
+        × Appends (W.contents writer.old) (W.contents writer.new)
+        (making_text F.texts prefix.now ++ F.texts.kept_lines)) }
+{
+    probe_to(alloc, prefix, form, link, writer)
+}
+
+/// Probes in memory: appends to `output` what `run_probe` writes in this form. Says whether the prefix was
+/// refused, or a premise is not seen to be kept.
 ///
 /// # Errors
 /// Where there is no memory; then nothing is appended.
-pub fn probe_bytes<L: Link>(
+pub fn probe_bytes<F: ProbeForm, L: Link>(
     alloc: Global,
     prefix: &str,
+    form: &F,
     link: &mut L,
     output: &mut Vec<u8>,
 ) -> Result<bool, NoMemory>
@@ -84,11 +121,11 @@ pub fn probe_bytes<L: Link>(
     // not be told, with the reason where the look was refused or its reply can't be read. Over an honest
     // link these are the answers of the questions that were asked.
     ensures text { IsTrue (is_prefix prefix.now) → IfOk result
-        (λ r. WritesProbe prefix.now (L.seen link.old) (L.seen link.new) r
+        (λ r. WritesProbe F.texts prefix.now (L.seen link.old) (L.seen link.new) r
         (Some output.old.items) (Some output.new.items)) }
     // Of any other prefix nothing is asked. Where it does not fail, a line says so, and it is refused.
     ensures unfit { is_prefix prefix.now ≡ false → (link.new ≡ link.old) × IfOk result
-        (λ r. (r ≡ true) × (output.new.items ≡ output.old.items ++ unfit_text)) }
+        (λ r. (r ≡ true) × (output.new.items ≡ output.old.items ++ F.texts.unfit_line)) }
     // At want of memory nothing is appended.
     ensures broken { OnErr result (output.new.items ≡ output.old.items) }
     // Over an honest link at most 25 messages are sent, however it ends.
@@ -99,13 +136,14 @@ pub fn probe_bytes<L: Link>(
     // every premise, and nothing is refused, unless memory runs out.
     ensures kept { IsTrue (is_prefix prefix.now) → (names : Names) → (L.seen link.old).calm names
         → IsUnprobed prefix.now (L.seen link.old).past → IfOk result (λ r. (r ≡ false)
-        × (output.new.items ≡ output.old.items ++ (making_text prefix.now ++ kept_text))) }
+        × (output.new.items
+        ≡ output.old.items ++ (making_text F.texts prefix.now ++ F.texts.kept_lines))) }
 {
     let before = output.len();
     let mut printed = Printed {
         text: mem::replace(output, Vec::new(alloc)),
     };
-    let ended = probe_to(alloc, prefix, link, &mut printed);
+    let ended = probe_to(alloc, prefix, form, link, &mut printed);
     *output = printed.text;
     match ended {
         Ok(refused) => Ok(refused),
@@ -121,44 +159,31 @@ pub fn probe_bytes<L: Link>(
 /// # Errors
 ///
 /// `NoMemory`, and the fault of the printer.
-fn probe_to<L: Link, P: Printer>(
+fn probe_to<F: ProbeForm, L: Link, P: Printer>(
     alloc: Global,
     prefix: &str,
+    form: &F,
     link: &mut L,
     printer: &mut P,
 ) -> Result<bool, CommandFault>
     ensures text { IsTrue (is_prefix prefix.now) → IfOk result
-        (λ r. WritesProbe prefix.now (L.seen link.old) (L.seen link.new) r
+        (λ r. WritesProbe F.texts prefix.now (L.seen link.old) (L.seen link.new) r
         (P.contents printer.old) (P.contents printer.new)) }
     ensures unfit { is_prefix prefix.now ≡ false → (link.new ≡ link.old) × IfOk result
-        (λ r. (r ≡ true) × Appends (P.contents printer.old) (P.contents printer.new) unfit_text) }
-    ensures broken { IfErr result (λ fault. BreaksMidway fault P.own_fault P.IsWhole prefix.now
-        (P.contents printer.old) (P.contents printer.new)) }
+        (λ r. (r ≡ true) × Appends (P.contents printer.old) (P.contents printer.new)
+        F.texts.unfit_line) }
+    ensures broken { IfErr result (λ fault. BreaksMidway F.texts fault P.own_fault P.IsWhole
+        prefix.now (P.contents printer.old) (P.contents printer.new)) }
     ensures few { (names : Names) → (L.seen link.old).honest names
         → length (L.seen link.new).past.sent ≤ length (L.seen link.old).past.sent + QUESTIONS }
     ensures kept { IsTrue (is_prefix prefix.now) → (names : Names) → (L.seen link.old).calm names
         → IsUnprobed prefix.now (L.seen link.old).past → IfOk result (λ r. (r ≡ false)
         × Appends (P.contents printer.old) (P.contents printer.new)
-        (making_text prefix.now ++ kept_text)) }
+        (making_text F.texts prefix.now ++ F.texts.kept_lines)) }
 {
     if is_prefix(prefix) {
-        tell(alloc, prefix, link, printer)
+        tell(alloc, prefix, form, link, printer)
     } else {
-        refuse_prefix(printer)
+        print_refusal(form.unfit_line().as_bytes(), printer)
     }
-}
-
-/// Tells that the prefix can't begin names; that is refused.
-///
-/// # Errors
-///
-/// The fault of the printer.
-fn refuse_prefix<P: Printer>(printer: &mut P) -> Result<bool, CommandFault>
-    ensures text { IfOk result (λ r. (r ≡ true)
-        × Appends (P.contents printer.old) (P.contents printer.new) unfit_text) }
-    ensures broken { IfErr result (λ fault. Fails fault P.own_fault P.IsWhole
-        (P.contents printer.old) (P.contents printer.new)) }
-{
-    printer.print(UNFIT_PREFIX.as_bytes())?;
-    Ok(true)
 }

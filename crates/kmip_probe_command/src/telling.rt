@@ -9,22 +9,22 @@ ghost use Rattle.kmip_probe.specs.Asking.{is_free_at};
 ghost use Rattle.kmip_probe.specs.Inquiries.{is_prefix};
 ghost use Rattle.kmip_probe.specs.Serving.{IsUnprobed};
 ghost use Rattle.kmip_probe.specs.TwoObjects.{AreServed};
-ghost use Rattle.kmip_probe_command.specs.LookText.{making_text};
 ghost use Rattle.kmip_probe.specs.Putting.{AsksOn};
-ghost use Rattle.kmip_probe_command.specs.Private.{BreaksMidway};
 ghost use Rattle.kmip_probe_command.specs.Midway.{line_by};
-ghost use Rattle.kmip_probe_command.specs.Private.{TellsEnd};
-ghost use Rattle.kmip_probe_command.specs.ProbeText.{WritesProbe, kept_text};
-ghost use Rattle.kmip_probe_command.specs.Wording.{report_text};
-ghost use Rattle.kmip_probe_command.specs.Private.{rest_text};
+ghost use Rattle.kmip_probe_command.specs.Private.{BreaksMidway, TellsEnd, rest_text};
+ghost use Rattle.kmip_probe_command.specs.ProbeText.{WritesProbe, line_of, making_text, report_text};
 
 use crate::looking::{making_text, unbegun_text};
-use crate::premise::{EARLY, EARLY_ANSWERS, LATE, LATE_ANSWERS, Premise};
-use crate::wording::{are_all_kept, lines_of, rest_of_report};
+use crate::premise::{EARLY, EARLY_ANSWERS, LATE, LATE_ANSWERS, Premise, finding_of};
+use crate::probe_form::ProbeForm;
+use crate::wording::are_all_kept;
 use kmip_message_commands::{CommandFault, Printer};
 use kmip_probe::laws::the_profile_keeps_all;
-use kmip_probe::{Answer, LOOK_FIRST, LOOK_SECOND, LOOKS, QUESTIONS, ask_on, findings_of};
+use kmip_probe::{
+    Answer, Findings, LOOK_FIRST, LOOK_SECOND, LOOKS, QUESTIONS, ask_on, findings_of,
+};
 use kmip_protocol::Link;
+use kmip_ttlv::NoMemory;
 use std::alloc::Global;
 
 /// Asks the questions of a probe, and tells what their answers say. Says whether a premise is not seen
@@ -33,30 +33,33 @@ use std::alloc::Global;
 /// # Errors
 ///
 /// `NoMemory`, and the fault of the printer.
-pub(crate) fn tell<L: Link, P: Printer>(
+pub(crate) fn tell<F: ProbeForm, L: Link, P: Printer>(
     alloc: Global,
     prefix: &str,
+    form: &F,
     link: &mut L,
     printer: &mut P,
 ) -> Result<bool, CommandFault>
     requires { IsTrue (is_prefix prefix.now) }
-    ensures text { IfOk result (λ r. WritesProbe prefix.now (L.seen link.old) (L.seen link.new) r
+    ensures text { IfOk result
+        (λ r. WritesProbe F.texts prefix.now (L.seen link.old) (L.seen link.new) r
         (P.contents printer.old) (P.contents printer.new)) }
-    ensures broken { IfErr result (λ fault. BreaksMidway fault P.own_fault P.IsWhole prefix.now
-        (P.contents printer.old) (P.contents printer.new)) }
+    ensures broken { IfErr result (λ fault. BreaksMidway F.texts fault P.own_fault P.IsWhole
+        prefix.now (P.contents printer.old) (P.contents printer.new)) }
     ensures few { (names : Names) → (L.seen link.old).honest names
         → length (L.seen link.new).past.sent ≤ length (L.seen link.old).past.sent + QUESTIONS }
     ensures kept { (names : Names) → (L.seen link.old).calm names
         → IsUnprobed prefix.now (L.seen link.old).past → IfOk result (λ r. (r ≡ false)
         × Appends (P.contents printer.old) (P.contents printer.new)
-        (making_text prefix.now ++ kept_text)) }
+        (making_text F.texts prefix.now ++ F.texts.kept_lines)) }
 {
     the_profile_keeps_all();
+    F::tells_all_kept();
     let mut answers = Vec::new(alloc);
     ask_on(alloc, prefix, link, LOOKS, &mut answers)?;
-    match unbegun_text(alloc, prefix, answers.as_slice())? {
-        Some(text) => print_refusal(text.as_str(), printer),
-        None => tell_on(alloc, prefix, link, printer, &mut answers),
+    match unbegun_text(alloc, prefix, form, answers.as_slice())? {
+        Some(text) => print_refusal(text.as_slice(), printer),
+        None => tell_on(alloc, prefix, form, link, printer, &mut answers),
     }
 }
 
@@ -66,9 +69,10 @@ pub(crate) fn tell<L: Link, P: Printer>(
 /// # Errors
 ///
 /// `NoMemory`, and the fault of the printer.
-fn tell_on<L: Link, P: Printer>(
+fn tell_on<F: ProbeForm, L: Link, P: Printer>(
     alloc: Global,
     prefix: &str,
+    form: &F,
     link: &mut L,
     printer: &mut P,
     answers: &mut Vec<Answer>,
@@ -82,11 +86,12 @@ fn tell_on<L: Link, P: Printer>(
     ensures asked { (names : Names) → (L.seen link.old).honest names
         → IfOk result (λ r. AsksOn prefix.now
         answers.old.items answers.new.items (L.seen link.old).past (L.seen link.new).past) }
-    ensures text { IfOk result (λ r. TellsEnd (λ f. making_text prefix.now ++ report_text f)
+    ensures text { IfOk result (λ r. TellsEnd (λ f. making_text F.texts prefix.now
+        ++ report_text F.texts f)
         prefix.now answers.new.items r (P.contents printer.old) (P.contents printer.new)) }
     ensures all { IfOk result (λ r. length answers.new.items ≡ QUESTIONS) }
-    ensures broken { IfErr result (λ fault. BreaksMidway fault P.own_fault P.IsWhole prefix.now
-        (P.contents printer.old) (P.contents printer.new)) }
+    ensures broken { IfErr result (λ fault. BreaksMidway F.texts fault P.own_fault P.IsWhole
+        prefix.now (P.contents printer.old) (P.contents printer.new)) }
     ensures few { (names : Names) → (L.seen link.old).honest names
         → length (L.seen link.new).past.sent + LOOKS
         ≤ length (L.seen link.old).past.sent + QUESTIONS }
@@ -94,27 +99,27 @@ fn tell_on<L: Link, P: Printer>(
         → AreServed prefix.now answers.old.items (L.seen link.old).past
         → IfOk result (λ r. AreServed prefix.now answers.new.items (L.seen link.new).past) }
 {
-    print_making(alloc, prefix, printer)?;
+    print_making(alloc, prefix, form, printer)?;
     ask_on(alloc, prefix, link, EARLY_ANSWERS, answers)?;
-    print_lines(alloc, prefix, answers.as_slice(), &EARLY, printer)?;
+    print_lines(alloc, prefix, form, answers.as_slice(), &EARLY, printer)?;
     ask_on(alloc, prefix, link, LATE_ANSWERS, answers)?;
-    print_lines(alloc, prefix, answers.as_slice(), &LATE, printer)?;
+    print_lines(alloc, prefix, form, answers.as_slice(), &LATE, printer)?;
     ask_on(alloc, prefix, link, QUESTIONS, answers)?;
-    print_rest(alloc, prefix, answers.as_slice(), printer)
+    print_rest(alloc, prefix, form, answers.as_slice(), printer)
 }
 
-/// Prints why nothing was made; that is refused.
+/// Prints why nothing was asked or made; that is refused.
 ///
 /// # Errors
 ///
 /// The fault of the printer.
-fn print_refusal<P: Printer>(text: &str, printer: &mut P) -> Result<bool, CommandFault>
+pub(crate) fn print_refusal<P: Printer>(text: &[u8], printer: &mut P) -> Result<bool, CommandFault>
     ensures text { IfOk result (λ r. (r ≡ true)
         × Appends (P.contents printer.old) (P.contents printer.new) text.now) }
     ensures broken { IfErr result (λ fault. Fails fault P.own_fault P.IsWhole
         (P.contents printer.old) (P.contents printer.new)) }
 {
-    printer.print(text.as_bytes())?;
+    printer.print(text)?;
     Ok(true)
 }
 
@@ -123,18 +128,19 @@ fn print_refusal<P: Printer>(text: &str, printer: &mut P) -> Result<bool, Comman
 /// # Errors
 ///
 /// `NoMemory`, and the fault of the printer.
-fn print_making<P: Printer>(
+fn print_making<F: ProbeForm, P: Printer>(
     alloc: Global,
     prefix: &str,
+    form: &F,
     printer: &mut P,
 ) -> Result<(), CommandFault>
     ensures text { OnOk result (Appends (P.contents printer.old) (P.contents printer.new)
-        (making_text prefix.now)) }
+        (making_text F.texts prefix.now)) }
     ensures broken { IfErr result (λ fault. Fails fault P.own_fault P.IsWhole
         (P.contents printer.old) (P.contents printer.new)) }
 {
-    let text = making_text(alloc, prefix)?;
-    printer.print(text.as_str().as_bytes())?;
+    let text = making_text(alloc, prefix, form)?;
+    printer.print(text.as_slice())?;
     Ok(())
 }
 
@@ -143,21 +149,22 @@ fn print_making<P: Printer>(
 /// # Errors
 ///
 /// `NoMemory`, and the fault of the printer.
-fn print_lines<P: Printer>(
+fn print_lines<F: ProbeForm, P: Printer>(
     alloc: Global,
     prefix: &str,
+    form: &F,
     answers: &[Answer],
     premises: &[Premise],
     printer: &mut P,
 ) -> Result<(), CommandFault>
     ensures text { OnOk result (Appends (P.contents printer.old) (P.contents printer.new)
-        (flat_map (line_by prefix.now answers.now) premises.now)) }
+        (flat_map (line_by F.texts prefix.now answers.now) premises.now)) }
     ensures broken { IfErr result (λ fault. Fails fault P.own_fault P.IsWhole
         (P.contents printer.old) (P.contents printer.new)) }
 {
     let findings = findings_of(alloc, prefix, answers)?;
-    let text = lines_of(alloc, &findings, premises)?;
-    printer.print(text.as_str().as_bytes())?;
+    let text = lines_of(alloc, form, &findings, premises)?;
+    printer.print(text.as_slice())?;
     Ok(())
 }
 
@@ -167,19 +174,60 @@ fn print_lines<P: Printer>(
 /// # Errors
 ///
 /// `NoMemory`, and the fault of the printer.
-fn print_rest<P: Printer>(
+fn print_rest<F: ProbeForm, P: Printer>(
     alloc: Global,
     prefix: &str,
+    form: &F,
     answers: &[Answer],
     printer: &mut P,
 ) -> Result<bool, CommandFault>
-    ensures text { IfOk result (λ r. TellsEnd rest_text prefix.now answers.now r
+    ensures text { IfOk result (λ r. TellsEnd (rest_text F.texts) prefix.now answers.now r
         (P.contents printer.old) (P.contents printer.new)) }
     ensures broken { IfErr result (λ fault. Fails fault P.own_fault P.IsWhole
         (P.contents printer.old) (P.contents printer.new)) }
 {
     let findings = findings_of(alloc, prefix, answers)?;
-    let text = rest_of_report(alloc, &findings)?;
-    printer.print(text.as_str().as_bytes())?;
+    let text = rest_of_report(alloc, form, &findings)?;
+    printer.print(text.as_slice())?;
     Ok(!are_all_kept(&findings))
+}
+
+/// What is told in a form after the lines that are told before a probe ends: the line of the last
+/// premise, and what stands behind it.
+///
+/// # Errors
+/// Where there is no memory.
+fn rest_of_report<F: ProbeForm>(
+    alloc: Global,
+    form: &F,
+    findings: &Findings,
+) -> Result<Vec<u8>, NoMemory>
+    ensures { IfOk result (λ text. text.items ≡ rest_text F.texts findings.now) }
+{
+    let premise = Premise::IdsAreEchoed;
+    let mut text = form.premise_line(alloc, premise, finding_of(findings, premise))?;
+    let end = form.last_lines(alloc, findings)?;
+    text.extend_from_slice(end.as_slice())?;
+    Ok(text)
+}
+
+/// The lines of some premises, in a form.
+///
+/// # Errors
+/// Where there is no memory.
+fn lines_of<F: ProbeForm>(
+    alloc: Global,
+    form: &F,
+    findings: &Findings,
+    premises: &[Premise],
+) -> Result<Vec<u8>, NoMemory>
+    ensures { IfOk result (λ text. text.items
+        ≡ flat_map (line_of F.texts findings.now) premises.now) }
+{
+    let mut text = Vec::new(alloc);
+    for premise in premises {
+        let line = form.premise_line(alloc, *premise, finding_of(findings, *premise))?;
+        text.extend_from_slice(line.as_slice())?;
+    }
+    Ok(text)
 }

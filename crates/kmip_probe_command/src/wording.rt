@@ -1,9 +1,8 @@
-//! What is printed of a probe.
+//! What is printed of the premises as plain text, and what all forms say of them.
 ghost use Rattle.std.specs.Prelude.{◌≡◌, ◌++◌, codes, flat_map, IfOk, OnOk, string_bytes};
 ghost use Rattle.std.specs.List.{list_all, list_any};
 ghost use Rattle.std.specs.Fmt.{decimal};
-ghost use Rattle.kmip_probe_command.specs.Wording.{are_all_kept, ending_text, finding_of, finding_text, flaw_text, is_broken, is_kept, is_unsafe, listed, premise_line, risk_line, sum_text};
-ghost use Rattle.kmip_probe_command.specs.Private.{rest_text};
+ghost use Rattle.kmip_probe_command.specs.Wording.{are_all_kept, ending_text, finding_of, finding_text, flaw_text, is_broken, is_kept, is_unsafe, line_text, listed, risk_line, sum_text};
 
 use crate::premise::{PREMISES, Premise, finding_of};
 use kmip_probe::{Finding, Findings, Flaw};
@@ -51,14 +50,18 @@ fn finding_text(alloc: Global, finding: &Finding) -> Result<String, NoMemory>
     Ok(text)
 }
 
-/// The line of a premise.
+/// The line of a premise, of which this is found.
 ///
 /// # Errors
 /// Where there is no memory.
-fn premise_line(alloc: Global, findings: &Findings, premise: Premise) -> Result<String, NoMemory>
-    ensures { IfOk result (λ text. string_bytes text ≡ premise_line findings.now premise) }
+pub(crate) fn line_text(
+    alloc: Global,
+    premise: Premise,
+    finding: &Finding,
+) -> Result<String, NoMemory>
+    ensures { IfOk result (λ text. string_bytes text ≡ line_text premise finding.now) }
 {
-    let found = finding_text(alloc, finding_of(findings, premise))?;
+    let found = finding_text(alloc, finding)?;
     let line = format!(in alloc; "{}: {found}\n", premise.text())?;
     Ok(line)
 }
@@ -167,25 +170,11 @@ fn push_rest(alloc: Global, reasons: &[u32], text: &mut String) -> Result<(), No
     Ok(())
 }
 
-/// What is printed of what a probe found after the lines that are told before it ends: the line of the
-/// last premise, the reasons, what may go wrong, and the sum.
-///
-/// # Errors
-/// Where there is no memory.
-pub(crate) fn rest_of_report(alloc: Global, findings: &Findings) -> Result<String, NoMemory>
-    ensures { IfOk result (λ text. string_bytes text ≡ rest_text findings.now) }
-{
-    let mut text = premise_line(alloc, findings, Premise::IdsAreEchoed)?;
-    let end = ending_text(alloc, findings)?;
-    text.push_str(end.as_str())?;
-    Ok(text)
-}
-
 /// What is printed after the lines of the premises.
 ///
 /// # Errors
 /// Where there is no memory.
-fn ending_text(alloc: Global, findings: &Findings) -> Result<String, NoMemory>
+pub(crate) fn ending_text(alloc: Global, findings: &Findings) -> Result<String, NoMemory>
     ensures { IfOk result (λ text. string_bytes text ≡ ending_text findings.now) }
 {
     let reasons = listed(alloc, findings.reasons.as_slice())?;
@@ -193,26 +182,6 @@ fn ending_text(alloc: Global, findings: &Findings) -> Result<String, NoMemory>
     let risks = risk_lines(alloc, findings)?;
     text.push_str(risks.as_str())?;
     text.push_str(sum_text(findings))?;
-    Ok(text)
-}
-
-/// The lines of some premises.
-///
-/// # Errors
-/// Where there is no memory.
-pub(crate) fn lines_of(
-    alloc: Global,
-    findings: &Findings,
-    premises: &[Premise],
-) -> Result<String, NoMemory>
-    ensures { IfOk result (λ text. string_bytes text
-        ≡ flat_map (premise_line findings.now) premises.now) }
-{
-    let mut text = String::new(alloc);
-    for premise in premises {
-        let line = premise_line(alloc, findings, *premise)?;
-        text.push_str(line.as_str())?;
-    }
     Ok(text)
 }
 

@@ -1,12 +1,15 @@
 //! The commands, over standard input, files and standard output.
 
+use crate::checking::{push_checked, push_checked_after};
 use crate::plan_schema::PLAN_SCHEMA;
-use kmip_choices::{Choice, Detail};
+use crate::simulating::simulate_in_json;
+use kmip_choices::{Choice, Detail, Format};
 use kmip_explaining::{tell_prolonging, tell_refusal};
 use kmip_message_commands::{ExitStatus, Form, run_answer, run_answer_stream, run_show};
 use kmip_network::{
-    Trouble, batch_of, list_progress, look_at_server, plan_at, plan_name, plan_text_at,
-    probe_server, run_plan, serve, standard_input, standard_output, tell_of_terminal, text_at,
+    PlanFile, Trouble, batch_of, list_progress, look_at_server, plan_at, plan_name, plan_text_at,
+    print_documents, probe_server, run_plan, serve, standard_input, standard_output,
+    tell_of_terminal, text_at,
 };
 use kmip_plan_commands::{SimInput, check_after_bytes, run_check, run_check_after, run_sim};
 use kmip_ttlv::NoMemory;
@@ -22,17 +25,27 @@ pub(crate) fn execute(rt: &HostRuntime, choice: Choice) -> Result<ExitStatus, Tr
         Choice::Answer => answer_input(rt),
         Choice::AnswerStream => answer_stream_input(rt),
         Choice::Show(form) => show_input(rt, form),
-        Choice::Check(path) => check_plan(rt, path.as_str()),
-        Choice::CheckAfter { plan, earlier } => {
-            check_plan_after(rt, plan.as_str(), earlier.as_str())
-        }
+        Choice::Check { plan, format } => check_plan(rt, plan.as_str(), format),
+        Choice::CheckAfter {
+            plan,
+            earlier,
+            format,
+        } => check_plan_after(rt, plan.as_str(), earlier.as_str(), format),
         Choice::Simulate {
             plan,
             further,
             script,
             detail,
             batch,
-        } => simulate_files(rt, detail, batch, plan.as_str(), further, script.as_str()),
+            format,
+        } => {
+            let telling = Telling {
+                detail,
+                batch,
+                format,
+            };
+            simulate_files(rt, telling, plan.as_str(), further, script.as_str())
+        }
         Choice::Run(options) => run_plan(rt, &options),
         Choice::List(options) => list_progress(rt, &options),
         Choice::Probe(options) => probe_server(rt, &options),
@@ -76,10 +89,19 @@ fn show_input(rt: &HostRuntime, form: Form) -> Result<ExitStatus, Trouble> {
 }
 
 /// The command `check` from a file or standard input to standard output.
-fn check_plan(rt: &HostRuntime, path: &str) -> Result<ExitStatus, Trouble> {
+fn check_plan(rt: &HostRuntime, path: &str, format: Format) -> Result<ExitStatus, Trouble> {
     let plan = plan_text_at(rt, path)?;
-    let mut writer = BufWriter::new(rt.alloc(), standard_output(rt))?;
-    let status = run_check(rt.alloc(), plan.as_str(), &mut writer);
+    let status = match format {
+        Format::Text => {
+            let mut writer = BufWriter::new(rt.alloc(), standard_output(rt))?;
+            run_check(rt.alloc(), plan.as_str(), &mut writer)
+        }
+        Format::Json => {
+            let mut documents = Vec::new(rt.alloc());
+            let made = push_checked(rt.alloc(), plan.as_str(), &mut documents);
+            print_documents(rt, made, documents.as_slice())
+        }
+    };
     if status == ExitStatus::Refused {
         tell_refusal(rt, plan_name(path), plan.as_str());
     }
@@ -91,54 +113,70 @@ fn check_plan_after(
     rt: &HostRuntime,
     path: &str,
     earlier_path: &str,
+    format: Format,
 ) -> Result<ExitStatus, Trouble> {
-    let plan = plan_at(rt, path)?.text;
+    let PlanFile { text, plan } = plan_at(rt, path)?;
     let earlier = text_at(rt, earlier_path)?;
-    let mut writer = BufWriter::new(rt.alloc(), standard_output(rt))?;
-    let status = run_check_after(rt.alloc(), plan.as_str(), earlier.as_str(), &mut writer);
+    let status = match format {
+        Format::Text => {
+            let mut writer = BufWriter::new(rt.alloc(), standard_output(rt))?;
+            run_check_after(rt.alloc(), text.as_str(), earlier.as_str(), &mut writer)
+        }
+        Format::Json => {
+            let mut documents = Vec::new(rt.alloc());
+            let made = push_checked_after(rt.alloc(), &plan, earlier.as_str(), &mut documents);
+            print_documents(rt, made, documents.as_slice())
+        }
+    };
     if status == ExitStatus::Refused {
         let name = plan_name(path);
-        tell_prolonging(rt, name, plan.as_str(), earlier_path, earlier.as_str());
+        tell_prolonging(rt, name, text.as_str(), earlier_path, earlier.as_str());
     }
     Ok(status)
+}
+
+/// How a simulation is made, and what is told of it.
+#[derive(Clone, Copy)]
+struct Telling {
+    detail: Detail,
+    /// How many keys a message asks about at most.
+    batch: u64,
+    format: Format,
 }
 
 /// The command `sim`, from the files of one plan or of two.
 fn simulate_files(
     rt: &HostRuntime,
-    detail: Detail,
-    batch: u64,
+    telling: Telling,
     path: &str,
     further_path: Option<String>,
     script_path: &str,
 ) -> Result<ExitStatus, Trouble> {
     match further_path {
         Some(further_path) => {
-            simulate_plans(rt, detail, batch, path, further_path.as_str(), script_path)
+            simulate_plans(rt, telling, path, further_path.as_str(), script_path)
         }
-        None => simulate_plan(rt, detail, batch, path, script_path),
+        None => simulate_plan(rt, telling, path, script_path),
     }
 }
 
 /// The command `sim` from two files to standard output.
 fn simulate_plan(
     rt: &HostRuntime,
-    detail: Detail,
-    batch: u64,
+    telling: Telling,
     path: &str,
     script_path: &str,
 ) -> Result<ExitStatus, Trouble> {
     let plan = plan_at(rt, path)?.text;
     let script = text_at(rt, script_path)?;
-    simulate(rt, detail, batch, plan.as_str(), None, script.as_str())
+    simulate(rt, telling, plan.as_str(), None, script.as_str())
 }
 
 /// The command `sim --then` from three files to standard output. The script is read once both plans
 /// are judged.
 fn simulate_plans(
     rt: &HostRuntime,
-    detail: Detail,
-    batch: u64,
+    telling: Telling,
     path: &str,
     further_path: &str,
     script_path: &str,
@@ -146,7 +184,7 @@ fn simulate_plans(
     let plan = plan_at(rt, path)?.text;
     let further = text_at(rt, further_path)?;
     if is_refused_after(rt, further.as_str(), plan.as_str())? {
-        let status = simulate(rt, detail, batch, plan.as_str(), Some(further.as_str()), "")?;
+        let status = simulate(rt, telling, plan.as_str(), Some(further.as_str()), "")?;
         tell_refusal(rt, further_path, further.as_str());
         let name = plan_name(path);
         tell_prolonging(rt, further_path, further.as_str(), name, plan.as_str());
@@ -155,8 +193,7 @@ fn simulate_plans(
     let script = text_at(rt, script_path)?;
     simulate(
         rt,
-        detail,
-        batch,
+        telling,
         plan.as_str(),
         Some(further.as_str()),
         script.as_str(),
@@ -172,16 +209,29 @@ fn is_refused_after(rt: &HostRuntime, plan: &str, earlier: &str) -> Result<bool,
 /// Simulates a plan, and a further one where there is one, to standard output.
 fn simulate(
     rt: &HostRuntime,
-    detail: Detail,
-    batch: u64,
+    telling: Telling,
+    plan: &str,
+    further: Option<&str>,
+    script: &str,
+) -> Result<ExitStatus, Trouble> {
+    match telling.format {
+        Format::Text => simulate_in_text(rt, telling, plan, further, script),
+        Format::Json => simulate_in_json(rt, telling.batch, plan, further, script),
+    }
+}
+
+/// Simulates them, and prints in lines what came of it.
+fn simulate_in_text(
+    rt: &HostRuntime,
+    telling: Telling,
     plan: &str,
     further: Option<&str>,
     script: &str,
 ) -> Result<ExitStatus, Trouble> {
     let mut writer = BufWriter::new(rt.alloc(), standard_output(rt))?;
     let input = SimInput {
-        detail,
-        batch: batch_of(batch),
+        detail: telling.detail,
+        batch: batch_of(telling.batch),
         script,
     };
     Ok(run_sim(rt.alloc(), plan, &input, further, &mut writer))

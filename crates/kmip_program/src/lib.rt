@@ -6,10 +6,12 @@
 //! it. kmipctl calls `run_program`; rows_kmipctl calls `run_words`, for each of its stored runs.
 #![tactic(auto)]
 
+mod checking;
 mod doing;
 mod own_environment;
 mod plan_schema;
 mod running;
+mod simulating;
 mod streams;
 mod wrong_address;
 

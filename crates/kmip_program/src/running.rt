@@ -4,13 +4,18 @@ use crate::doing::execute;
 use crate::own_environment::process_environment;
 use crate::streams::open_closed_streams;
 use crate::wrong_address::WrongAddress;
+use kmip_choices::{Choice, Format};
 use kmip_command_line::{Environment, chosen, status_of};
 use kmip_message_commands::{CommandFault, ExitStatus};
 use kmip_network::Trouble;
 use kmip_ttlv::NoMemory;
+use std::fmt::Display;
 use std::io::ErrorKind;
 use std::process::ExitCode;
 use std::{env, io};
+
+/// The option by which what came of a command is printed in JSON.
+const JSON_OPTION: &str = "--json";
 
 /// Runs the program: reads its command line and its environment, does what they ask for over standard
 /// streams, files and sockets, and returns the code to end with. Results, faults, help and usage faults
@@ -24,7 +29,7 @@ pub fn run_program(rt: &HostRuntime) -> ExitCode {
     let status = match own_words(rt) {
         Ok(words) => run_own(rt, words.as_slice()),
         Err(error) if error.kind() == ErrorKind::InvalidData => without_words(rt),
-        Err(error) => Trouble::from(error).tell(rt),
+        Err(error) => Trouble::from(error).tell(rt, Format::Text),
     };
     ExitCode::from(status.code())
 }
@@ -33,16 +38,41 @@ pub fn run_program(rt: &HostRuntime) -> ExitCode {
 fn run_own(rt: &HostRuntime, words: &[String]) -> ExitStatus {
     match process_environment(rt) {
         Ok(environment) => run_words(rt, words, &environment),
-        Err(want) => Trouble::from(want).tell(rt),
+        Err(want) => Trouble::from(want).tell(rt, format_among(words)),
     }
 }
 
 /// Runs the program with these words, the first of which is its name, and with this environment, and
 /// returns how it ended.
 pub fn run_words(rt: &HostRuntime, words: &[String], environment: &Environment) -> ExitStatus {
-    match run_command(rt, words, environment) {
+    match chosen(rt.alloc(), words, environment) {
+        Ok(choice) => run_choice(rt, choice),
+        Err(error) => {
+            let status = status_of(&error);
+            match print_unchosen(rt, words, environment, status, &error) {
+                Ok(()) => status,
+                Err(trouble) => trouble.tell(rt, format_among(words)),
+            }
+        }
+    }
+}
+
+/// Does what was asked for, and returns how it ended.
+fn run_choice(rt: &HostRuntime, choice: Choice) -> ExitStatus {
+    let format = choice.format();
+    match execute(rt, choice) {
         Ok(status) => status,
-        Err(trouble) => trouble.tell(rt),
+        Err(trouble) => trouble.tell(rt, format),
+    }
+}
+
+/// In which form want of memory is told before it is known what the words ask for: by whether one of
+/// them is the option for JSON.
+fn format_among(words: &[String]) -> Format {
+    if words.iter().any(|word| word.as_str() == JSON_OPTION) {
+        Format::Json
+    } else {
+        Format::Text
     }
 }
 
@@ -61,26 +91,25 @@ fn own_words(rt: &HostRuntime) -> io::Result<Vec<String>> {
     Ok(words)
 }
 
-/// Does what the words ask for.
-fn run_command(
+/// Prints the text for words that ask for no command, with which the program is to end so.
+///
+/// # Errors
+/// Want of memory, of which there is no such text, and a standard output that takes nothing.
+fn print_unchosen(
     rt: &HostRuntime,
     words: &[String],
     environment: &Environment,
-) -> Result<ExitStatus, Trouble> {
-    match chosen(rt.alloc(), words, environment) {
-        Ok(choice) => execute(rt, choice),
-        Err(error) => {
-            let status = status_of(&error);
-            if status == ExitStatus::Failed(CommandFault::NoMemory) {
-                return Err(Trouble::from(NoMemory));
-            }
-            if status == ExitStatus::Usage {
-                tell_address(rt, words, environment);
-            }
-            rt.print(&error)?;
-            Ok(status)
-        }
+    status: ExitStatus,
+    text: &impl Display,
+) -> Result<(), Trouble> {
+    if status == ExitStatus::Failed(CommandFault::NoMemory) {
+        return Err(Trouble::from(NoMemory));
     }
+    if status == ExitStatus::Usage {
+        tell_address(rt, words, environment);
+    }
+    rt.print(text)?;
+    Ok(())
 }
 
 /// Tells on standard error what is wrong with the address among the words of a wrong command line, or

@@ -166,58 +166,74 @@ pass_answer : (request : List ℕ) (s : Scene) (word : Word) → word ≡ exchan
 pass_answer request s word is pass =
     ap (λ w. (play w request (with_words (words_after_exchange s.words) s)).0) (sym is ∙ pass)
 
--- what the steps of an exchange gave
-pub record AreSteps (names : Names) (request : List ℕ) (old prepared mid last new : Scene) (word : Word) (repeated : Bool) (answer : Option (List ℕ)) (counts : Disturbances) : Type 0 where
-  pub repeated_is : repeated ≡ is_repeated (length old.asked) old.words
-  pub prepared_is : prepared ≡ before_play request old
-  pub early : is_repeated (length old.asked) old.words ≡ false → Delivered names (past_in old) (past_in (asked_only old.asked prepared))
-  pub joins : past_in prepared ≡ with_asked request (past_in (asked_only old.asked prepared))
-  pub word_is : word ≡ exchange_word prepared.words
-  pub taken : exchange_word prepared.words ≡ Pass
-      → AreTaken (stops_in request) (parts_in request) (replies_in (batch_reply prepared.stock request (pos 0))) (past_in prepared) (past_in mid)
-  pub mid_is : mid ≡ (played request prepared).1
-  pub answer_is : answer ≡ (played request prepared).0
-  pub counts_are : counts
-      ≡ counted (is_disturbed word repeated answer) (length (requests_in request)) (strange_handed every_name request answer) (disturbances_in mid)
-  pub last_is : last ≡ handed request word answer mid
-  pub new_is : new ≡ with_disturbances counts last
+-- an exchange step by step: what the link held after each step, and what the steps found
+pub record Steps : Type 0 where
+  -- before it, and once its request was asked and the words before its own were done
+  pub before : Scene
+  pub prepared : Scene
+  -- once its own word was done
+  pub played : Scene
+  -- once its answer was handed over, and once it was counted
+  pub handed : Scene
+  pub after : Scene
+  -- its own word, whether a word sends the request once more, and its answer
+  pub word : Word
+  pub repeated : Bool
+  pub answer : Option (List ℕ)
+  -- what was disturbed until then, with this exchange
+  pub counts : Disturbances
 
-clean : (nothing : NothingIsDelivered) (names : Names) (request : List ℕ) (old prepared mid last new : Scene) (word : Word) (repeated : Bool) (answer : Option (List ℕ)) (counts : Disturbances)
-    → AreSteps names request old prepared mid last new word repeated answer counts → IsUndisturbed word repeated answer
-    → IsClean names (past_in old) request answer (past_in new)
-clean nothing names request old prepared mid last new word repeated answer counts steps is =
-    let bytes = batch_reply prepared.stock request (pos 0) in
-    let answered : answer ≡ Some bytes = steps.answer_is ∙ pass_answer request prepared word steps.word_is is.word_is in
+-- these are the steps of an exchange of the request
+pub record AreSteps (names : Names) (request : List ℕ) (s : Steps) : Type 0 where
+  pub repeated_is : s.repeated ≡ is_repeated (length s.before.asked) s.before.words
+  pub prepared_is : s.prepared ≡ before_play request s.before
+  pub early : is_repeated (length s.before.asked) s.before.words ≡ false
+      → Delivered names (past_in s.before) (past_in (asked_only s.before.asked s.prepared))
+  pub joins : past_in s.prepared ≡ with_asked request (past_in (asked_only s.before.asked s.prepared))
+  pub word_is : s.word ≡ exchange_word s.prepared.words
+  pub taken : exchange_word s.prepared.words ≡ Pass
+      → AreTaken (stops_in request) (parts_in request) (replies_in (batch_reply s.prepared.stock request (pos 0))) (past_in s.prepared) (past_in s.played)
+  pub played_is : s.played ≡ (played request s.prepared).1
+  pub answer_is : s.answer ≡ (played request s.prepared).0
+  pub counts_are : s.counts
+      ≡ counted (is_disturbed s.word s.repeated s.answer) (length (requests_in request)) (strange_handed every_name request s.answer) (disturbances_in s.played)
+  pub handed_is : s.handed ≡ handed request s.word s.answer s.played
+  pub after_is : s.after ≡ with_disturbances s.counts s.handed
+
+clean : (nothing : NothingIsDelivered) (names : Names) (request : List ℕ) (s : Steps) → AreSteps names request s → IsUndisturbed s.word s.repeated s.answer
+    → IsClean names (past_in s.before) request s.answer (past_in s.after)
+clean nothing names request s are is =
+    let bytes = batch_reply s.prepared.stock request (pos 0) in
+    let answered : s.answer ≡ Some bytes = are.answer_is ∙ pass_answer request s.prepared s.word are.word_is is.word_is in
     let given_is : is.given ≡ bytes = same_Some _ _ (sym is.answer_is ∙ answered) in
     record {
       given = bytes;
-      before = past_in (asked_only old.asked prepared);
-      served = past_in mid;
-      after = past_in mid;
-      early = steps.early (sym steps.repeated_is ∙ is.first);
-      taken = subst (λ p. AreTaken (stops_in request) (parts_in request) (replies_in bytes) p (past_in mid)) steps.joins
-          (steps.taken (sym steps.word_is ∙ is.word_is));
+      before = past_in (asked_only s.before.asked s.prepared);
+      served = past_in s.played;
+      after = past_in s.played;
+      early = are.early (sym are.repeated_is ∙ is.first);
+      taken = subst (λ p. AreTaken (stops_in request) (parts_in request) (replies_in bytes) p (past_in s.played)) are.joins
+          (are.taken (sym are.word_is ∙ is.word_is));
       roomy = subst (λ given. All HasRoom (replies_in given)) given_is is.roomy;
-      late = nothing names (past_in mid);
+      late = nothing names (past_in s.played);
       answer_is = answered;
-      is = ap past_in steps.new_is ∙ ap past_in steps.last_is;
+      is = ap past_in are.after_is ∙ ap past_in are.handed_is;
     }
 
-pub is_counted : (nothing : NothingIsDelivered) (names : Names) (request : List ℕ) (old prepared mid last new : Scene) (word : Word) (repeated : Bool) (answer : Option (List ℕ)) (counts : Disturbances)
-    → AreSteps names request old prepared mid last new word repeated answer counts
-    → IsCounted names (past_in old) request answer (past_in new) (disturbances_in old) (disturbances_in new)
-is_counted nothing names request old prepared mid last new word repeated answer counts steps =
-    let kept : disturbances_in mid ≡ disturbances_in old =
-    ap disturbances_in steps.mid_is ∙ played_keeps request prepared ∙ ap disturbances_in steps.prepared_is ∙ prepared_keeps request old in
-    let disturbed = is_disturbed word repeated answer in
+pub is_counted : (nothing : NothingIsDelivered) (names : Names) (request : List ℕ) (s : Steps) → AreSteps names request s
+    → IsCounted names (past_in s.before) request s.answer (past_in s.after) (disturbances_in s.before) (disturbances_in s.after)
+is_counted nothing names request s are =
+    let kept : disturbances_in s.played ≡ disturbances_in s.before =
+    ap disturbances_in are.played_is ∙ played_keeps request s.prepared ∙ ap disturbances_in are.prepared_is ∙ prepared_keeps request s.before in
+    let disturbed = is_disturbed s.word s.repeated s.answer in
     let asked = length (requests_in request) in
-    let strange = strange_handed every_name request answer in
-    let now : disturbances_in new ≡ counted disturbed asked strange (disturbances_in old) =
-    ap disturbances_in steps.new_is ∙ steps.counts_are ∙ ap (counted disturbed asked strange) kept in
+    let strange = strange_handed every_name request s.answer in
+    let now : disturbances_in s.after ≡ counted disturbed asked strange (disturbances_in s.before) =
+    ap disturbances_in are.after_is ∙ are.counts_are ∙ ap (counted disturbed asked strange) kept in
     elim (cases_Bool disturbed) [
       | inr calm ↦ inl (
-        clean nothing names request old prepared mid last new word repeated answer counts steps (undisturbed word repeated answer calm),
-        now ∙ ap (λ b. counted b asked strange (disturbances_in old)) calm,
+        clean nothing names request s are (undisturbed s.word s.repeated s.answer calm),
+        now ∙ ap (λ b. counted b asked strange (disturbances_in s.before)) calm,
       )
-      | inl so ↦ inr (strange, no_more_strange names request answer, now ∙ ap (λ b. counted b asked strange (disturbances_in old)) so)
+      | inl so ↦ inr (strange, no_more_strange names request s.answer, now ∙ ap (λ b. counted b asked strange (disturbances_in s.before)) so)
     ]

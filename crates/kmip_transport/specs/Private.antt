@@ -1,6 +1,6 @@
 -- Private: definitions that only clauses of private functions cite.
 -- Source: own (view): parts of the public definitions of this crate.
-use Rattle.std.specs.Prelude.{ℕ, List, Bool, true, false, [], Option, Some, None, Result, Ok, Err, ◌≡◌, ◌<◌, ◌++◌, length, IfErr, IsOk, OnErr, ℤ, IfSome}
+use Rattle.std.specs.Prelude.{ℕ, List, Bool, true, false, [], Option, Some, None, Result, Ok, Err, ◌≡◌, ◌<◌, ◌++◌, length, IfErr, IsOk, ℤ, IfSome}
 use Rattle.kmip_protocol.specs.declared.link_fault.LinkFault.{LinkFault}
 use Rattle.kmip_protocol.specs.declared.link_fault.LinkFault.TheVariants as faults
 use Rattle.std.specs.Io.KnownBytes.{Consumes, IsAtEnd, Appends}
@@ -60,11 +60,6 @@ pub record LosesReply (now : ℤ) (IsWhole : Type 0) (old new : Stock) (unread l
   pub is : IsMessage last
   pub records : new ≡ stock_after_batch (stock_after_messages old messages) last
   pub written : IsWhole → Appends before after (replies_to now old messages)
-
--- Where a call fails, the reply to the last message is lost, and the fault is the sink's own
-pub record FailsAtReply {A : Type 0} (now : ℤ) (IsWhole : Type 0) (own : LinkFault) (result : Result A LinkFault) (old new : Stock) (unread left before after : Option (List ℕ)) : Type 0 where
-  pub lost : OnErr result (LosesReply now IsWhole old new unread left before after)
-  pub refused : IfErr result (λ fault. fault ≡ own)
 
 -- How a stream ends by the fault of a call that receives, and by that of the head that is held
 abbrev pub EndsBy : LinkFault → Option FrameFault → StreamEnd → Type 0

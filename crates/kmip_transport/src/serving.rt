@@ -1,8 +1,8 @@
 //! A stream of messages, answered by a server.
-ghost use Rattle.std.specs.Prelude.{◌≡◌, ◌≢◌, [], Ok, Some, IsSome, IfSome, IfNone, IfOk};
+ghost use Rattle.std.specs.Prelude.{◌≡◌, ◌≢◌, [], Ok, Some, IsSome, IfErr, IfNone, IfOk, IfSome, OnErr};
 ghost use Rattle.kmip_frames.specs.Framing.{fault_in};
 ghost use Rattle.kmip_transport.specs.Serving.{Serves, ServesAll, BreaksOff};
-ghost use Rattle.kmip_transport.specs.Private.{ServesOne, FailsAtReply, EndsBy};
+ghost use Rattle.kmip_transport.specs.Private.{EndsBy, LosesReply, ServesOne};
 
 use crate::gathered::Gathered;
 use crate::in_memory::InMemory;
@@ -96,9 +96,10 @@ fn serve_in_turn<S: Records, R: Source, W: Sink>(
     ensures served { IfOk result (λ end. Serves now end server.old server.new
         (R.remaining reader.old) (R.remaining reader.new)
         (W.contents writer.old) (W.contents writer.new)) }
-    ensures failed { FailsAtReply now W.IsWhole W.fault result server.old server.new
+    ensures lost { OnErr result (LosesReply now W.IsWhole server.old server.new
         (R.remaining reader.old) (R.remaining reader.new)
-        (W.contents writer.old) (W.contents writer.new) }
+        (W.contents writer.old) (W.contents writer.new)) }
+    ensures own_fault { IfErr result (λ fault. fault ≡ W.fault) }
     ensures sure { R.IsSure → result ≢ Ok StreamEnd.Io }
 {
     sizes();
@@ -136,9 +137,10 @@ fn serve_message<S: Records, R: Source, W: Sink>(
     ensures ended { IfOk result (λ ended. IfSome ended (λ end. Serves now end server.old server.new
         (R.remaining reader.old) (R.remaining reader.new)
         (W.contents writer.old) (W.contents writer.new))) }
-    ensures failed { FailsAtReply now W.IsWhole W.fault result server.old server.new
+    ensures lost { OnErr result (LosesReply now W.IsWhole server.old server.new
         (R.remaining reader.old) (R.remaining reader.new)
-        (W.contents writer.old) (W.contents writer.new) }
+        (W.contents writer.old) (W.contents writer.new)) }
+    ensures own_fault { IfErr result (λ fault. fault ≡ W.fault) }
     ensures sure { R.IsSure → result ≢ Ok (Some StreamEnd.Io) }
 {
     sizes();

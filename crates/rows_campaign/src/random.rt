@@ -186,7 +186,8 @@ fn push_random(text: &mut String, rng: &mut ChaCha20Rng, kinds: u32) -> Result<(
     }
 }
 
-/// Whether all is as it has to be after the script for one plan.
+/// Whether all is as it has to be after the script for one plan. Where a second campaign comes behind it, of
+/// one run which knows nothing, that has to find all finished.
 fn is_single_good(
     alloc: Global,
     series: &mut Series<'_>,
@@ -197,24 +198,10 @@ fn is_single_good(
     requires none { prolongings script ≡ 0 }
     requires batch { IsTrue (may_have most) }
 {
-    if series.is_again {
-        return is_good_again(alloc, series, plan, script, most);
+    if !series.is_again {
+        let simulation = simulate(alloc, plan, script, most)?;
+        return Ok(is_good(series, plan, &simulation));
     }
-    let simulation = simulate(alloc, plan, script, most)?;
-    Ok(is_good(series, plan, &simulation))
-}
-
-/// The same, and whether a second campaign of one run, which knows nothing, finds all finished.
-fn is_good_again(
-    alloc: Global,
-    series: &mut Series<'_>,
-    plan: &Plan,
-    script: Script,
-    most: usize,
-) -> Result<bool, Fail>
-    requires none { prolongings script ≡ 0 }
-    requires batch { IsTrue (may_have most) }
-{
     let runs = [Run {
         start: Start::Fresh,
         limit: bound(plan),

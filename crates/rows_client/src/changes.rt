@@ -1,33 +1,34 @@
 //! What comes of a message whose bytes are changed, one at a time.
-ghost use Rattle.std.specs.Prelude.{◌≡◌, ◌<◌, length};
 
 use kmip_messages::{read_reply, read_request};
-use std::alloc::{AllocError, Global};
+use std::alloc::Global;
 use std::test::Fail;
 
 /// Prints, place by place, the bytes there with which a message is still read as a request or a reply.
 pub fn print_taken(rt: &HostRuntime, bytes: &mut [u8]) -> Result<(), Fail> {
+    print_told(rt, bytes, |changed| {
+        Ok(String::from_str(rt.alloc(), kind_of(rt.alloc(), changed))?)
+    })
+}
+
+/// Prints, place by place, what is told of a message with each byte in turn changed to each other one, which
+/// has its own again in the end.
+pub fn print_told<F>(rt: &HostRuntime, bytes: &mut [u8], tell: F) -> Result<(), Fail>
+where
+    F: Fn(&[u8]) -> Result<String, Fail>,
+    requires { F.IsAlwaysCallable tell }
+{
     for place in 0..bytes.len() {
-        let tolds = taken_at(rt.alloc(), bytes, place)?;
+        let own = bytes[place];
+        let mut tolds = Vec::new(rt.alloc());
+        for value in 0..=255 {
+            bytes[place] = value;
+            tolds.push(tell(bytes)?)?;
+        }
+        bytes[place] = own;
         print_ranges(rt, place, tolds.as_slice())?;
     }
     Ok(())
-}
-
-/// What a message is with each byte in turn at a place, which has its own again in the end.
-fn taken_at(alloc: Global, bytes: &mut [u8], place: usize) -> Result<Vec<String>, AllocError>
-    requires { place < length bytes.old }
-    ensures { length bytes.new ≡ length bytes.old }
-{
-    let own = bytes[place];
-    let mut tolds = Vec::new(alloc);
-    for value in 0..=255 {
-        bytes[place] = value;
-        let told = String::from_str(alloc, kind_of(alloc, bytes))?;
-        tolds.push(told)?;
-    }
-    bytes[place] = own;
-    Ok(tolds)
 }
 
 /// What these bytes are read as: a request none of whose questions is refused, a reply, or nothing.

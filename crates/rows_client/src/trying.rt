@@ -1,7 +1,7 @@
 //! What new clients say to a message, or to one that is cut or changed.
 ghost use Rattle.std.specs.Prelude.{◌≡◌, ◌<◌, length};
 
-use crate::changes::print_ranges;
+use crate::changes::print_told;
 use crate::talks::Talk;
 use crate::telling::{push_heard, push_standing};
 use kmip_client::Client;
@@ -81,31 +81,7 @@ fn says_otherwise(
 /// Prints what is learnt of a message with each byte in turn changed to each other one: where a new client
 /// takes it, what it says to it, what it then knows, and what it asks.
 pub fn learn(rt: &HostRuntime, talk: &Talk<'_>, bytes: &mut [u8]) -> Result<(), Fail> {
-    for place in 0..bytes.len() {
-        let tolds = learnt_at(rt.alloc(), talk, bytes, place)?;
-        print_ranges(rt, place, tolds.as_slice())?;
-    }
-    Ok(())
-}
-
-/// What is learnt with each byte in turn at a place, which has its own again in the end.
-fn learnt_at(
-    alloc: Global,
-    talk: &Talk<'_>,
-    bytes: &mut [u8],
-    place: usize,
-) -> Result<Vec<String>, Fail>
-    requires { place < length bytes.old }
-    ensures { length bytes.new ≡ length bytes.old }
-{
-    let own = bytes[place];
-    let mut tolds = Vec::new(alloc);
-    for value in 0..=255 {
-        bytes[place] = value;
-        tolds.push(learnt(alloc, talk, bytes)?)?;
-    }
-    bytes[place] = own;
-    Ok(tolds)
+    print_told(rt, bytes, |changed| learnt(rt.alloc(), talk, changed))
 }
 
 /// What a new client learns of a message, and how it then stands; nothing where the message is refused.

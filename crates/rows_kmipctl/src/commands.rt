@@ -71,8 +71,8 @@ fn command_for(rt: &HostRuntime, choice: &Choice, input: &str) -> Result<Command
         Choice::Answer => Ok(Command::Answer),
         Choice::AnswerStream => Ok(Command::AnswerStream),
         Choice::Show(form) => Ok(Command::Show(*form)),
-        Choice::Check(path) => Ok(Command::Check(file_text(rt, path.as_str(), input)?)),
-        Choice::CheckAfter { plan, earlier } => Ok(Command::CheckAfter {
+        Choice::Check { plan, .. } => Ok(Command::Check(file_text(rt, plan.as_str(), input)?)),
+        Choice::CheckAfter { plan, earlier, .. } => Ok(Command::CheckAfter {
             plan: file_text(rt, plan.as_str(), input)?,
             earlier: file_text(rt, earlier.as_str(), input)?,
         }),
@@ -86,6 +86,7 @@ fn command_for(rt: &HostRuntime, choice: &Choice, input: &str) -> Result<Command
             script,
             detail,
             batch,
+            ..
         } => Ok(Command::Simulate(Simulated {
             plan: file_text(rt, plan.as_str(), input)?,
             further: match further {

@@ -2,21 +2,22 @@
 ghost use Rattle.std.specs.Prelude.{IsTrue};
 ghost use Rattle.kmip_messages.specs.Members.{may_have};
 
-use crate::settings::Settings;
+use crate::probing::script_link;
+use crate::settings::{Settings, batch_of};
 use crate::shelf::Shelf;
 use crate::short::{Tally, print_short};
 use crate::watching::{Count, Patient, Stopped};
 use kmip_client::Client;
 use kmip_message_commands::ExitStatus;
 use kmip_plan::{Plan, read_plan};
-use kmip_plan_commands::{RunInput, Spent, begin, progress_line, run_run};
-use kmip_runs::{Observed, Pace, SaveFault, Stop, carry_out, next_wait};
-use kmip_scripted::{Scripted, read_script};
-use kmip_server::{ListStore, Server};
+use kmip_plan_commands::{Report, RunInput, Spent, begin, progress_line, run_run};
+use kmip_runs::{Keeper, Observed, Pace, SaveFault, Stop, carry_out, next_wait};
+use kmip_scripted::Scripted;
+use kmip_server::ListStore;
 use std::alloc::Global;
 use std::cell::Cell;
 use std::fs;
-use std::io::{self, BufWriter};
+use std::io::{self, BufWriter, Write};
 use std::test::Fail;
 
 /// A link to a server in memory that follows a script, and tells who counts.
@@ -44,6 +45,21 @@ struct Case<'c> {
     clock: &'c Stopped,
     link: Watched,
     patience: Patient<'c>,
+}
+
+/// What `run` is told beside its link.
+#[derive(Clone, Copy)]
+struct Order<'o> {
+    /// The text of the plan.
+    plan: &'o str,
+    /// In which form its end is printed.
+    report: Report,
+    /// How many exchanges it may make.
+    limit: usize,
+    /// How many keys a message asks about at most.
+    batch: usize,
+    /// The text of a saved progress, where there is one.
+    saved: Option<&'o str>,
 }
 
 /// Does what the lines of a block `runs of` say, whose first line names a plan, and what its link does.
@@ -110,10 +126,7 @@ fn take_turns(rt: &HostRuntime, case: &mut Case<'_>, lines: &str) -> Result<(), 
 
 /// A link to an empty server.
 fn link_of(alloc: Global, heading: &Heading<'_>) -> Result<Watched, Fail> {
-    let words = heading.words.replace(alloc, "/", "\n")?;
-    let script = read_script(alloc, words.as_str())?;
-    let server = Server::new(ListStore::new(alloc, [0; 32], 10_000));
-    let link = Scripted::new(alloc, server, script);
+    let link = script_link(alloc, heading.words)?;
     let count = Count {
         replies: 0,
         losses: 0,
@@ -163,112 +176,73 @@ fn run(
 ) -> Result<(), Fail> {
     let settings = Settings::of(words)?;
     let plan = fs::read_to_string(rt, settings.plan.unwrap_or(case.file))?;
-    let input = RunInput {
+    let order = Order {
+        plan: plan.as_str(),
         report: settings.report,
-        path: "over there",
         limit: settings.limit,
-        batch: settings.batch,
+        batch: batch_of(settings.batch)?,
+        saved,
     };
     if settings.is_short {
-        return run_in_short(rt, plan.as_str(), &input, saved, case);
+        return run_in_short(rt, &order, case);
     }
     let mut shelf = Shelf::new(rt.alloc(), settings.room);
-    let status = run_over(
-        rt,
-        plan.as_str(),
-        &input,
-        saved,
-        case,
-        &mut shelf,
-        settings.writer,
-    )?;
-    rt.println(format_args!("exit status {}, {status:?}", status.code()))?;
+    let status = match settings.writer {
+        Some(size) => {
+            let mut room = vec![in rt.alloc(); 0u8; size]?;
+            run_with(
+                rt.alloc(),
+                &order,
+                case,
+                &mut shelf,
+                &mut room.as_mut_slice(),
+            )
+        }
+        None => {
+            let mut writer = BufWriter::new(rt.alloc(), io::writer(rt))?;
+            run_with(rt.alloc(), &order, case, &mut shelf, &mut writer)
+        }
+    };
+    print_status(rt, status)?;
     shelf.print(rt)
 }
 
 /// Runs `run`, and prints how much it writes and keeps, with the ends of that.
-fn run_in_short(
-    rt: &HostRuntime,
-    plan: &str,
-    input: &RunInput<'_>,
-    saved: Option<&str>,
-    case: &mut Case<'_>,
-) -> Result<(), Fail> {
-    if !(1..=8).contains(&input.batch) {
-        return Err(Fail::new("a message asks about one to eight keys"));
-    }
+fn run_in_short(rt: &HostRuntime, order: &Order<'_>, case: &mut Case<'_>) -> Result<(), Fail>
+    requires { IsTrue (may_have order.now.batch) }
+{
     let mut tally = Tally::new(rt.alloc());
     let mut written = Vec::new(rt.alloc());
-    let status = run_run(
-        rt.alloc(),
-        plan,
-        input,
-        saved,
-        &mut case.link,
-        &mut tally,
-        &mut case.patience,
-        &mut written,
-    );
+    let status = run_with(rt.alloc(), order, case, &mut tally, &mut written);
     print_short(rt, "written", written.as_slice())?;
-    rt.println(format_args!("exit status {}, {status:?}", status.code()))?;
+    print_status(rt, status)?;
     tally.print(rt)
 }
 
-/// Runs `run`, and prints what it writes where its writer is not one with room for so many bytes.
-fn run_over(
-    rt: &HostRuntime,
-    plan: &str,
-    input: &RunInput<'_>,
-    saved: Option<&str>,
+/// Runs `run` over the link of the case, with this keeper and this writer.
+fn run_with<K: Keeper, W: Write>(
+    alloc: Global,
+    order: &Order<'_>,
     case: &mut Case<'_>,
-    shelf: &mut Shelf,
-    writer: Option<usize>,
-) -> Result<ExitStatus, Fail> {
-    if !(1..=8).contains(&input.batch) {
-        return Err(Fail::new("a message asks about one to eight keys"));
-    }
-    if let Some(size) = writer {
-        return run_in_room(rt.alloc(), plan, input, saved, case, shelf, size);
-    }
-    let mut writer = BufWriter::new(rt.alloc(), io::writer(rt))?;
+    keeper: &mut K,
+    writer: &mut W,
+) -> ExitStatus
+    requires { IsTrue (may_have order.now.batch) }
+{
+    let (plan, saved) = (order.plan, order.saved);
+    let input = RunInput {
+        report: order.report,
+        path: "over there",
+        limit: order.limit,
+        batch: order.batch,
+    };
     let (link, patience) = (&mut case.link, &mut case.patience);
-    Ok(run_run(
-        rt.alloc(),
-        plan,
-        input,
-        saved,
-        link,
-        shelf,
-        patience,
-        &mut writer,
-    ))
+    run_run(alloc, plan, &input, saved, link, keeper, patience, writer)
 }
 
-/// Runs `run` with a writer that has room for so many bytes.
-fn run_in_room(
-    alloc: Global,
-    plan: &str,
-    input: &RunInput<'_>,
-    saved: Option<&str>,
-    case: &mut Case<'_>,
-    shelf: &mut Shelf,
-    size: usize,
-) -> Result<ExitStatus, Fail>
-    requires { IsTrue (may_have input.now.batch) }
-{
-    let mut room = vec![in alloc; 0u8; size]?;
-    let mut writer = room.as_mut_slice();
-    let (link, patience) = (&mut case.link, &mut case.patience);
-    Ok(run_run(
-        alloc,
-        plan,
-        input,
-        saved,
-        link,
-        shelf,
-        patience,
-        &mut writer,
-    ))
+/// Prints how a command ended.
+fn print_status(rt: &HostRuntime, status: ExitStatus) -> io::Result<()> {
+    rt.println(format_args!("exit status {}, {status:?}", status.code()))
 }
 
 /// The client goes on over the link.

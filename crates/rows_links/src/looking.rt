@@ -1,6 +1,9 @@
 //! Looks at the keys of a plan, over a link to a peer in memory.
+ghost use Rattle.std.specs.Prelude.{IsTrue};
+ghost use Rattle.kmip_messages.specs.Members.{may_have};
 
 use crate::board::Board;
+use crate::settings::batch_of;
 use kmip_look::Pause;
 use kmip_look_command::{look_bytes, run_look};
 use kmip_plan::{Plan, read_plan};
@@ -16,6 +19,12 @@ const MARK: &[u8] = b"a mark..";
 struct Times {
     left: usize,
     asked: usize,
+}
+
+impl Times {
+    fn new(left: usize) -> Times {
+        Times { left, asked: 0 }
+    }
 }
 
 impl Pause for Times {
@@ -41,7 +50,8 @@ pub fn hold_look(rt: &HostRuntime, head: &str, lines: &str) -> Result<(), Fail> 
     let (path, batch) = words.split_once(" about ").unwrap_or((words, "1"));
     let text = fs::read_to_string(rt, path)?;
     let plan = read_plan(rt.alloc(), text.as_str())?;
-    look_over(rt, &plan, batch.parse()?, times.parse()?, lines)
+    let batch = batch_of(batch.parse()?)?;
+    look_over(rt, &plan, batch, times.parse()?, lines)
 }
 
 /// Looks at the keys of a plan, about so many in a message.
@@ -51,15 +61,11 @@ fn look_over(
     batch: usize,
     times: usize,
     lines: &str,
-) -> Result<(), Fail> {
-    if !(1..=8).contains(&batch) {
-        return Err(Fail::new("a message asks about one to eight keys"));
-    }
+) -> Result<(), Fail>
+    requires { IsTrue (may_have batch) }
+{
     let mut board = Board::of(rt.alloc(), lines)?;
-    let mut pause = Times {
-        left: times,
-        asked: 0,
-    };
+    let mut pause = Times::new(times);
     let mut written = Vec::new(rt.alloc());
     let status = run_look(
         rt.alloc(),
@@ -88,15 +94,11 @@ fn look_in_memory(
     times: usize,
     lines: &str,
     written: &[u8],
-) -> Result<(), Fail> {
-    if !(1..=8).contains(&batch) {
-        return Err(Fail::new("a message asks about one to eight keys"));
-    }
+) -> Result<(), Fail>
+    requires { IsTrue (may_have batch) }
+{
     let mut board = Board::of(rt.alloc(), lines)?;
-    let mut pause = Times {
-        left: times,
-        asked: 0,
-    };
+    let mut pause = Times::new(times);
     let mut output = Vec::new(rt.alloc());
     look_bytes(
         rt.alloc(),

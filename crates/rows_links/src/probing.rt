@@ -4,7 +4,7 @@ use crate::breaking::Breaking;
 use crate::lacking::Lacking;
 use crate::peer::Peer;
 use crate::repeating_peer::Repeating;
-use kmip_probe_command::run_probe;
+use kmip_probe_command::{PlainText, run_probe};
 use kmip_protocol::Link;
 use kmip_scripted::{Scripted, read_script};
 use kmip_server::{ListStore, Records, Server};
@@ -31,7 +31,7 @@ pub fn take_probe(rt: &HostRuntime, line: &str) -> Result<(), Fail> {
         "repeats" => print_probe(rt, &mut Peer::Repeating(Repeating::of(words)?)),
         "answered" => print_probe(rt, &mut Peer::Saying(hex::decode(rt.alloc(), words)?)),
         "lacking" => {
-            let link = link_of(rt.alloc(), "")?;
+            let link = script_link(rt.alloc(), "")?;
             print_probe(rt, &mut Lacking::of(link, words)?)
         }
         _ => Err(Fail::new("no probe")),
@@ -40,7 +40,7 @@ pub fn take_probe(rt: &HostRuntime, line: &str) -> Result<(), Fail> {
 
 /// Some probes over one link, which follows the script, and how many objects the server has behind them.
 fn probe_server(rt: &HostRuntime, script: &str, times: u32) -> Result<(), Fail> {
-    let mut link = link_of(rt.alloc(), script)?;
+    let mut link = script_link(rt.alloc(), script)?;
     for _ in 0..times {
         print_probe(rt, &mut link)?;
     }
@@ -50,7 +50,7 @@ fn probe_server(rt: &HostRuntime, script: &str, times: u32) -> Result<(), Fail> 
 }
 
 /// A link to an empty server, which follows a script, in which `/` stands for a line feed.
-fn link_of(alloc: Global, script: &str) -> Result<Scripted<ListStore>, Fail> {
+pub(crate) fn script_link(alloc: Global, script: &str) -> Result<Scripted<ListStore>, Fail> {
     let script = script.replace(alloc, "/", "\n")?;
     let script = read_script(alloc, script.as_str())?;
     let server = Server::new(ListStore::new(alloc, [0; 32], 10_000));
@@ -59,7 +59,7 @@ fn link_of(alloc: Global, script: &str) -> Result<Scripted<ListStore>, Fail> {
 
 /// Prints what a probe over the link writes, and its exit status.
 fn print_probe<L: Link>(rt: &HostRuntime, link: &mut L) -> Result<(), Fail> {
-    let status = run_probe(rt.alloc(), "probe", link, &mut io::writer(rt));
+    let status = run_probe(rt.alloc(), "probe", &PlainText, link, &mut io::writer(rt));
     rt.println(format_args!("exit status {}", status.code()))?;
     Ok(())
 }

@@ -1,4 +1,6 @@
 //! What a run is given, as the words of a line say it.
+ghost use Rattle.std.specs.Prelude.{IfOk, IsTrue};
+ghost use Rattle.kmip_messages.specs.Members.{may_have};
 
 use kmip_plan_commands::Report;
 use std::test::Fail;
@@ -55,4 +57,14 @@ impl<'w> Settings<'w> {
         }
         Ok(())
     }
+}
+
+/// About how many keys a message asks at most, where it may ask about so many.
+pub(crate) fn batch_of(most: usize) -> Result<usize, Fail>
+    ensures { IfOk result (λ most. IsTrue (may_have most)) }
+{
+    if !(1..=8).contains(&most) {
+        return Err(Fail::new("a message asks about one to eight keys"));
+    }
+    Ok(most)
 }

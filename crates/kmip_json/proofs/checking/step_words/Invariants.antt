@@ -4,6 +4,6 @@ use Rattle.kmip_objects.specs.Lifecycle.{step_word}
 use Rattle.kmip_plan.specs.Chains.{chain}
 use Rattle.kmip_json.proofs.checking.step_words.Given as goal
 
-abbrev pub invariant-loop-index : goal.invariant-loop-index
-invariant-loop-index l =
-    map (λ word. word.now) l.words.items ++ map step_word (drop l.index (chain l.key.target)) ≡ map step_word (chain l.key.target)
+abbrev pub invariant-loop-place : goal.invariant-loop-place
+invariant-loop-place l =
+    map (λ word. word.now) l.words.items ++ map step_word (drop l.place (chain l.key.target)) ≡ map step_word (drop l.done (chain l.key.target))

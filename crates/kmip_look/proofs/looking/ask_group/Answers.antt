@@ -1,76 +1,86 @@
 -- One part after the other.
 use Rattle.std.proofs.Common.{subst, arith}
 use Rattle.std.proofs.lemmas.Result.{err_from_is_err_and}
-use Rattle.kmip_look.specs.PrivateKeeping.{GoesThrough}
+use Rattle.kmip_look.specs.PrivateKeeping.{GoesThrough, one_part}
 use Rattle.kmip_look.specs.declared.part.Part.TheVariants.{Find}
 use Rattle.kmip_look.specs.declared.looking.TheConstants.{MOST_TRIES}
 use Rattle.kmip_look.proofs.PastLemmas.{goes_on, if_ok, on_ok, sends_on, sends_within, through_both, through_first}
 use Rattle.kmip_look.proofs.looking.ask_group.Goals as goal
 
-pub returns-in_err-goes_on-clause-honestly : goal.returns-in_err-goes_on-clause-honestly
-returns-in_err-goes_on-clause-honestly g c = λ names honest.
-    let all = c.ask_part.ensures.honestly names honest in
+-- memory ran out in the first part
+pub returns-in_err-goes_on : goal.returns-in_err-goes_on
+returns-in_err-goes_on g c =
+    let old = (g.L.Link.seen c.args.link.now).past in
+    let new = (g.L.Link.seen c.ask_part.new.link).past in
     let fault = err_from_is_err_and c.from_residual.result c.from_residual.ensures.1 in
-    rw fault.1 (
-      all.0,
-      λ plan planned. sends_within plan c.args.mark.now MOST_TRIES 8 (g.L.Link.seen c.args.link.now).past (g.L.Link.seen c.ask_part.new.link).past (omega arith)
-          (all.1 plan planned),
-      tt,
-    )
+    rw fault.1 (record {
+      shaped = tt;
+      honestly = λ names honest.
+          let first = c.ask_part.ensures.honestly names honest in
+          record {
+            still = first.still;
+            few = λ plan planned. sends_within plan c.args.mark.now MOST_TRIES 8 old new (omega arith) (first.few plan planned);
+            goes = tt;
+          };
+      calmly = λ names calm. record { still = (c.ask_part.ensures.calmly names calm).still; comes = tt };
+    })
 
-pub returns-in_err-goes_on-clause-calmly : goal.returns-in_err-goes_on-clause-calmly
-returns-in_err-goes_on-clause-calmly g c = λ names calm.
-    let all = c.ask_part.ensures.calmly names calm in
-    let fault = err_from_is_err_and c.from_residual.result c.from_residual.ensures.1 in rw fault.1 (all.0, tt)
+-- no more may be asked after the first part
+pub returns-then-not-goes_on : goal.returns-then-not-goes_on
+returns-then-not-goes_on g c =
+    let keys = c.args.keys.now in
+    let olds = c.args.lookeds.now.items in
+    let news = c.ask_part.new.lookeds.items in
+    let old = (g.L.Link.seen c.args.link.now).past in
+    let new = (g.L.Link.seen c.ask_part.new.link).past in
+    record {
+      shaped = c.in_ok-goes_on.ensures.shaped;
+      honestly = λ names honest.
+          let first = c.in_ok-goes_on.ensures.honestly names honest in
+          record {
+            still = first.still;
+            few = λ plan planned. sends_within plan c.args.mark.now MOST_TRIES 8 old new (omega arith) (first.few plan planned);
+            goes = first.goes;
+          };
+      calmly = λ names calm.
+          let first = c.in_ok-goes_on.ensures.calmly names calm in
+          record {
+            still = first.still;
+            comes = through_first keys olds news old new
+                (subst (λ b. GoesThrough (one_part Find) keys olds news b old new) c.if-not-goes_on.true first.comes);
+          };
+    }
 
-pub returns-then-not-goes_on-clause-honestly : goal.returns-then-not-goes_on-clause-honestly
-returns-then-not-goes_on-clause-honestly g c = λ names honest.
-    let (still, sends, goes) = c.in_ok-goes_on.ensures.honestly names honest in (
-      still,
-      λ plan planned. sends_within plan c.args.mark.now MOST_TRIES 8 (g.L.Link.seen c.args.link.now).past (g.L.Link.seen c.ask_part.new.link).past (omega arith)
-          (sends plan planned),
-      goes,
-    )
-
-pub returns-then-not-goes_on-clause-calmly : goal.returns-then-not-goes_on-clause-calmly
-returns-then-not-goes_on-clause-calmly g c = λ names calm.
-    let (still, through) = c.in_ok-goes_on.ensures.calmly names calm in
-    let p = (g.L.Link.seen c.args.link.now).past in
-    let q = (g.L.Link.seen c.ask_part.new.link).past in (
-      still,
-      through_first c.args.keys.now c.args.lookeds.now.items c.ask_part.new.lookeds.items p q
-          (subst (λ b. GoesThrough Find Find 1 c.args.keys.now c.args.lookeds.now.items c.ask_part.new.lookeds.items b p q) c.if-not-goes_on.true through),
-    )
-
-pub returns-clause-shaped : goal.returns-clause-shaped
-returns-clause-shaped g c = c.ask_part-2.ensures.shaped
-
-pub returns-clause-honestly : goal.returns-clause-honestly
-returns-clause-honestly g c = λ names honest.
-    let (still, sends, goes) = c.in_ok-goes_on.ensures.honestly names honest in
-    let (end, more, on) = c.ask_part-2.ensures.honestly names still in
-    let p = (g.L.Link.seen c.args.link.now).past in
-    let q = (g.L.Link.seen c.ask_part.new.link).past in
-    let r = (g.L.Link.seen c.ask_part-2.new.link).past in (
-      end,
-      λ plan planned. sends_on plan c.args.mark.now MOST_TRIES MOST_TRIES 8 p q r (omega arith) (sends plan planned) (more plan planned),
-      on_ok c.ask_part-2.result
-          (λ goes_too. goes_on names c.args.mark.now c.args.keys.now c.args.lookeds.now.items c.ask_part.new.lookeds.items c.ask_part-2.new.lookeds.items p q r
-          goes goes_too)
-          on,
-    )
-
-pub returns-clause-calmly : goal.returns-clause-calmly
-returns-clause-calmly g c = λ names calm.
-    let (still, through) = c.in_ok-goes_on.ensures.calmly names calm in
-    let (end, on) = c.ask_part-2.ensures.calmly names still in
-    let p = (g.L.Link.seen c.args.link.now).past in
-    let q = (g.L.Link.seen c.ask_part.new.link).past in
-    let r = (g.L.Link.seen c.ask_part-2.new.link).past in (
-      end,
-      if_ok c.ask_part-2.result
-          (λ may further. through_both c.args.keys.now c.args.lookeds.now.items c.ask_part.new.lookeds.items c.ask_part-2.new.lookeds.items may p q r
-          (subst (λ b. GoesThrough Find Find 1 c.args.keys.now c.args.lookeds.now.items c.ask_part.new.lookeds.items b p q) c.if-not-goes_on.false through)
-          further)
-          on,
-    )
+-- both parts
+pub returns : goal.returns
+returns g c =
+    let keys = c.args.keys.now in
+    let mark = c.args.mark.now in
+    let olds = c.args.lookeds.now.items in
+    let mids = c.ask_part.new.lookeds.items in
+    let news = c.ask_part-2.new.lookeds.items in
+    let old = (g.L.Link.seen c.args.link.now).past in
+    let mid = (g.L.Link.seen c.ask_part.new.link).past in
+    let new = (g.L.Link.seen c.ask_part-2.new.link).past in
+    record {
+      shaped = c.ask_part-2.ensures.shaped;
+      honestly = λ names honest.
+          let first = c.in_ok-goes_on.ensures.honestly names honest in
+          let second = c.ask_part-2.ensures.honestly names first.still in
+          record {
+            still = second.still;
+            few = λ plan planned.
+                sends_on plan mark MOST_TRIES MOST_TRIES 8 old mid new (omega arith) (first.few plan planned) (second.few plan planned);
+            goes = on_ok c.ask_part-2.result (λ on. goes_on names mark keys olds mids news old mid new first.goes on) second.goes;
+          };
+      calmly = λ names calm.
+          let first = c.in_ok-goes_on.ensures.calmly names calm in
+          let second = c.ask_part-2.ensures.calmly names first.still in
+          record {
+            still = second.still;
+            comes = if_ok c.ask_part-2.result
+                (λ may on. through_both keys olds mids news may old mid new
+                (subst (λ b. GoesThrough (one_part Find) keys olds mids b old mid) c.if-not-goes_on.false first.comes) on)
+                second.comes;
+          };
+    }

@@ -21,41 +21,47 @@ ask-requires-clause-fit g c =
     some_left _ c.in_ok-requests.requests.items (sym c.is_empty.ensures ∙ c.if-is_empty.false) c.in_ok-requests.requests.ok.0 in
     let same = ap length c.as_slice-2.ensures.value in
     written c.args.part c.args.mark.now c.args.keys.now c.args.lookeds.now.items c.as_slice-2.result.now is c.requires.many (omega (arith, some, same))
-    c.requires.mark c.requires.fit c.requires.shaped
+    c.requires.short c.requires.fit c.requires.shaped
 
-pub returns-in_err-requests-clause-honestly : goal.returns-in_err-requests-clause-honestly
-returns-in_err-requests-clause-honestly g c = λ names honest.
+pub ask-requires-clause-shaped : goal.ask-requires-clause-shaped
+ask-requires-clause-shaped g c = c.requires.shaped
+
+pub returns-in_err-requests : goal.returns-in_err-requests
+returns-in_err-requests g c =
     let fault = err_from_is_err_and c.from_residual.result c.from_residual.ensures.1 in
-    rw fault.1 (honest, λ plan planned. sends_none plan c.args.mark.now 1 (g.L.Link.seen c.args.link.now).past, tt)
+    rw fault.1 (record {
+      shaped = tt;
+      honestly = λ names honest. record {
+        still = honest;
+        few = λ plan planned. sends_none plan c.args.mark.now 1 (g.L.Link.seen c.args.link.now).past;
+        goes = tt;
+      };
+      calmly = λ names calm. record { still = calm; comes = tt };
+    })
 
-pub returns-in_err-requests-clause-calmly : goal.returns-in_err-requests-clause-calmly
-returns-in_err-requests-clause-calmly g c = λ names calm.
-    let fault = err_from_is_err_and c.from_residual.result c.from_residual.ensures.1 in rw fault.1 (calm, tt)
-
-pub returns-then-is_empty-clause-honestly : goal.returns-then-is_empty-clause-honestly
-returns-then-is_empty-clause-honestly g c = λ names honest. (
-  honest,
-  λ plan planned. sends_none plan c.args.mark.now 1 (g.L.Link.seen c.args.link.now).past,
-  goes_nowhere names c.args.mark.now c.args.keys.now c.args.lookeds.now.items (g.L.Link.seen c.args.link.now).past,
-)
-
-pub returns-then-is_empty-clause-calmly : goal.returns-then-is_empty-clause-calmly
-returns-then-is_empty-clause-calmly g c = λ names calm.
+pub returns-then-is_empty : goal.returns-then-is_empty
+returns-then-is_empty g c =
+    let part = c.args.part in
+    let mark = c.args.mark.now in
+    let keys = c.args.keys.now in
+    let lookeds = c.args.lookeds.now.items in
+    let past = (g.L.Link.seen c.args.link.now).past in
     let none : c.in_ok-requests.requests.items ≡ [] =
     none_left _ c.in_ok-requests.requests.items (sym c.is_empty.ensures ∙ c.if-is_empty.true) c.in_ok-requests.requests.ok.0 in
-    let left : requests_of c.args.part c.args.mark.now c.args.keys.now c.args.lookeds.now.items ≡ [] =
-    ap (requests_of c.args.part c.args.mark.now c.args.keys.now) (sym c.as_slice.ensures.value) ∙ sym c.in_ok-requests.ensures ∙ none in (
-      calm,
-      idle_goes c.args.part c.args.keys.now c.args.lookeds.now.items (g.L.Link.seen c.args.link.now).past
-          (nothing_asked c.args.part c.args.mark.now c.args.keys.now c.args.lookeds.now.items
-          (shaped_many c.args.keys.now c.args.lookeds.now.items c.requires.shaped) left),
-    )
+    let left : requests_of part mark keys lookeds ≡ [] =
+    ap (requests_of part mark keys) (sym c.as_slice.ensures.value) ∙ sym c.in_ok-requests.ensures ∙ none in
+    record {
+      shaped = c.requires.shaped;
+      honestly = λ names honest. record {
+        still = honest;
+        few = λ plan planned. sends_none plan mark 1 past;
+        goes = goes_nowhere names mark keys lookeds past;
+      };
+      calmly = λ names calm. record {
+        still = calm;
+        comes = idle_goes part keys lookeds past (nothing_asked part mark keys lookeds (shaped_many keys lookeds c.requires.shaped) left);
+      };
+    }
 
-pub returns-clause-shaped : goal.returns-clause-shaped
-returns-clause-shaped g c = c.ask.ensures.shaped
-
-pub returns-clause-honestly : goal.returns-clause-honestly
-returns-clause-honestly g c = c.ask.ensures.honestly
-
-pub returns-clause-calmly : goal.returns-clause-calmly
-returns-clause-calmly g c = c.ask.ensures.calmly
+pub returns : goal.returns
+returns g c = c.ask.ensures

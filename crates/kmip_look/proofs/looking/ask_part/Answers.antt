@@ -19,101 +19,150 @@ loop-tried-init g c = record {
   calm = λ names calm. (calm, tried_none c.args.part c.args.keys.now c.args.lookeds.now.items (g.L.Link.seen c.args.link.now).past);
 }
 
+pub ask_once-requires : goal.ask_once-requires
+ask_once-requires g c = record {
+  many = c.requires.many;
+  short = c.requires.short;
+  fit = c.requires.fit;
+  shaped = c.loop-tried.invariant.shaped;
+}
+
 pub loop-tried-preserved : goal.loop-tried-preserved
 loop-tried-preserved g c =
+    let part = c.args.part in
+    let tried = c.loop-tried.tried in
+    let mark = c.args.mark.now in
+    let keys = c.args.keys.now in
+    let olds = c.args.lookeds.now.items in
+    let nows = c.loop-tried.lookeds.items in
+    let news = c.ask_once.new.lookeds.items in
     let start = (g.L.Link.seen c.args.link.now).past in
     let now = (g.L.Link.seen c.loop-tried.link).past in
     let new = (g.L.Link.seen c.ask_once.new.link).past in
-    let any : list_any (is_asked c.args.part) c.loop-tried.lookeds.items ≡ true =
-    ap (list_any (is_asked c.args.part)) (sym c.as_slice.ensures.value) ∙ sym c.is_any_asked.ensures ∙ c.if-not-is_any_asked.false in
+    let any : list_any (is_asked part) nows ≡ true =
+    ap (list_any (is_asked part)) (sym c.as_slice.ensures.value) ∙ sym c.is_any_asked.ensures ∙ c.if-not-is_any_asked.false in
+    let once = c.in_ok-ask_once.ensures in
     record {
-      shaped = c.in_ok-ask_once.ensures.shaped;
+      shaped = once.shaped;
       honest = λ names honest.
           let (before, sends, goes) = c.loop-tried.invariant.honest names honest in
-          let (still, more, on) = c.in_ok-ask_once.ensures.honestly names before in (
-            still,
-            λ plan planned. sends_on plan c.args.mark.now c.loop-tried.tried 1 (c.loop-tried.tried + 1) start now new (omega arith) (sends plan planned) (more plan planned),
-            goes_on names c.args.mark.now c.args.keys.now c.args.lookeds.now.items c.loop-tried.lookeds.items c.ask_once.new.lookeds.items start now new goes on,
+          let more = once.honestly names before in (
+            more.still,
+            λ plan planned. sends_on plan mark tried 1 (tried + 1) start now new (omega arith) (sends plan planned) (more.few plan planned),
+            goes_on names mark keys olds nows news start now new goes more.goes,
           );
       calm = λ names calm.
-          let (before, tried) = c.loop-tried.invariant.calm names calm in
-          let (still, on) = c.in_ok-ask_once.ensures.calmly names before in
-          let sends = (c.in_ok-ask_once.ensures.honestly names ((g.L.Link.seen c.loop-tried.link).calm_is_honest names before)).1 in (
-            still,
-            tried_more c.args.part c.loop-tried.tried c.args.keys.now c.args.mark.now c.args.lookeds.now.items c.loop-tried.lookeds.items c.ask_once.new.lookeds.items
-                start now new any tried on (sends c.args.keys.now (All-contains_itself c.args.keys.now)),
+          let (before, so_far) = c.loop-tried.invariant.calm names calm in
+          let more = once.calmly names before in
+          let sends = (once.honestly names ((g.L.Link.seen c.loop-tried.link).calm_is_honest names before)).few in (
+            more.still,
+            tried_more part tried keys mark olds nows news start now new any so_far more.comes (sends keys (All-contains_itself keys)),
           );
     }
 
-pub returns-then-not-is_any_asked-clause-honestly : goal.returns-then-not-is_any_asked-clause-honestly
-returns-then-not-is_any_asked-clause-honestly g c = λ names honest.
-    let (before, sends, goes) = c.loop-tried.invariant.honest names honest in (
-      before,
-      λ plan planned. sends_within plan c.args.mark.now c.loop-tried.tried MOST_TRIES (g.L.Link.seen c.args.link.now).past (g.L.Link.seen c.loop-tried.link).past
-          (omega (arith, c.loop-tried-test.true)) (sends plan planned),
-      goes,
-    )
+-- nothing is left to ask
+pub returns-then-not-is_any_asked : goal.returns-then-not-is_any_asked
+returns-then-not-is_any_asked g c =
+    let part = c.args.part in
+    let tried = c.loop-tried.tried in
+    let mark = c.args.mark.now in
+    let keys = c.args.keys.now in
+    let olds = c.args.lookeds.now.items in
+    let nows = c.loop-tried.lookeds.items in
+    let start = (g.L.Link.seen c.args.link.now).past in
+    let now = (g.L.Link.seen c.loop-tried.link).past in
+    let idle : list_any (is_asked part) nows ≡ false =
+    ap (list_any (is_asked part)) (sym c.as_slice.ensures.value) ∙ sym c.is_any_asked.ensures ∙ c.if-not-is_any_asked.true in
+    record {
+      shaped = c.loop-tried.invariant.shaped;
+      honestly = λ names honest.
+          let (before, sends, goes) = c.loop-tried.invariant.honest names honest in
+          record {
+            still = before;
+            few = λ plan planned. sends_within plan mark tried MOST_TRIES start now (omega (arith, c.loop-tried-test.true)) (sends plan planned);
+            goes = goes;
+          };
+      calmly = λ names calm.
+          let (before, so_far) = c.loop-tried.invariant.calm names calm in
+          record { still = before; comes = tried_idle part tried keys olds nows start now idle so_far };
+    }
 
-pub returns-then-not-is_any_asked-clause-calmly : goal.returns-then-not-is_any_asked-clause-calmly
-returns-then-not-is_any_asked-clause-calmly g c = λ names calm.
-    let (before, tried) = c.loop-tried.invariant.calm names calm in
-    let idle : list_any (is_asked c.args.part) c.loop-tried.lookeds.items ≡ false =
-    ap (list_any (is_asked c.args.part)) (sym c.as_slice.ensures.value) ∙ sym c.is_any_asked.ensures ∙ c.if-not-is_any_asked.true in (
-      before,
-      tried_idle c.args.part c.loop-tried.tried c.args.keys.now c.args.lookeds.now.items c.loop-tried.lookeds.items (g.L.Link.seen c.args.link.now).past
-          (g.L.Link.seen c.loop-tried.link).past idle tried,
-    )
-
-pub returns-in_err-ask_once-clause-honestly : goal.returns-in_err-ask_once-clause-honestly
-returns-in_err-ask_once-clause-honestly g c = λ names honest.
-    let (before, sends, goes) = c.loop-tried.invariant.honest names honest in
-    let all = c.ask_once.ensures.honestly names before in
+-- memory ran out
+pub returns-in_err-ask_once : goal.returns-in_err-ask_once
+returns-in_err-ask_once g c =
+    let tried = c.loop-tried.tried in
+    let mark = c.args.mark.now in
+    let start = (g.L.Link.seen c.args.link.now).past in
+    let now = (g.L.Link.seen c.loop-tried.link).past in
+    let new = (g.L.Link.seen c.ask_once.new.link).past in
     let fault = err_from_is_err_and c.from_residual.result c.from_residual.ensures.1 in
-    rw fault.1 (
-      all.0,
-      λ plan planned. sends_on plan c.args.mark.now c.loop-tried.tried 1 MOST_TRIES (g.L.Link.seen c.args.link.now).past (g.L.Link.seen c.loop-tried.link).past
-          (g.L.Link.seen c.ask_once.new.link).past (omega (arith, c.loop-tried-test.true)) (sends plan planned) (all.1 plan planned),
-      tt,
-    )
+    rw fault.1 (record {
+      shaped = tt;
+      honestly = λ names honest.
+          let (before, sends, goes) = c.loop-tried.invariant.honest names honest in
+          let more = c.ask_once.ensures.honestly names before in
+          record {
+            still = more.still;
+            few = λ plan planned.
+                sends_on plan mark tried 1 MOST_TRIES start now new (omega (arith, c.loop-tried-test.true)) (sends plan planned) (more.few plan planned);
+            goes = tt;
+          };
+      calmly = λ names calm.
+          let (before, so_far) = c.loop-tried.invariant.calm names calm in
+          record { still = (c.ask_once.ensures.calmly names before).still; comes = tt };
+    })
 
-pub returns-in_err-ask_once-clause-calmly : goal.returns-in_err-ask_once-clause-calmly
-returns-in_err-ask_once-clause-calmly g c = λ names calm.
-    let (before, tried) = c.loop-tried.invariant.calm names calm in
-    let all = c.ask_once.ensures.calmly names before in
-    let fault = err_from_is_err_and c.from_residual.result c.from_residual.ensures.1 in rw fault.1 (all.0, tt)
+-- each try was made
+pub returns : goal.returns
+returns g c =
+    let part = c.args.part in
+    let tried = c.loop-tried.tried in
+    let mark = c.args.mark.now in
+    let keys = c.args.keys.now in
+    let olds = c.args.lookeds.now.items in
+    let nows = c.loop-tried.lookeds.items in
+    let start = (g.L.Link.seen c.args.link.now).past in
+    let now = (g.L.Link.seen c.loop-tried.link).past in
+    record {
+      shaped = c.loop-tried.invariant.shaped;
+      honestly = λ names honest.
+          let (before, sends, goes) = c.loop-tried.invariant.honest names honest in
+          record {
+            still = before;
+            few = λ plan planned. sends_within plan mark tried MOST_TRIES start now (omega (arith, c.loop-tried.auto.tried-end)) (sends plan planned);
+            goes = goes;
+          };
+      calmly = λ names calm.
+          let (before, so_far) = c.loop-tried.invariant.calm names calm in
+          record {
+            still = before;
+            comes = tried_all part tried keys olds nows start now (omega (arith, c.loop-tried-test.false)) so_far;
+          };
+    }
 
-pub returns-clause-honestly : goal.returns-clause-honestly
-returns-clause-honestly g c = λ names honest.
-    let (before, sends, goes) = c.loop-tried.invariant.honest names honest in (
-      before,
-      λ plan planned. sends_within plan c.args.mark.now c.loop-tried.tried MOST_TRIES (g.L.Link.seen c.args.link.now).past (g.L.Link.seen c.loop-tried.link).past
-          (omega (arith, c.loop-tried.auto.tried-end)) (sends plan planned),
-      goes,
-    )
-
-pub returns-clause-calmly : goal.returns-clause-calmly
-returns-clause-calmly g c = λ names calm.
-    let (before, tried) = c.loop-tried.invariant.calm names calm in (
-      before,
-      tried_all c.args.part c.loop-tried.tried c.args.keys.now c.args.lookeds.now.items c.loop-tried.lookeds.items (g.L.Link.seen c.args.link.now).past
-          (g.L.Link.seen c.loop-tried.link).past (omega (arith, c.loop-tried-test.false)) tried,
-    )
-
-pub returns-then-not-again-clause-honestly : goal.returns-then-not-again-clause-honestly
-returns-then-not-again-clause-honestly g c = λ names honest.
-    let (before, sends, goes) = c.loop-tried.invariant.honest names honest in (
-      before,
-      λ plan planned. sends_within plan c.args.mark.now c.loop-tried.tried MOST_TRIES (g.L.Link.seen c.args.link.now).past (g.L.Link.seen c.loop-tried.link).past
-          (omega (arith, c.loop-tried-test.true)) (sends plan planned),
-      goes,
-    )
-
-pub returns-then-not-again-clause-calmly : goal.returns-then-not-again-clause-calmly
-returns-then-not-again-clause-calmly g c = λ names calm.
-    let (before, tried) = c.loop-tried.invariant.calm names calm in
-    let any : list_any (is_asked c.args.part) c.loop-tried.lookeds.items ≡ true =
-    ap (list_any (is_asked c.args.part)) (sym c.as_slice.ensures.value) ∙ sym c.is_any_asked.ensures ∙ c.if-not-is_any_asked.false in (
-      before,
-      tried_stopped c.args.part c.loop-tried.tried c.args.keys.now c.args.lookeds.now.items c.loop-tried.lookeds.items (g.L.Link.seen c.args.link.now).past
-          (g.L.Link.seen c.loop-tried.link).past any (omega arith) tried,
-    )
+-- the pause said no
+pub returns-then-not-again : goal.returns-then-not-again
+returns-then-not-again g c =
+    let part = c.args.part in
+    let tried = c.loop-tried.tried in
+    let mark = c.args.mark.now in
+    let keys = c.args.keys.now in
+    let olds = c.args.lookeds.now.items in
+    let nows = c.loop-tried.lookeds.items in
+    let start = (g.L.Link.seen c.args.link.now).past in
+    let now = (g.L.Link.seen c.loop-tried.link).past in
+    let any : list_any (is_asked part) nows ≡ true =
+    ap (list_any (is_asked part)) (sym c.as_slice.ensures.value) ∙ sym c.is_any_asked.ensures ∙ c.if-not-is_any_asked.false in
+    record {
+      shaped = c.loop-tried.invariant.shaped;
+      honestly = λ names honest.
+          let (before, sends, goes) = c.loop-tried.invariant.honest names honest in
+          record {
+            still = before;
+            few = λ plan planned. sends_within plan mark tried MOST_TRIES start now (omega (arith, c.loop-tried-test.true)) (sends plan planned);
+            goes = goes;
+          };
+      calmly = λ names calm.
+          let (before, so_far) = c.loop-tried.invariant.calm names calm in
+          record { still = before; comes = tried_stopped part tried keys olds nows start now any (omega arith) so_far };
+    }

@@ -4,9 +4,13 @@ use Rattle.kmip_look.proofs.GroupLemmas.{group_asked, group_calm, group_idle, gr
 use Rattle.kmip_look.proofs.PastLemmas.{sends_none, shaped_many, unasked_at}
 use Rattle.kmip_look.proofs.looking.look_group.Goals as goal
 
-pub ask_group-requires-clause-shaped : goal.ask_group-requires-clause-shaped
-ask_group-requires-clause-shaped g c =
-    unasked_at c.args.keys.now c.in_ok-lookeds.lookeds.items c.in_ok-lookeds.ensures.as_many c.in_ok-lookeds.ensures.unasked
+pub ask_group-requires : goal.ask_group-requires
+ask_group-requires g c = record {
+  many = c.requires.many;
+  short = c.requires.mark;
+  fit = c.requires.fit;
+  shaped = unasked_at c.args.keys.now c.in_ok-lookeds.lookeds.items c.in_ok-lookeds.ensures.as_many c.in_ok-lookeds.ensures.unasked;
+}
 
 pub returns-in_err-lookeds-clause-honestly : goal.returns-in_err-lookeds-clause-honestly
 returns-in_err-lookeds-clause-honestly g c = λ names honest.
@@ -32,29 +36,29 @@ returns-then-not-goes_on-clause-calmly g c = λ names calm.
 pub returns-in_err-more-clause-honestly : goal.returns-in_err-more-clause-honestly
 returns-in_err-more-clause-honestly g c = λ names honest.
     let all = c.ask_group.ensures.honestly names honest in
-    let fault = err_from_is_err_and c.from_residual-in_err-more.result c.from_residual-in_err-more.ensures.1 in rw fault.1 (all.0, all.1, tt)
+    let fault = err_from_is_err_and c.from_residual-in_err-more.result c.from_residual-in_err-more.ensures.1 in rw fault.1 (all.still, all.few, tt)
 
 pub returns-in_err-more-clause-calmly : goal.returns-in_err-more-clause-calmly
 returns-in_err-more-clause-calmly g c = λ names calm.
     let all = c.ask_group.ensures.calmly names calm in
-    let fault = err_from_is_err_and c.from_residual-in_err-more.result c.from_residual-in_err-more.ensures.1 in rw fault.1 (all.0, tt)
+    let fault = err_from_is_err_and c.from_residual-in_err-more.result c.from_residual-in_err-more.ensures.1 in rw fault.1 (all.still, tt)
 
 pub returns-clause-as_many : goal.returns-clause-as_many
 returns-clause-as_many g c = shaped_many c.args.keys.now c.ask_group.new.lookeds.items c.in_ok-more.ensures.shaped
 
 pub returns-clause-honestly : goal.returns-clause-honestly
 returns-clause-honestly g c = λ names honest.
-    let (still, sends, goes) = c.in_ok-more.ensures.honestly names honest in (
-      still,
-      sends,
+    let all = c.in_ok-more.ensures.honestly names honest in (
+      all.still,
+      all.few,
       group_asked names c.args.mark.now c.args.keys.now c.in_ok-lookeds.lookeds.items c.ask_group.new.lookeds.items (g.L.Link.seen c.args.link.now).past
-          (g.L.Link.seen c.ask_group.new.link).past c.in_ok-lookeds.ensures.as_many c.in_ok-lookeds.ensures.unasked goes,
+          (g.L.Link.seen c.ask_group.new.link).past c.in_ok-lookeds.ensures.as_many c.in_ok-lookeds.ensures.unasked all.goes,
     )
 
 pub returns-clause-calmly : goal.returns-clause-calmly
 returns-clause-calmly g c = λ names calm.
-    let (still, through) = c.in_ok-more.ensures.calmly names calm in (
-      still,
+    let all = c.in_ok-more.ensures.calmly names calm in (
+      all.still,
       group_calm c.args.keys.now c.in_ok-lookeds.lookeds.items c.ask_group.new.lookeds.items c.args.goes_on.now c.in_ok-more.more
-          (g.L.Link.seen c.args.link.now).past (g.L.Link.seen c.ask_group.new.link).past c.in_ok-lookeds.ensures.as_many c.in_ok-lookeds.ensures.unasked through,
+          (g.L.Link.seen c.args.link.now).past (g.L.Link.seen c.ask_group.new.link).past c.in_ok-lookeds.ensures.as_many c.in_ok-lookeds.ensures.unasked all.comes,
     )

@@ -10,7 +10,13 @@ invariant-loop-rest g l =
     command.IsReady (command.state l.command)
     × HasResponded command.response
     (input_read command.response (command.state l.fn.command) l.input) (input_read command.response (command.state l.command) l.rest)
-    (command.state l.fn.command) (command.state l.command) (Some l.fn.output.items) (Some l.output.items) l.has_refused
+    (record {
+      first = command.state l.fn.command;
+      state = command.state l.command;
+      old = Some l.fn.output.items;
+      now = Some l.output.items;
+      refused = l.has_refused;
+    })
 
 abbrev pub decreases-loop-rest : goal.decreases-loop-rest
 decreases-loop-rest g l = length l.rest

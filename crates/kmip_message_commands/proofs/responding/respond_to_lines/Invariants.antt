@@ -7,5 +7,10 @@ invariant-loop g l =
     let command = g.C.Respond in
     command.IsReady (command.state l.command)
     × Responding command.response (g.R.Read.remaining l.fn.reader) (g.R.Read.remaining l.reader)
-    (command.state l.fn.command) (command.state l.command)
-    (g.W.Write.contents l.fn.writer) (g.W.Write.contents l.writer) l.has_refused
+    (record {
+      first = command.state l.fn.command;
+      state = command.state l.command;
+      old = g.W.Write.contents l.fn.writer;
+      now = g.W.Write.contents l.writer;
+      refused = l.has_refused;
+    })

@@ -13,6 +13,7 @@ use Rattle.kmip_message_commands.proofs.FinishingLemmas.{unless, unless_output}
 use Rattle.kmip_plan.specs.declared.plan_fault.PlanFault.{PlanFault}
 use Rattle.kmip_ttlv.specs.declared.no_memory.NoMemory.{NoMemory}
 use Rattle.kmip_plan_commands.specs.Simulating.{BreaksOffSim, TellsSim, WritesSim}
+use Rattle.kmip_plan_commands.proofs.SimulatingLemmas.{told}
 use Rattle.kmip_plan_commands.proofs.simulating.sim.Goals as goal
 
 module _ (detail : Detail) (batch : ℕ) (read : Result (List Key) PlanFault) (further : Option (Result (List Key) PlanFault)) (script text : List ℕ) (old new : Option (List ℕ)) where
@@ -39,15 +40,23 @@ module _ (detail : Detail) (batch : ℕ) (read : Result (List Key) PlanFault) (f
 
 pub returns-clause-text : goal.returns-clause-text
 returns-clause-text g c =
-    whole _ _ _ _ _ c.in_ok-told.told.text.items _ _ c.in_ok-told.told.ended c.in_ok-told-2.field-0 c.in_ok-told-2.was c.in_ok-told.ensures
+    whole _ _ _ _ _ c.push_sim_end.new.text.items _ _ c.outcome.result c.in_ok-outcome.field-0 c.in_ok-outcome.was
+    (told _ _ c.in_ok-end.end c.outcome.result c.new-text.result.items c.push_sim_end.new.text.items c.in_ok-end.ensures c.outcome.ensures c.new-text.ensures.items c.in_ok-push_sim_end.ensures)
     (subst (Appends (g.W.Write.contents c.args.writer.now) (g.W.Write.contents c.send.new.writer)) c.as_slice.ensures.value c.in_ok-send.ensures.text)
 
-pub returns-in_err-told-clause-text : goal.returns-in_err-told-clause-text
-returns-in_err-told-clause-text g c = IfOk-from_err _ _ c.from_residual.ensures.0
+pub returns-in_err-end-clause-text : goal.returns-in_err-end-clause-text
+returns-in_err-end-clause-text g c = IfOk-from_err _ _ c.from_residual.ensures.0
 
-pub returns-in_err-told-clause-broken : goal.returns-in_err-told-clause-broken
-returns-in_err-told-clause-broken g c =
+pub returns-in_err-end-clause-broken : goal.returns-in_err-end-clause-broken
+returns-in_err-end-clause-broken g c =
     broken _ _ _ _ _ [] _ _ c.from_residual.result (inl refl) (Appends-nil (g.W.Write.contents c.args.writer.now))
+
+pub returns-in_err-push_sim_end-clause-text : goal.returns-in_err-push_sim_end-clause-text
+returns-in_err-push_sim_end-clause-text g c = IfOk-from_err _ _ c.from_residual-in_err-push_sim_end.ensures.0
+
+pub returns-in_err-push_sim_end-clause-broken : goal.returns-in_err-push_sim_end-clause-broken
+returns-in_err-push_sim_end-clause-broken g c =
+    broken _ _ _ _ _ [] _ _ c.from_residual-in_err-push_sim_end.result (inl refl) (Appends-nil (g.W.Write.contents c.args.writer.now))
 
 pub returns-in_err-send-clause-text : goal.returns-in_err-send-clause-text
 returns-in_err-send-clause-text g c = IfOk-from_err _ _ c.from_residual-in_err-send.ensures.0
@@ -57,11 +66,12 @@ returns-in_err-send-clause-broken g c =
     let fault = err_from_is_err_and c.from_residual-in_err-send.result c.from_residual-in_err-send.ensures.1 in
     failed _ _ _ _ _ [] _ _ c.from_residual-in_err-send.result fault.0 fault.1 (fault.2 ∙ c.in_err-send.ensures.fault)
 
-pub returns-in_err-told-2-clause-text : goal.returns-in_err-told-2-clause-text
-returns-in_err-told-2-clause-text g c = IfOk-from_err _ _ c.from_residual-in_err-told-2.ensures.0
+pub returns-in_err-outcome-clause-text : goal.returns-in_err-outcome-clause-text
+returns-in_err-outcome-clause-text g c = IfOk-from_err _ _ c.from_residual-in_err-outcome.ensures.0
 
-pub returns-in_err-told-2-clause-broken : goal.returns-in_err-told-2-clause-broken
-returns-in_err-told-2-clause-broken g c =
-    broken _ _ _ _ _ c.in_ok-told.told.text.items _ _ c.from_residual-in_err-told-2.result
-    (wanted _ _ _ _ _ _ (g.W.Write.contents c.args.writer.now) (g.W.Write.contents c.send.new.writer) c.in_ok-told.told.ended c.in_err-told-2.field-0.0 c.in_err-told-2.was c.in_ok-told.ensures)
+pub returns-in_err-outcome-clause-broken : goal.returns-in_err-outcome-clause-broken
+returns-in_err-outcome-clause-broken g c =
+    broken _ _ _ _ _ c.push_sim_end.new.text.items _ _ c.from_residual-in_err-outcome.result
+    (wanted _ _ _ _ _ _ (g.W.Write.contents c.args.writer.now) (g.W.Write.contents c.send.new.writer) c.outcome.result c.in_err-outcome.field-0.0 c.in_err-outcome.was
+    (told _ _ c.in_ok-end.end c.outcome.result c.new-text.result.items c.push_sim_end.new.text.items c.in_ok-end.ensures c.outcome.ensures c.new-text.ensures.items c.in_ok-push_sim_end.ensures))
     (subst (Appends (g.W.Write.contents c.args.writer.now) (g.W.Write.contents c.send.new.writer)) c.as_slice.ensures.value c.in_ok-send.ensures.text)

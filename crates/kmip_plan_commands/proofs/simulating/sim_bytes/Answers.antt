@@ -7,6 +7,7 @@ use Rattle.kmip_choices.specs.declared.detail.Detail.{Detail}
 use Rattle.kmip_plan.specs.declared.plan_fault.PlanFault.{PlanFault}
 use Rattle.kmip_ttlv.specs.declared.no_memory.NoMemory.{NoMemory}
 use Rattle.kmip_plan_commands.specs.Simulating.{BreaksOffSim, TellsSim, WritesSim}
+use Rattle.kmip_plan_commands.proofs.SimulatingLemmas.{told}
 use Rattle.kmip_plan_commands.proofs.simulating.sim_bytes.Goals as goal
 
 module _ (detail : Detail) (batch : ℕ) (read : Result (List Key) PlanFault) (further : Option (Result (List Key) PlanFault)) (script text old new : List ℕ) where
@@ -26,19 +27,27 @@ module _ (detail : Detail) (batch : ℕ) (read : Result (List Key) PlanFault) (f
 
 pub returns-clause-text : goal.returns-clause-text
 returns-clause-text c =
-    whole _ _ _ _ _ _ _ _ c.in_ok-told.told.ended c.in_ok-told.ensures
+    whole _ _ _ _ _ _ _ _ c.outcome.result
+    (told _ _ c.in_ok-end.end c.outcome.result c.new-text.result.items c.push_sim_end.new.text.items c.in_ok-end.ensures c.outcome.ensures c.new-text.ensures.items c.in_ok-push_sim_end.ensures)
     (c.in_ok-push_text.ensures.ok ∙ ap (λ t. c.args.output.now.items ++ t) c.as_slice.ensures.value)
 
 pub returns-clause-broken : goal.returns-clause-broken
 returns-clause-broken c =
-    broken _ _ _ _ _ _ _ _ c.in_ok-told.told.ended c.in_ok-told.ensures
+    broken _ _ _ _ _ _ _ _ c.outcome.result
+    (told _ _ c.in_ok-end.end c.outcome.result c.new-text.result.items c.push_sim_end.new.text.items c.in_ok-end.ensures c.outcome.ensures c.new-text.ensures.items c.in_ok-push_sim_end.ensures)
     (c.in_ok-push_text.ensures.ok ∙ ap (λ t. c.args.output.now.items ++ t) c.as_slice.ensures.value)
 
-pub returns-in_err-told-clause-text : goal.returns-in_err-told-clause-text
-returns-in_err-told-clause-text c = IfOk-from_err _ _ c.from_residual.ensures.0
+pub returns-in_err-end-clause-text : goal.returns-in_err-end-clause-text
+returns-in_err-end-clause-text c = IfOk-from_err _ _ c.from_residual.ensures.0
 
-pub returns-in_err-told-clause-broken : goal.returns-in_err-told-clause-broken
-returns-in_err-told-clause-broken c = nothing _ _ _ _ _ [] _ _ c.from_residual.result refl
+pub returns-in_err-end-clause-broken : goal.returns-in_err-end-clause-broken
+returns-in_err-end-clause-broken c = nothing _ _ _ _ _ [] _ _ c.from_residual.result refl
+
+pub returns-in_err-push_sim_end-clause-text : goal.returns-in_err-push_sim_end-clause-text
+returns-in_err-push_sim_end-clause-text c = IfOk-from_err _ _ c.from_residual-in_err-push_sim_end.ensures.0
+
+pub returns-in_err-push_sim_end-clause-broken : goal.returns-in_err-push_sim_end-clause-broken
+returns-in_err-push_sim_end-clause-broken c = nothing _ _ _ _ _ [] _ _ c.from_residual-in_err-push_sim_end.result refl
 
 pub returns-in_err-push_text-clause-text : goal.returns-in_err-push_text-clause-text
 returns-in_err-push_text-clause-text c = IfOk-from_err _ _ c.from_residual-in_err-push_text.ensures.0

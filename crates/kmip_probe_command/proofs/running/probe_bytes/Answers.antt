@@ -7,5 +7,5 @@ pub returns-in-Err-clause-broken : goal.returns-in-Err-clause-broken
 returns-in-Err-clause-broken g c =
     let ended = c.probe_to-ended.new.printer.text.items in
     let kept = subst (λ before. take (length before) ended ≡ before) (ap (λ v. v.items) c.replace.ensures.value)
-    (front_is_kept _ _ _ _ c.in-Err.ensures.broken) in
+    (front_is_kept _ _ _ _ _ c.in-Err.ensures.broken) in
     c.truncate.ensures.items ∙ ap (λ n. take n ended) (c.len-before.ensures ∙ c.args.output.now.ok.0) ∙ kept

@@ -7,6 +7,6 @@ use Rattle.kmip_probe_command.proofs.telling.print_lines.Goals as goal
 pub returns-clause-text : goal.returns-clause-text
 returns-clause-text g c =
     subst (Appends (g.P.Printer.contents c.args.printer.now) (g.P.Printer.contents c.print.new.self))
-    (c.as_bytes.ensures.value ∙ c.as_str.ensures.value ∙ c.in_ok-text.ensures
-    ∙ lines_are c.args.prefix.now c.args.answers.now c.in_ok-findings.findings c.in_ok-findings.ensures c.args.premises.now)
+    (c.as_slice.ensures.value ∙ c.in_ok-text.ensures
+    ∙ lines_are g.F.ProbeForm.texts c.args.prefix.now c.args.answers.now c.in_ok-findings.findings c.in_ok-findings.ensures c.args.premises.now)
     c.in_ok-print.ensures.text

@@ -9,5 +9,5 @@ returns-clause-text g c = (
   c.in_ok-findings.ensures,
   ap not c.are_all_kept.ensures,
   subst (Appends (g.P.Printer.contents c.args.printer.now) (g.P.Printer.contents c.print.new.self))
-      (c.as_bytes.ensures.value ∙ c.as_str.ensures.value ∙ c.in_ok-text.ensures) c.in_ok-print.ensures.text,
+      (c.as_slice.ensures.value ∙ c.in_ok-text.ensures) c.in_ok-print.ensures.text,
 )

@@ -26,4 +26,4 @@ returns-in-Err-clause-broken g c = λ is.
     let done = c.serve_in_turn-served.new in
     subst (λ before. BreaksOff c.args.now c.args.server.now done.server c.args.input.now before done.writer.bytes.items)
     (ap (λ v. v.items) c.replace.ensures.value)
-    (lost_reply _ _ _ _ _ _ _ _ tt (loses_at _ _ _ _ _ _ _ _ _ (to_z-of_z c.ranges.now) c.in-Err.ensures.failed.lost))
+    (lost_reply _ _ _ _ _ _ _ _ tt (loses_at _ _ _ _ _ _ _ _ _ (to_z-of_z c.ranges.now) c.in-Err.ensures.lost))

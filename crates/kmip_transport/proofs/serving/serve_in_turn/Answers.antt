@@ -1,5 +1,5 @@
 -- A message more, or the end of the stream.
-use Rattle.std.proofs.Common.{arith, rules}
+use Rattle.std.proofs.Common.{arith}
 use Rattle.std.proofs.Math.Facts.{to_z-of_z}
 use Rattle.kmip_transport.proofs.ServingLemmas.{serves_at, loses_at, HasServed-one, HasServed-none, served_then, lost_then, too_many, not_too_many, no_framer}
 use Rattle.kmip_transport.proofs.serving.serve_in_turn.Goals as goal
@@ -21,11 +21,9 @@ returns-in-Ok-Some-clause-served g c =
     serves_at _ _ _ _ _ _ _ _ _ (to_z-of_z c.ranges.now)
     (served_then _ _ _ _ _ _ _ _ _ _ _ _ c.loop-turn.invariant.1 (rw c.in-Ok-Some.field-0-is at c.in-Ok-Some.ensures.ended))
 
-pub returns-in-Err-clause-failed : goal.returns-in-Err-clause-failed
-returns-in-Err-clause-failed g c = record {
-  lost = loses_at _ _ _ _ _ _ _ _ _ (to_z-of_z c.ranges.now) (lost_then _ _ _ _ _ _ _ _ _ _ _ _ c.loop-turn.invariant.1 c.in-Err.ensures.failed.lost);
-  refused = search rules;
-}
+pub returns-in-Err-clause-lost : goal.returns-in-Err-clause-lost
+returns-in-Err-clause-lost g c =
+    loses_at _ _ _ _ _ _ _ _ _ (to_z-of_z c.ranges.now) (lost_then _ _ _ _ _ _ _ _ _ _ _ _ c.loop-turn.invariant.1 c.in-Err.ensures.lost)
 
 pub returns-clause-served : goal.returns-clause-served
 returns-clause-served g c =

@@ -1,5 +1,5 @@
 -- The ends of a stream, at one message.
-use Rattle.std.proofs.Common.{ap, ◌∙◌, rules}
+use Rattle.std.proofs.Common.{ap, ◌∙◌}
 use Rattle.std.proofs.Math.Facts.{to_z-of_z}
 use Rattle.kmip_server.specs.Batching.{batch_reply}
 use Rattle.kmip_transport.proofs.ServingLemmas.{stream_ended, stream_failed, failed_is_no_io, frame_has_fault, same_end, not_served, not_written, served_one}
@@ -23,11 +23,10 @@ pub returns-in-Err-clause-sure : goal.returns-in-Err-clause-sure
 returns-in-Err-clause-sure g c = λ sure is.
     failed_is_no_io _ _ _ _ _ _ _ c.in-Err.ensures.received (c.in-Err.ensures.sure sure) c.end_by.ensures (same_end _ _ is)
 
-pub returns-clause-failed : goal.returns-clause-failed
-returns-clause-failed g c = record {
-  lost = not_written _ _ _ _ _ _ _ _ _ _ _ _ _ c.requires (rw c.in-Ok-Some.field-0-is at c.in-Ok-Some.ensures.received) c.as_slice.ensures.value c.in-Ok.ensures.after c.in-Err-send.ensures.kept;
-  refused = search rules;
-}
+pub returns-clause-lost : goal.returns-clause-lost
+returns-clause-lost g c =
+    not_written _ _ _ _ _ _ _ _ _ _ _ _ _ c.requires (rw c.in-Ok-Some.field-0-is at c.in-Ok-Some.ensures.received) c.as_slice.ensures.value c.in-Ok.ensures.after
+    c.in-Err-send.ensures.kept
 
 pub returns-in-Ok-send-clause-one : goal.returns-in-Ok-send-clause-one
 returns-in-Ok-send-clause-one g c =

@@ -42,22 +42,30 @@ returns-clause-hands g c = λ names.
 
 pub returns-clause-counted : goal.returns-clause-counted
 returns-clause-counted g c = λ names.
-    let answer = option_map (λ v. v.items) c.in_ok-answer.answer in
-    is_counted c.deliveries_join.ensures.nothing names c.args.request.now c.args.self.now c.prepare.new.self c.take_and_play.new.self c.hand_over.new.self c.count.new.self
-    c.next_word-word.result c.is_repeated-repeated.result answer c.in_ok-counts.counts (record {
+    is_counted c.deliveries_join.ensures.nothing names c.args.request.now (record {
+      before = c.args.self.now;
+      prepared = c.prepare.new.self;
+      played = c.take_and_play.new.self;
+      handed = c.hand_over.new.self;
+      after = c.count.new.self;
+      word = c.next_word-word.result;
+      repeated = c.is_repeated-repeated.result;
+      answer = option_map (λ v. v.items) c.in_ok-answer.answer;
+      counts = c.in_ok-counts.counts;
+    }) (record {
       repeated_is = c.is_repeated-repeated.ensures;
       prepared_is = c.in_ok-prepare.ensures.ok;
       early = c.in_ok-prepare.ensures.early names;
       joins = c.in_ok-prepare.ensures.joins;
       word_is = c.next_word-word.ensures;
       taken = λ pass. c.in_ok-answer.ensures.taken pass c.in_ok-prepare.ensures.asked;
-      mid_is = c.in_ok-answer.ensures.ok;
+      played_is = c.in_ok-answer.ensures.ok;
       answer_is = c.in_ok-answer.ensures.answer;
       counts_are = c.in_ok-counts.ensures
           ∙ ap (counted (is_disturbed c.next_word-word.result c.is_repeated-repeated.result (option_map (λ m. m.now) c.bytes_of-handed.result)) (length (requests_in c.args.request.now)) (strange_handed every_name c.args.request.now (option_map (λ m. m.now) c.bytes_of-handed.result))) c.disturbances-before.ensures
           ∙ ap (λ a. counted (is_disturbed c.next_word-word.result c.is_repeated-repeated.result a) (length (requests_in c.args.request.now)) (strange_handed every_name c.args.request.now a) (disturbances_in c.take_and_play.new.self)) c.bytes_of-handed.ensures;
-      last_is = c.in_ok-hand_over.ensures.ok ∙ ap (λ a. handed c.args.request.now c.next_word-word.result a c.take_and_play.new.self) c.bytes_of-handed.ensures;
-      new_is = c.count.ensures;
+      handed_is = c.in_ok-hand_over.ensures.ok ∙ ap (λ a. handed c.args.request.now c.next_word-word.result a c.take_and_play.new.self) c.bytes_of-handed.ensures;
+      after_is = c.count.ensures;
     })
 
 pub returns-in_err-prepare-clause-answer : goal.returns-in_err-prepare-clause-answer

@@ -1,0 +1,116 @@
+//! Lines of the end of a simulation that were worked out by hand from what `sim` prints.
+ghost use Rattle.std.specs.Prelude.{IsTrue};
+ghost use Rattle.kmip_messages.specs.Members.{may_have};
+
+use crate::push_sim_end;
+use crate::tests::{PLAN, assert_lines};
+use kmip_plan::PlanFault;
+use kmip_plan_commands::{Detail, SimEnd, SimInput, sim_to_end};
+use kmip_ttlv::{NoMemory, Text};
+use std::alloc::Global;
+use std::test::Fail;
+
+/// The plan of `examples/lost-create.toml`.
+const ONE_KEY: &str = r#"
+[[key]]
+name = "database-2026"
+algorithm = "AES"
+length = 256
+usage = ["encrypt", "decrypt"]
+target = "active"
+"#;
+
+/// The script of `examples/lost-create.script`.
+const LOST_CREATE: &str = "pass\nlose-reply\n";
+
+const LOST_CREATE_LINES: [&str; 7] = [
+    r#"{"run":1,"end":"AllFinished","exchanges":5,"report":["database-2026 active 2/2 finished","finished 1 of 1"]}"#,
+    r#"{"ask":1,"requests":["Locate database-2026"]}"#,
+    r#"{"ask":2,"requests":["Create database-2026"]}"#,
+    r#"{"ask":3,"requests":["Locate database-2026"]}"#,
+    r#"{"ask":4,"requests":["GetAttributes database-2026"]}"#,
+    r#"{"ask":5,"requests":["Activate database-2026"]}"#,
+    r#"{"record":"1","name":"database-2026","state":"Active"}"#,
+];
+
+/// Two keys in a message. The run is cut off behind its second exchange, and the next goes on.
+const TWO_KEYS_LINES: [&str; 9] = [
+    r#"{"run":1,"end":"Limit","exchanges":2,"report":["a\"b\\c active 0/2 working","second discarded 0/2 working","finished 0 of 2"]}"#,
+    r#"{"run":2,"end":"AllFinished","exchanges":3,"report":["a\"b\\c active 2/2 finished","second discarded 2/2 finished","finished 2 of 2"]}"#,
+    r#"{"ask":1,"requests":["Locate a\"b\\c","Locate second"]}"#,
+    r#"{"ask":2,"requests":["Create a\"b\\c","Create second"]}"#,
+    r#"{"ask":3,"requests":["Locate a\"b\\c","Locate second"]}"#,
+    r#"{"ask":4,"requests":["GetAttributes a\"b\\c","GetAttributes second"]}"#,
+    r#"{"ask":5,"requests":["Activate a\"b\\c","Destroy second"]}"#,
+    r#"{"record":"1","name":"a\"b\\c","state":"Active"}"#,
+    r#"{"record":"2","name":"second","state":"Destroyed"}"#,
+];
+
+const FAULT_LINES: [&str; 5] = [
+    r#"{"fault":"plan refused","number":2,"name":"NoKeys","field":null,"key":null,"line":null}"#,
+    r#"{"fault":"plan refused","number":5,"name":"Unknown","field":"k\"","key":3,"line":null}"#,
+    r#"{"fault":"plan refused","at":null,"why":"it does not prolong the plan before","cause":null}"#,
+    r#"{"fault":"script refused","line":2}"#,
+    r#"{"fault":"script refused","line":0}"#,
+];
+
+/// What is given of a script, with at most two keys in a message.
+fn input(script: &str) -> SimInput<'_>
+    ensures { IsTrue (may_have result.batch) }
+{
+    SimInput {
+        detail: Detail::Runs,
+        batch: 2,
+        script,
+    }
+}
+
+#[test]
+fn writes_how_a_simulation_ended(rt: HostRuntime) -> Result<(), Fail> {
+    let alloc = rt.alloc();
+    let end = sim_to_end(alloc, ONE_KEY, &input(LOST_CREATE), None)?;
+    let mut text = Vec::new(alloc);
+    push_sim_end(alloc, &end, &mut text)?;
+    assert_lines(&rt, alloc, text.as_slice(), &LOST_CREATE_LINES)?;
+    let end = sim_to_end(alloc, PLAN, &input("pass\nlose-reply\nsave\n"), None)?;
+    let mut text = Vec::new(alloc);
+    push_sim_end(alloc, &end, &mut text)?;
+    assert_lines(&rt, alloc, text.as_slice(), &TWO_KEYS_LINES)?;
+    Ok(())
+}
+
+#[test]
+fn writes_the_runs_before_memory_ran_out(rt: HostRuntime) -> Result<(), Fail> {
+    let alloc = rt.alloc();
+    let end = sim_to_end(alloc, ONE_KEY, &input(LOST_CREATE), None)?;
+    let SimEnd::Ran(mut simulation) = end else {
+        return Err(Fail::new("nothing was simulated"));
+    };
+    simulation.end.fault = Some(NoMemory);
+    let mut text = Vec::new(alloc);
+    push_sim_end(alloc, &SimEnd::Ran(simulation), &mut text)?;
+    assert_lines(&rt, alloc, text.as_slice(), &LOST_CREATE_LINES[..1])?;
+    Ok(())
+}
+
+#[test]
+fn writes_why_nothing_was_simulated(rt: HostRuntime) -> Result<(), Fail> {
+    let alloc = rt.alloc();
+    let mut text = Vec::new(alloc);
+    let end = sim_to_end(alloc, "", &input(LOST_CREATE), Some(PLAN))?;
+    push_sim_end(alloc, &end, &mut text)?;
+    let word = Text::copied(alloc, "k\"")?;
+    let end = SimEnd::PlanRefused(PlanFault::Unknown(word, 3));
+    push_sim_end(alloc, &end, &mut text)?;
+    let end = sim_to_end(alloc, PLAN, &input("prolong\n"), Some(ONE_KEY))?;
+    push_sim_end(alloc, &end, &mut text)?;
+    let end = sim_to_end(alloc, ONE_KEY, &input("pass\nlose\n"), None)?;
+    push_sim_end(alloc, &end, &mut text)?;
+    let end = sim_to_end(alloc, ONE_KEY, &input(LOST_CREATE), Some(ONE_KEY))?;
+    push_sim_end(alloc, &end, &mut text)?;
+    assert_lines(&rt, alloc, text.as_slice(), &FAULT_LINES)?;
+    let end = SimEnd::PlanRefused(PlanFault::NoMemory);
+    let wanting = push_sim_end(alloc, &end, &mut text);
+    assert!(rt; wanting.is_err());
+    Ok(())
+}

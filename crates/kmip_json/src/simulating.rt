@@ -1,0 +1,281 @@
+//! What `sim` says of the end of a simulation.
+ghost use Rattle.std.specs.Prelude.{◌≡◌, ◌++◌, IfOk, OnOk, map, string_bytes};
+ghost use Rattle.std.specs.Str.Lines.{lines};
+ghost use Rattle.kmip_server.specs.Shown.{objects_in};
+ghost use Rattle.kmip_store.specs.Stock.{object_of};
+ghost use Rattle.kmip_json.specs.SimJson.{
+  ask_line,
+  ask_line_if_any,
+  ask_lines,
+  message_line,
+  prolongs_not_line,
+  record_line,
+  record_lines,
+  request_word,
+  script_fault_line,
+  sim_end_lines,
+  sim_run_line,
+  sim_run_lines,
+  simulation_lines,
+};
+
+use crate::document::push_document;
+use crate::fault::Fault;
+use crate::faults::{push_fault, push_plan_fault};
+use crate::member::Member;
+use kmip_batch_items::Request;
+use kmip_plan_commands::SimEnd;
+use kmip_runs::RunEnd;
+use kmip_scripted::Scripted;
+use kmip_server::{IndexedStore, Records};
+use kmip_simulation::Simulation;
+use kmip_store::Row;
+use kmip_trace::{push_requests, requests_in, state_word};
+use kmip_ttlv::NoMemory;
+use std::alloc::{AllocError, Global};
+use std::slice;
+
+/// Appends what came of a simulation: a line for each run that has ended, one for each message that
+/// asked something, and one for each object at the end. Where memory ran out in a run, it is the runs
+/// before it alone. Where a plan or the script is refused, it is one line that says why.
+///
+/// A run has its number from 1, why it stopped, its exchanges, and the lines of its report. A message
+/// has its number among all that were asked, from 1, and the operation and the key of each request. An
+/// object has its identifier, its name and its state.
+///
+/// # Errors
+/// Where there is no memory for it, and a part may have been appended then; and where a plan is refused
+/// for want of memory, which is no reason.
+pub fn push_sim_end(alloc: Global, end: &SimEnd, text: &mut Vec<u8>) -> Result<(), NoMemory>
+    // What is appended is exactly the stated lines of the end.
+    ensures { OnOk result (text.new.items ≡ text.old.items ++ sim_end_lines end.now) }
+{
+    match end {
+        SimEnd::PlanRefused(fault) => push_plan_fault(alloc, fault, None, text),
+        SimEnd::ProlongsNot => push_prolongs_not(alloc, text),
+        SimEnd::ScriptRefused(line) => push_script_fault(alloc, *line, text),
+        SimEnd::Ran(simulation) => push_simulation(alloc, simulation, text),
+    }
+}
+
+/// Appends the line of a further plan that does not prolong the plan.
+fn push_prolongs_not(alloc: Global, text: &mut Vec<u8>) -> Result<(), NoMemory>
+    ensures { OnOk result (text.new.items ≡ text.old.items ++ prolongs_not_line) }
+{
+    let fault = Fault {
+        fault: "plan refused",
+        at: None,
+        why: Some("it does not prolong the plan before"),
+        cause: None,
+    };
+    push_fault(alloc, &fault, text)
+}
+
+/// Appends the line of a script that is refused for this line.
+fn push_script_fault(alloc: Global, line: usize, text: &mut Vec<u8>) -> Result<(), NoMemory>
+    ensures { OnOk result (text.new.items ≡ text.old.items ++ script_fault_line line) }
+{
+    let members = [
+        Member::text("fault", "script refused"),
+        Member::count("line", line as u64),
+    ];
+    push_document(alloc, &members, text)
+}
+
+/// Appends the lines of a simulation.
+fn push_simulation(
+    alloc: Global,
+    simulation: &Simulation,
+    text: &mut Vec<u8>,
+) -> Result<(), NoMemory>
+    ensures { OnOk result (text.new.items
+        ≡ text.old.items ++ simulation_lines simulation.now) }
+{
+    push_runs(alloc, simulation.end.runs.as_slice(), text)?;
+    if simulation.end.fault.is_some() {
+        return Ok(());
+    }
+    push_asks(alloc, &simulation.link, text)?;
+    push_records(alloc, &simulation.link, text)
+}
+
+/// Appends the lines of the runs.
+fn push_runs(alloc: Global, ends: &[RunEnd], text: &mut Vec<u8>) -> Result<(), NoMemory>
+    ensures { OnOk result (text.new.items ≡ text.old.items ++ sim_run_lines ends.now) }
+{
+    for (place, end) in ends.iter().enumerate() {
+        push_run(alloc, place + 1, end, text)?;
+    }
+    Ok(())
+}
+
+/// Appends the line of a run.
+fn push_run(alloc: Global, number: usize, end: &RunEnd, text: &mut Vec<u8>) -> Result<(), NoMemory>
+    ensures { OnOk result (text.new.items ≡ text.old.items ++ sim_run_line number end.now) }
+{
+    let report = lines_of(alloc, end.report.as_str())?;
+    push_run_with(alloc, number, end, report.as_slice(), text)
+}
+
+/// Appends the line of a run, given the lines of its report.
+fn push_run_with<'a>(
+    alloc: Global,
+    number: usize,
+    end: &'a RunEnd,
+    report: &'a [&'a str],
+    text: &mut Vec<u8>,
+) -> Result<(), NoMemory>
+    requires { map (λ line. line.now) report.now ≡ lines (string_bytes end.now.report) }
+    ensures { OnOk result (text.new.items ≡ text.old.items ++ sim_run_line number end.now) }
+{
+    let members = [
+        Member::count("run", number as u64),
+        Member::text("end", end.stop.name()),
+        Member::count("exchanges", end.exchanges as u64),
+        Member::words("report", report),
+    ];
+    push_document(alloc, &members, text)
+}
+
+/// The lines of a text, without their line feeds.
+fn lines_of(alloc: Global, text: &str) -> Result<Vec<&str>, AllocError>
+    ensures { IfOk result (λ found. map (λ line. line.now) found.items ≡ lines text.now) }
+{
+    text.lines().collect(alloc)
+}
+
+/// Appends the lines of the messages that were ever asked over the link.
+fn push_asks(
+    alloc: Global,
+    link: &Scripted<IndexedStore>,
+    text: &mut Vec<u8>,
+) -> Result<(), NoMemory>
+    ensures { OnOk result (text.new.items ≡ text.old.items ++ ask_lines link.now.asked) }
+{
+    let messages = link.requests();
+    for (place, message) in messages.iter().enumerate() {
+        push_message(alloc, place + 1, message.as_slice(), text)?;
+    }
+    Ok(())
+}
+
+/// Appends the line of a message that was asked, where it asks something.
+fn push_message(
+    alloc: Global,
+    number: usize,
+    message: &[u8],
+    text: &mut Vec<u8>,
+) -> Result<(), NoMemory>
+    ensures { OnOk result (text.new.items ≡ text.old.items ++ message_line number message.now) }
+{
+    let requests = requests_in(alloc, message)?;
+    push_ask_if_any(alloc, number, requests.as_slice(), text)
+}
+
+/// Appends the line of what a message asked, where it is something.
+fn push_ask_if_any(
+    alloc: Global,
+    number: usize,
+    requests: &[Request],
+    text: &mut Vec<u8>,
+) -> Result<(), NoMemory>
+    ensures { OnOk result (text.new.items
+        ≡ text.old.items ++ ask_line_if_any number requests.now) }
+{
+    if requests.is_empty() {
+        return Ok(());
+    }
+    push_ask(alloc, number, requests, text)
+}
+
+/// Appends the line of what a message asked.
+fn push_ask(
+    alloc: Global,
+    number: usize,
+    requests: &[Request],
+    text: &mut Vec<u8>,
+) -> Result<(), NoMemory>
+    ensures { OnOk result (text.new.items
+        ≡ text.old.items ++ ask_line number (map request_word requests.now)) }
+{
+    let asked = request_words(alloc, requests)?;
+    let words = texts_of(alloc, asked.as_slice())?;
+    push_ask_of(alloc, number, words.as_slice(), text)
+}
+
+/// Appends the line of a message whose requests are told by these words.
+fn push_ask_of<'a>(
+    alloc: Global,
+    number: usize,
+    words: &'a [&'a str],
+    text: &mut Vec<u8>,
+) -> Result<(), NoMemory>
+    ensures { OnOk result (text.new.items
+        ≡ text.old.items ++ ask_line number (map (λ word. word.now) words.now)) }
+{
+    let members = [
+        Member::count("ask", number as u64),
+        Member::words("requests", words),
+    ];
+    push_document(alloc, &members, text)
+}
+
+/// What each request asks, and of which key.
+fn request_words(alloc: Global, requests: &[Request]) -> Result<Vec<String>, NoMemory>
+    ensures { IfOk result (λ words. map string_bytes words.items
+        ≡ map request_word requests.now) }
+{
+    let mut words = Vec::new(alloc);
+    for request in requests {
+        words.push(request_word(alloc, request)?)?;
+    }
+    Ok(words)
+}
+
+/// What a request asks, and of which key.
+fn request_word(alloc: Global, request: &Request) -> Result<String, NoMemory>
+    ensures { IfOk result (λ word. string_bytes word ≡ request_word request.now) }
+{
+    let mut bytes = Vec::new(alloc);
+    push_requests(slice::from_ref(request), &mut bytes)?;
+    Ok(String::from_utf8_lossy(alloc, bytes.as_slice())?)
+}
+
+/// The texts, as they stand in a document.
+fn texts_of(alloc: Global, texts: &[String]) -> Result<Vec<&str>, AllocError>
+    ensures { IfOk result (λ found. map (λ text. text.now) found.items
+        ≡ map string_bytes texts.now) }
+{
+    texts.iter().map(|text| text.as_str()).collect(alloc)
+}
+
+/// Appends the lines of the objects of the link's server.
+fn push_records(
+    alloc: Global,
+    link: &Scripted<IndexedStore>,
+    text: &mut Vec<u8>,
+) -> Result<(), NoMemory>
+    ensures { OnOk result (text.new.items
+        ≡ text.old.items ++ record_lines (objects_in link.now.stock)) }
+{
+    let records = link.server().records();
+    for place in 0..records.count() {
+        let Some(row) = records.at(place) else {
+            return Ok(());
+        };
+        push_record(alloc, row, text)?;
+    }
+    Ok(())
+}
+
+/// Appends the line of an object.
+fn push_record(alloc: Global, row: &Row, text: &mut Vec<u8>) -> Result<(), NoMemory>
+    ensures { OnOk result (text.new.items ≡ text.old.items ++ record_line (object_of row.now)) }
+{
+    let members = [
+        Member::text("record", row.uid.as_str()),
+        Member::text("name", row.attrs.name.as_str()),
+        Member::text("state", state_word(row.state)),
+    ];
+    push_document(alloc, &members, text)
+}

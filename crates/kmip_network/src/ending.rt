@@ -1,0 +1,54 @@
+//! The documents of the end of a run.
+ghost use Rattle.std.specs.Prelude.{◌≡◌, IfOk};
+ghost use Rattle.kmip_plan_commands.specs.RunText.{is_end_refused};
+
+use crate::cannot::Cannot;
+use crate::reporting::{push_reason, push_told};
+use kmip_account::Account;
+use kmip_json::{push_progress_fault, push_run};
+use kmip_plan_commands::RunEnd;
+use kmip_ttlv::NoMemory;
+use std::alloc::Global;
+use std::io::Error;
+
+/// Appends the documents of the end of a run, whose progress is kept at the path. Says whether something
+/// was refused, not kept or left unfinished.
+///
+/// Where the progress could not be kept, it is the document of that, with the word of the system.
+///
+/// # Errors
+/// Where there is no memory for them.
+pub(crate) fn push_end(
+    account: &Account<'_>,
+    path: &str,
+    failure: Option<&Error>,
+    end: &RunEnd<'_>,
+    text: &mut Vec<u8>,
+) -> Result<bool, NoMemory>
+    ensures { IfOk result (λ r. r ≡ is_end_refused end.now) }
+{
+    let alloc = account.rt().alloc();
+    match end {
+        RunEnd::Refused(fault) => push_progress_fault(alloc, *fault, text)?,
+        RunEnd::Unwritten => push_unwritten(alloc, path, failure, text)?,
+        RunEnd::Stopped { client, stop, .. } => {
+            let tally = account.tally(client)?;
+            push_run(alloc, client, *stop, &tally, text)?;
+        }
+    }
+    Ok(end.is_refused())
+}
+
+/// Appends the document of a progress that could not be kept.
+fn push_unwritten(
+    alloc: Global,
+    path: &str,
+    failure: Option<&Error>,
+    text: &mut Vec<u8>,
+) -> Result<(), NoMemory> {
+    let fault = Cannot::Save.text();
+    match failure {
+        Some(error) => push_reason(alloc, fault, path, error, text),
+        None => push_told(alloc, fault, Some(path), None, text),
+    }
+}

@@ -1,0 +1,211 @@
+//! What keeps a command from its work.
+ghost use Rattle.std.specs.Prelude.{◌≡◌, OnOk, false};
+ghost use Rattle.kmip_json.specs.FaultJson.{is_plan_memory};
+
+use crate::another_server::AnotherServer;
+use crate::cannot::Cannot;
+use crate::causes::{tell_cause, tell_why};
+use crate::reporting::{print_documents, push_reason, push_told};
+use kmip_explaining::{line_of_fault, tell_refusal};
+use kmip_json::{push_plan_fault, push_progress_fault};
+use kmip_message_commands::ExitStatus;
+use kmip_plan::PlanFault;
+use kmip_plan_commands::push_refusal;
+use kmip_progress::ProgressFault;
+use kmip_ttlv::NoMemory;
+use std::alloc::Global;
+use std::io::{self, Error, ErrorKind};
+use std::net::{Ipv4Addr, Net, SocketAddr, SocketAddrV4};
+use std::str::from_utf8;
+
+/// Why a file has no text.
+const NO_TEXT: &str = "it is no UTF-8 text";
+
+/// Why a file does not say where a progress was kept.
+const NO_ORIGIN: &str = "it does not say where a progress was kept";
+
+/// What to do about a file that is not what it is to be.
+const LOOK_THERE: &str = "see what stands there";
+
+/// What keeps a command from its work.
+#[derive(Drop)]
+pub enum Obstacle {
+    /// Something cannot be done at a path, by the system's word.
+    Cannot(Cannot, String, Error),
+    /// The file at the path has more bytes than these.
+    TooLong(String, u64),
+    /// The file at the path is no UTF-8 text.
+    NoText(String),
+    /// The file at the path is to say where a progress was kept, and does not.
+    NoOrigin(String),
+    /// The file at the path has this text, which is no plan.
+    NoPlan(String, String, PlanFault),
+    /// Another run has the progress file at the path.
+    InUse(String),
+    /// No port is free for a server in this process.
+    NoPort,
+    AnotherServer(AnotherServer),
+    /// The progress file at the path was kept for a key with other attributes, as the text says.
+    OtherAttributes(String, String),
+}
+
+impl Obstacle {
+    /// Prints it in a line, and tells on standard error what there is to say of it.
+    pub(crate) fn tell_in_text(&self, rt: &HostRuntime) -> io::Result<()> {
+        match self {
+            Obstacle::Cannot(..)
+            | Obstacle::TooLong(..)
+            | Obstacle::NoText(_)
+            | Obstacle::NoOrigin(_)
+            | Obstacle::InUse(_)
+            | Obstacle::NoPort => {
+                self.explain(rt);
+                self.print(rt)
+            }
+            Obstacle::NoPlan(..) => {
+                let printed = self.print(rt);
+                self.explain(rt);
+                printed
+            }
+            Obstacle::AnotherServer(_) | Obstacle::OtherAttributes(..) => {
+                self.print(rt)?;
+                self.explain(rt);
+                Ok(())
+            }
+        }
+    }
+
+    /// Prints its document, and tells on standard error what there is to say of it. Says how the program
+    /// ends.
+    pub(crate) fn tell_in_json(&self, rt: &HostRuntime) -> ExitStatus {
+        self.explain(rt);
+        let mut text = Vec::new(rt.alloc());
+        let made = match self.push_document(rt.alloc(), &mut text) {
+            Ok(()) => Ok(true),
+            Err(NoMemory) => Err(NoMemory),
+        };
+        print_documents(rt, made, text.as_slice())
+    }
+
+    /// Tells on standard error what there is to say of it.
+    fn explain(&self, rt: &HostRuntime) {
+        match self {
+            Obstacle::Cannot(cannot, path, error) => tell_cause(rt, path.as_str(), *cannot, error),
+            Obstacle::TooLong(path, most_bytes) => tell_why(
+                rt,
+                path.as_str(),
+                format_args!("it has more than {most_bytes} bytes; {LOOK_THERE}"),
+            ),
+            Obstacle::NoText(path) => tell_why(rt, path.as_str(), NO_TEXT),
+            Obstacle::NoOrigin(path) => {
+                tell_why(rt, path.as_str(), format_args!("{NO_ORIGIN}; {LOOK_THERE}"));
+            }
+            Obstacle::NoPlan(path, plan, _) => tell_refusal(rt, path.as_str(), plan.as_str()),
+            Obstacle::InUse(_) => {}
+            Obstacle::NoPort => tell_why_no_port(rt),
+            Obstacle::AnotherServer(server) => server.explain(rt),
+            Obstacle::OtherAttributes(path, difference) => {
+                let _ = rt.eprintln(format_args!(
+                    "{path} was kept for another plan: key {difference}; an object keeps what it was made with: give the key its old attributes, or another name"
+                ));
+            }
+        }
+    }
+
+    /// Prints it in a line.
+    fn print(&self, rt: &HostRuntime) -> io::Result<()> {
+        match self {
+            Obstacle::Cannot(cannot, path, _) => {
+                rt.println(format_args!("{} {path}", cannot.text()))
+            }
+            Obstacle::TooLong(path, most_bytes) => {
+                rt.println(format_args!("longer than {most_bytes} bytes: {path}"))
+            }
+            Obstacle::NoText(path) | Obstacle::NoOrigin(path) => {
+                rt.println(format_args!("{} {path}", Cannot::Read.text()))
+            }
+            Obstacle::NoPlan(_, _, fault) => print_refusal(rt, fault),
+            Obstacle::InUse(path) => rt.println(format_args!("progress in use: {path}")),
+            Obstacle::NoPort => rt.println("cannot listen"),
+            Obstacle::AnotherServer(server) => {
+                rt.println(format_args!("progress of another server: {}", server.path))
+            }
+            Obstacle::OtherAttributes(..) => {
+                let fault = ProgressFault::OtherPlan;
+                let (number, name) = (fault.number(), fault.name());
+                rt.println(format_args!("progress refused: {number} {name}"))
+            }
+        }
+    }
+
+    /// Appends its document.
+    ///
+    /// # Errors
+    /// Where there is no memory for it.
+    fn push_document(&self, alloc: Global, text: &mut Vec<u8>) -> Result<(), NoMemory> {
+        match self {
+            Obstacle::Cannot(cannot, path, error) => {
+                push_reason(alloc, cannot.text(), path.as_str(), error, text)
+            }
+            Obstacle::TooLong(path, most_bytes) => {
+                let why = format_args!("it has more than {most_bytes} bytes");
+                push_reason(alloc, "too long", path.as_str(), why, text)
+            }
+            Obstacle::NoText(path) => {
+                push_reason(alloc, Cannot::Read.text(), path.as_str(), NO_TEXT, text)
+            }
+            Obstacle::NoOrigin(path) => {
+                push_reason(alloc, Cannot::Read.text(), path.as_str(), NO_ORIGIN, text)
+            }
+            Obstacle::NoPlan(_, plan, fault) => {
+                push_refused_plan(alloc, plan.as_str(), fault, text)
+            }
+            Obstacle::InUse(path) => {
+                push_told(alloc, "progress in use", Some(path.as_str()), None, text)
+            }
+            Obstacle::NoPort => push_told(alloc, "cannot listen", None, None, text),
+            Obstacle::AnotherServer(server) => server.push_document(alloc, text),
+            Obstacle::OtherAttributes(..) => {
+                push_progress_fault(alloc, ProgressFault::OtherPlan, text)
+            }
+        }
+    }
+}
+
+/// Appends the document that says why a text is no plan, with the line of the text where that is known.
+///
+/// # Errors
+/// Where there is no memory for it, and where the fault is want of memory.
+pub fn push_refused_plan(
+    alloc: Global,
+    plan: &str,
+    fault: &PlanFault,
+    text: &mut Vec<u8>,
+) -> Result<(), NoMemory>
+    // At success the fault is not want of memory.
+    ensures { OnOk result (is_plan_memory fault.now ≡ false) }
+{
+    let line = line_of_fault(alloc, plan, fault)?;
+    push_plan_fault(alloc, fault, line, text)
+}
+
+/// Prints why a text is no plan.
+fn print_refusal(rt: &HostRuntime, fault: &PlanFault) -> io::Result<()> {
+    let mut text = Vec::new(rt.alloc());
+    let Ok(()) = push_refusal(rt.alloc(), fault, &mut text) else {
+        return Err(Error::from(ErrorKind::OutOfMemory));
+    };
+    if let Ok(text) = from_utf8(text.as_slice()) {
+        rt.print(text)?;
+    }
+    Ok(())
+}
+
+/// Tells on standard error why no port is free. The system is asked once more, as a link keeps no word
+/// of it.
+fn tell_why_no_port(rt: &HostRuntime) {
+    let any_port = SocketAddr::V4(SocketAddrV4::new(Ipv4Addr::LOCALHOST, 0));
+    if let Err(error) = rt.bind(any_port) {
+        tell_why(rt, any_port, error);
+    }
+}

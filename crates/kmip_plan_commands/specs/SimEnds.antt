@@ -1,0 +1,71 @@
+-- How a simulation ended, and what that has come of: a plan, a further one where there is one, and a script.
+-- Source: own (view).
+use Rattle.std.specs.Prelude.{◌≡◌, ◌≢◌, ◌⊎◌, ℕ, List, [], ◌∷◌, Option, Some, None, Result, Ok, Err}
+use Rattle.kmip_plan.specs.Prolonging.{Prolongs}
+use Rattle.kmip_plan.specs.declared.plan_fault.PlanFault.{PlanFault}
+use Rattle.kmip_plan.specs.declared.key.Key.{Key}
+use Rattle.kmip_runs.specs.declared.campaign_end.CampaignEnd.{CampaignEnd}
+use Rattle.kmip_scripted.specs.Scenes.{Scene}
+use Rattle.kmip_scripted.specs.ScriptTexts.{FailsAt, IsScript}
+use Rattle.kmip_scripted.specs.Words.{prolongings}
+use Rattle.kmip_scripted.specs.declared.word.Word.{Word}
+use Rattle.kmip_simulation.specs.Simulating.{AreSimulated, IsSimulated}
+use Rattle.kmip_simulation.specs.declared.simulation.Simulation.{Simulation}
+use Rattle.kmip_plan_commands.specs.declared.sim_end.SimEnd.{SimEnd}
+use Rattle.kmip_plan_commands.specs.declared.sim_end.SimEnd.TheVariants.{PlanRefused, ProlongsNot, ScriptRefused, Ran}
+
+-- Each line of the script is a word, but `prolong` stands more or less often than it has to. This is told as of
+-- line 0.
+pub record HasOtherCount (script : List ℕ) (prolonged line : ℕ) : Type 0 where
+  -- The line is 0.
+  pub line_is : line ≡ 0
+  -- The words of the script.
+  pub words : List Word
+  -- The script has these words.
+  pub is_script : IsScript script words
+  -- Another count of them is `prolong`.
+  pub other : prolongings words ≢ prolonged
+
+-- A script in which `prolong` has to stand so often is refused for this line: the first that is at fault, or 0
+-- for another count.
+abbrev pub IsRefusedFor : List ℕ → ℕ → ℕ → Type 0
+IsRefusedFor script prolonged line = FailsAt script line ⊎ HasOtherCount script prolonged line
+
+-- What may hold of the runs that some words made: how their campaign ended, and the link then.
+abbrev pub OfRuns : Type 1
+OfRuns = List Word → CampaignEnd → Scene → Type 0
+
+-- The script, in which `prolong` stands so often, was simulated. What holds of its runs is given.
+pub record IsPlayed (Holds : OfRuns) (script : List ℕ) (prolonged : ℕ) (simulation : Simulation) : Type 0 where
+  -- The words are those of the script.
+  pub is_script : IsScript script simulation.words
+  -- So many of them are `prolong`.
+  pub as_often : prolongings simulation.words ≡ prolonged
+  -- This holds of the runs that they made.
+  pub simulated : Holds simulation.words simulation.end simulation.link
+
+-- How a script ended in which `prolong` has to stand so often: it is refused for a line, or it was simulated.
+abbrev pub EndsScript : OfRuns → List ℕ → ℕ → SimEnd → Type 0
+EndsScript Holds script prolonged (ScriptRefused line) = IsRefusedFor script prolonged line
+EndsScript Holds script prolonged (Ran simulation) = IsPlayed Holds script prolonged simulation
+EndsScript Holds script prolonged end = ⊥
+
+-- How a script ended for the keys of a plan, of which each message asks about so many at most.
+abbrev pub EndsPlan : ℕ → List Key → List ℕ → SimEnd → Type 0
+EndsPlan batch keys script end = EndsScript (λ words end link. IsSimulated keys batch words end link) script 0 end
+
+-- How a script ended for the keys of a plan and, behind its one `prolong`, for those of a further one: the
+-- further plan does not prolong the plan; or it does, and the script is refused, or was simulated for both.
+abbrev pub EndsPlans : ℕ → List Key → List Key → List ℕ → SimEnd → Type 0
+EndsPlans batch keys further script ProlongsNot = ¬ Prolongs further keys
+EndsPlans batch keys further script end =
+    Prolongs further keys
+    × EndsScript (λ words end link. AreSimulated (keys ∷ further ∷ []) batch words end link) script 1 end
+
+-- How a simulation ended for what was read of a plan, and of a further one where there is one. The first of them
+-- that is refused is the end. Else it is how the script ended for them.
+abbrev pub EndsSim : ℕ → Result (List Key) PlanFault → Option (Result (List Key) PlanFault) → List ℕ → SimEnd → Type 0
+EndsSim batch (Err fault) further script end = end ≡ PlanRefused fault
+EndsSim batch (Ok keys) None script end = EndsPlan batch keys script end
+EndsSim batch (Ok keys) (Some (Err fault)) script end = end ≡ PlanRefused fault
+EndsSim batch (Ok keys) (Some (Ok further)) script end = EndsPlans batch keys further script end

@@ -1,0 +1,49 @@
+//! How a simulation ended.
+ghost use Rattle.std.specs.Prelude.{◌≡◌};
+ghost use Rattle.kmip_plan_commands.specs.SimEndText.{campaign_outcome, sim_outcome};
+
+use kmip_plan::PlanFault;
+use kmip_simulation::Simulation;
+use kmip_ttlv::NoMemory;
+
+/// How a simulation ended, unless there was no memory to begin it.
+#[derive(Drop)]
+pub enum SimEnd {
+    /// The plan is refused, or else the further one; nothing was simulated.
+    PlanRefused(PlanFault),
+    /// The further plan does not prolong the plan.
+    ProlongsNot,
+    /// The script is refused for the line of this number, from 1. It is 0 where `prolong` stands more or
+    /// less often than it has to.
+    ScriptRefused(usize),
+    /// The runs of the script were made. Where memory ran out in one, this has the runs before it.
+    Ran(Simulation),
+}
+
+impl SimEnd {
+    /// Whether something is refused, or the last run left a key unfinished. Takes no memory.
+    ///
+    /// # Errors
+    /// Where memory ran out in a run.
+    pub fn outcome(&self) -> Result<bool, NoMemory>
+        ensures { result ≡ sim_outcome self.now }
+    {
+        match self {
+            SimEnd::PlanRefused(_) | SimEnd::ProlongsNot | SimEnd::ScriptRefused(_) => Ok(true),
+            SimEnd::Ran(simulation) => campaign_outcome(simulation),
+        }
+    }
+}
+
+/// Whether the last run of a simulation left a key unfinished.
+///
+/// # Errors
+/// Where memory ran out in a run.
+fn campaign_outcome(simulation: &Simulation) -> Result<bool, NoMemory>
+    ensures { result ≡ campaign_outcome simulation.now.end }
+{
+    match simulation.end.fault {
+        None => Ok(!simulation.is_finished()),
+        Some(NoMemory) => Err(NoMemory),
+    }
+}
