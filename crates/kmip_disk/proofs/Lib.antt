@@ -2,3 +2,4 @@ mod HistoryLemmas
 mod MemoryLemmas
 mod Moments
 mod WholeLemmas
+pub mod ForCallers

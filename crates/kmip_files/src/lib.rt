@@ -8,6 +8,7 @@
 
 mod links;
 mod lock_fault;
+mod machine_disk;
 mod progress_file;
 mod progress_lock;
 mod public_file;

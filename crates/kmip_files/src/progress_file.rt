@@ -4,7 +4,7 @@ use crate::links::file_behind;
 use crate::lock_fault::LockFault;
 use crate::progress_lock::ProgressLock;
 use crate::reading::text_at;
-use crate::replacing::{replace, sync_folder_of};
+use crate::replacing::whole_file;
 use std::alloc::Global;
 use std::fs::{self, File, Files};
 use std::io::{self, ErrorKind};
@@ -23,7 +23,8 @@ pub const MOST_PROGRESS_BYTES: u64 = 1_048_576;
 /// The file that a run keeps its progress in.
 ///
 /// At any instant it is absent or whole, also where the program is killed or the disk is full. Each
-/// text is written to a file beside it, and takes its place once it is on the disk.
+/// text is written to a file beside it, and takes its place once it is on the disk. `WholeFile` is proved
+/// to do so over every disk that keeps the rules of `Disk`; that this machine's does is a premise.
 #[derive(Drop)]
 pub struct ProgressFile<'a, R> {
     rt: &'a R,
@@ -78,14 +79,33 @@ impl<'a, R: Files + AllocGlobal> ProgressFile<'a, R> {
         text_at(self.rt, path.as_str())
     }
 
-    /// Gives the file this text, and returns once it is on the disk.
+    /// Gives the file this text, whose bytes are on the disk then. Until `close` a crash of the machine
+    /// may still leave the text before it.
     ///
     /// # Errors
     ///
-    /// Where it cannot be written: the file is as it was before, or, where only the folder could not
-    /// be brought to the disk, has the new text. Nothing stays beside it, if that can be removed.
+    /// Where it cannot be written: the file is as it was before, or has the new text. Nothing stays
+    /// beside it, if that can be removed.
     pub fn write(&self, text: &[u8]) -> io::Result<()> {
-        replace(self.rt, self.path.as_str(), OWNER_ALONE, text)
+        whole_file(self.rt, self.path.as_str(), OWNER_ALONE)?.write(text)
+    }
+
+    /// Makes what was written last: a crash of the machine leaves no text before it.
+    ///
+    /// # Errors
+    ///
+    /// Where the folder cannot be brought to the disk.
+    pub fn close(&self) -> io::Result<()> {
+        whole_file(self.rt, self.path.as_str(), OWNER_ALONE)?.close()
+    }
+
+    /// Gives the file this text, and makes it last: `write`, and then `close`.
+    ///
+    /// # Errors
+    ///
+    /// As of `write` and `close`.
+    pub fn save(&self, text: &[u8]) -> io::Result<()> {
+        whole_file(self.rt, self.path.as_str(), OWNER_ALONE)?.save(text)
     }
 
     /// Gives the file beside this one that says where this one was kept this text, and returns once it
@@ -93,10 +113,10 @@ impl<'a, R: Files + AllocGlobal> ProgressFile<'a, R> {
     ///
     /// # Errors
     ///
-    /// As of `write`.
+    /// As of `save`.
     pub fn write_origin(&self, text: &[u8]) -> io::Result<()> {
         let path = self.origin_path()?;
-        replace(self.rt, path.as_str(), OWNER_ALONE, text)
+        whole_file(self.rt, path.as_str(), OWNER_ALONE)?.save(text)
     }
 
     /// Gives the file the path of `before_path`, in the place of one that stands there, and returns
@@ -108,7 +128,7 @@ impl<'a, R: Files + AllocGlobal> ProgressFile<'a, R> {
     pub fn put_aside(&self) -> io::Result<()> {
         let before = self.before_path()?;
         match fs::rename(self.rt, self.path.as_str(), before.as_str()) {
-            Ok(()) => sync_folder_of(self.rt, self.path.as_str()),
+            Ok(()) => self.close(),
             Err(error) if error.kind() == ErrorKind::NotFound => Ok(()),
             Err(error) => Err(error),
         }

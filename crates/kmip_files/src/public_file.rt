@@ -2,7 +2,7 @@
 
 use crate::links::file_behind;
 use crate::reading::text_at;
-use crate::replacing::replace;
+use crate::replacing::whole_file;
 use std::alloc::Global;
 use std::fs::{self, Files};
 use std::io;
@@ -53,8 +53,8 @@ impl<'a, R: Files + AllocGlobal> PublicFile<'a, R> {
     /// mask of the process lets them.
     ///
     /// # Errors
-    /// As of `ProgressFile::write`.
+    /// As of `ProgressFile::save`.
     pub fn write(&self, text: &[u8]) -> io::Result<()> {
-        replace(self.rt, self.path.as_str(), READ_BY_ALL, text)
+        whole_file(self.rt, self.path.as_str(), READ_BY_ALL)?.save(text)
     }
 }

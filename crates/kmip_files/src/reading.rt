@@ -22,9 +22,17 @@ pub fn text_of_input<R: Input + AllocGlobal>(rt: &R, most_bytes: u64) -> io::Res
     text_within(rt.alloc(), rt.reader(), most_bytes)
 }
 
-/// The text that a stream gives to its end, which has at most `most_bytes` bytes. No more than one byte
-/// more is read.
+/// The text that a stream gives to its end, which has at most `most_bytes` bytes.
 fn text_within<S: Read + Drop>(alloc: Global, stream: S, most_bytes: u64) -> io::Result<String> {
+    match String::from_utf8(bytes_within(alloc, stream, most_bytes)?) {
+        Ok(text) => Ok(text),
+        Err(_) => Err(Error::from(ErrorKind::InvalidData)),
+    }
+}
+
+/// The bytes that a stream gives to its end, which are at most `most_bytes`. No more than one byte more is
+/// read.
+fn bytes_within<S: Read + Drop>(alloc: Global, stream: S, most_bytes: u64) -> io::Result<Vec<u8>> {
     let mut bytes = Vec::new(alloc);
     stream
         .take(most_bytes.saturating_add(1))
@@ -32,9 +40,19 @@ fn text_within<S: Read + Drop>(alloc: Global, stream: S, most_bytes: u64) -> io:
     if bytes.len() as u64 > most_bytes {
         return Err(Error::from(ErrorKind::FileTooLarge));
     }
-    match String::from_utf8(bytes) {
-        Ok(text) => Ok(text),
-        Err(_) => Err(Error::from(ErrorKind::InvalidData)),
+    Ok(bytes)
+}
+
+/// The bytes of the file at this path, which are at most `MOST_PROGRESS_BYTES`; `None` where there is no
+/// file.
+///
+/// # Errors
+/// Where it cannot be read, and `FileTooLarge` where it is longer.
+pub(crate) fn bytes_at<R: Files>(alloc: Global, rt: &R, path: &str) -> io::Result<Option<Vec<u8>>> {
+    match fs::open(rt, path) {
+        Ok(file) => Ok(Some(bytes_within(alloc, file, MOST_PROGRESS_BYTES)?)),
+        Err(error) if error.kind() == ErrorKind::NotFound => Ok(None),
+        Err(error) => Err(error),
     }
 }
 

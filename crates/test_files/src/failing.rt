@@ -147,6 +147,7 @@ impl<'a> OpenFile for FailingFile<'a> {
     }
 
     fn sync_data(&self) -> io::Result<()> {
+        step(self.left)?;
         self.file.sync_data()
     }
 }

@@ -58,7 +58,7 @@ fn link_in(rt: &HostRuntime, folder: &str, name: &str, target: &str) -> io::Resu
 
 /// Writes the progress file at this path.
 fn put(rt: &HostRuntime, path: &str, text: &[u8]) -> io::Result<()> {
-    ProgressFile::at(rt, path)?.write(text)
+    ProgressFile::at(rt, path)?.save(text)
 }
 
 /// The text in the progress file at this path, if there is one.
@@ -82,7 +82,7 @@ fn writes(
         removes,
     };
     let file = ProgressFile::at(&disk, path)?;
-    Ok(file.write(text.as_bytes()).is_ok())
+    Ok(file.save(text.as_bytes()).is_ok())
 }
 
 /// Whether the file at this path has this text.
@@ -240,6 +240,30 @@ fn leaves_nothing_beside_it_where_the_disk_is_full(rt: HostRuntime) -> Result<()
     Ok(())
 }
 
+/// Whether a text is written on a disk that fails after so many steps, and whether it is then made to last.
+fn writes_and_closes(rt: &HostRuntime, path: &str, steps: usize) -> io::Result<(bool, bool)> {
+    let left = Cell::new(steps);
+    let disk = FailingDisk {
+        rt,
+        left: &left,
+        removes: true,
+    };
+    let file = ProgressFile::at(&disk, path)?;
+    let is_written = file.write(AFTER.as_bytes()).is_ok();
+    Ok((is_written, is_written && file.close().is_ok()))
+}
+
+/// A text is written in four steps. To make it last takes two more: the folder is opened and synced.
+#[test]
+fn a_written_text_is_made_to_last_by_a_close(rt: HostRuntime) -> Result<(), Fail> {
+    let path = file_for(&rt, "close")?;
+    for steps in 0..8 {
+        let is_right = writes_and_closes(&rt, path.as_str(), steps)? == (steps > 3, steps > 5);
+        assert_true(&rt, is_right, "four steps, and two more");
+    }
+    Ok(())
+}
+
 #[test]
 fn a_link_stays_and_its_file_gets_the_text(rt: HostRuntime) -> Result<(), Fail> {
     let folder = folder(&rt, "link")?;
@@ -303,7 +327,7 @@ fn is_locked_meanwhile(
     folder: &str,
 ) -> io::Result<bool> {
     let lock = file.lock();
-    file.write(AFTER.as_bytes())?;
+    file.save(AFTER.as_bytes())?;
     Ok(is_in_use(rt, folder)? && lock.is_ok())
 }
 
@@ -342,7 +366,7 @@ fn links_in_a_circle_are_no_file(rt: HostRuntime) -> Result<(), Fail> {
 /// Whether the first run has the lock of a file, which it writes, and another has not.
 fn has_one_run(file: &ProgressFile<'_, HostRuntime>) -> io::Result<bool> {
     let lock = file.lock();
-    file.write(BEFORE.as_bytes())?;
+    file.save(BEFORE.as_bytes())?;
     let is_in_use = matches!(file.lock(), Err(LockFault::InUse));
     Ok(lock.is_ok() && is_in_use)
 }
