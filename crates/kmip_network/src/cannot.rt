@@ -9,6 +9,8 @@ pub enum Cannot {
     Begin,
     /// What is known is not written, after something was asked.
     Save,
+    /// What was written is not made to last.
+    Last,
     /// A path leads to no socket.
     Connect,
     /// Metrics are not written, which changes nothing else.
@@ -20,7 +22,7 @@ impl Cannot {
     pub(crate) fn text(self) -> &'static str {
         match self {
             Cannot::Read => "cannot read",
-            Cannot::Begin | Cannot::Save | Cannot::Measure => "cannot write",
+            Cannot::Begin | Cannot::Save | Cannot::Last | Cannot::Measure => "cannot write",
             Cannot::Connect => "cannot connect",
         }
     }

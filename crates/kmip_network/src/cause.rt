@@ -28,6 +28,10 @@ impl<'a> Display for Cause<'a> {
                 f,
                 "{error}; what was asked last may have taken effect: {remedy} and run again"
             ),
+            (Cannot::Last, _) => write!(
+                f,
+                "{error}; all is written, but a power cut may bring an older text back, which is true too"
+            ),
             (Cannot::Measure, remedy) => write_unmeasured(error, remedy, f),
         }
     }

@@ -1,40 +1,97 @@
-//! The program `run`, over sockets and a file.
-ghost use Rattle.std.specs.Prelude.{IsTrue};
-ghost use Rattle.kmip_messages.specs.Members.{may_have};
+//! What is known of a run, kept in its progress file.
+ghost use Rattle.std.specs.Prelude.{◌≡◌, ◌≤◌};
+ghost use Rattle.kmip_runs.specs.Refusals.{HasRisen};
 
-use crate::believing::progress_to_begin_with;
 use crate::cannot::Cannot;
 use crate::causes::tell_cause;
-use crate::ending::push_end;
-use crate::linking::{loopback, tcp_link, unix_link};
-use crate::locking::locked;
-use crate::metrics_file::MetricsFile;
-use crate::plan_file::PlanFile;
-use crate::reading::plan_at;
-use crate::reporting::print_documents;
-use crate::told::standard_output;
-use crate::trouble::Trouble;
-use kmip_account::{Account, Teller, Watch};
-use kmip_choices::{Format, Peer, RunOptions};
+use kmip_account::Account;
 use kmip_files::ProgressFile;
-use kmip_message_commands::ExitStatus;
-use kmip_plan_commands::{RunInput, batch_of, run_to_end};
-use kmip_protocol::Link;
-use kmip_runs::{Keeper, Observed, SaveFault};
-use kmip_ttlv::NoMemory;
+use kmip_runs::{Keeper, SaveFault};
 use std::alloc::Global;
-use std::io::{BufWriter, Error, ErrorKind};
-use std::time::Duration;
+use std::io::{self, Error, ErrorKind};
 
-/// Keeps what is known in a file. No clause speaks of a file's bytes.
+/// Keeps what is known in a file. No clause speaks of a file's bytes, nor of what a crash may leave of them:
+/// that the disk keeps its rules is a premise. `WholeFile` is proved over every disk that does.
 #[derive(Drop)]
-struct FileKeeper<'a> {
+pub(crate) struct FileKeeper<'a> {
     file: ProgressFile<'a, HostRuntime>,
     account: &'a Account<'a>,
-    /// How often the file could not be written.
+    /// The text that was written last; empty where none was.
+    last: Vec<u8>,
+    /// Whether there was no file before the run, and none was written yet.
+    is_new: bool,
+    /// Whether the file was written, and its folder is not on the disk since.
+    is_open: bool,
+    /// How often the file could not be written, or not made to last.
     refusals: u64,
-    /// Why it could not, the last time.
+    /// Why it could not be written, the last time.
     failure: Option<Error>,
+}
+
+impl<'a> FileKeeper<'a> {
+    /// Keeps what is known in this file. `is_new` says that there is none yet.
+    pub(crate) fn new(
+        file: ProgressFile<'a, HostRuntime>,
+        account: &'a Account<'a>,
+        is_new: bool,
+    ) -> Self {
+        FileKeeper {
+            last: Vec::new(account.rt().alloc()),
+            file,
+            account,
+            is_new,
+            is_open: false,
+            refusals: 0,
+            failure: None,
+        }
+    }
+
+    /// The account of the run.
+    pub(crate) fn account(&self) -> &'a Account<'a> {
+        self.account
+    }
+
+    /// How often the file could not be written, or not made to last, up to 2^64 - 1.
+    pub(crate) fn refusals(&self) -> u64 {
+        self.refusals
+    }
+
+    /// Why the file could not be written, the last time.
+    pub(crate) fn failure(&self) -> Option<&Error> {
+        self.failure.as_ref()
+    }
+
+    /// Gives the file this text, unless it has it. A new file is made to last at once. The folder of one that
+    /// was there before is left for `close`, as the text before it is a true one.
+    fn write(&mut self, text: &[u8]) -> io::Result<()>
+        ensures { self.new.refusals ≡ self.old.refusals }
+    {
+        if self.last.as_slice() == text {
+            return Ok(());
+        }
+        self.last.clear();
+        if self.is_new {
+            self.file.save(text)?;
+            self.is_new = false;
+        } else {
+            self.file.write(text)?;
+            self.is_open = true;
+        }
+        if self.last.extend_from_slice(text).is_err() {
+            self.last.clear(); // the next text is written, whatever it is
+        }
+        Ok(())
+    }
+
+    /// Counts that the file could not be written, or not made to last, and tells why.
+    fn refuse(&mut self, cannot: Cannot, error: &Error)
+        ensures counted { self.old.refusals ≤ self.new.refusals }
+        ensures risen { HasRisen self.old.refusals self.new.refusals }
+    {
+        self.account.end_line();
+        tell_cause(self.file.system(), self.file.given_path(), cannot, error);
+        self.refusals = self.refusals.saturating_add(1);
+    }
 }
 
 impl<'a> Keeper for FileKeeper<'a> {
@@ -43,181 +100,30 @@ impl<'a> Keeper for FileKeeper<'a> {
     ghost kept = { λ keeper. unclaimed keeper.refusals };
 
     fn save(&mut self, _alloc: Global, text: &[u8]) -> Result<(), SaveFault> {
-        match self.file.write(text) {
+        match self.write(text) {
             Ok(()) => Ok(()),
             Err(error) if error.kind() == ErrorKind::OutOfMemory => Err(SaveFault::NoMemory),
             Err(error) => {
-                self.account.end_line();
-                tell_cause(
-                    self.file.system(),
-                    self.file.given_path(),
-                    Cannot::Save,
-                    &error,
-                );
-                self.refusals = self.refusals.saturating_add(1);
+                self.refuse(Cannot::Save, &error);
                 self.failure = Some(error);
                 Err(SaveFault::Output)
             }
         }
     }
-}
 
-/// The command `run`: the plan is read first, then the lock is taken, the progress read, and then the
-/// server asked.
-///
-/// # Errors
-/// What ends it before anything is asked.
-pub fn run_plan(rt: &HostRuntime, options: &RunOptions) -> Result<ExitStatus, Trouble> {
-    let plan = plan_at(rt, options.plan.as_str())?;
-    let (progress, lock) = locked(rt, options.progress.as_str(), options.lock_wait)?;
-    let status = run_on(rt, options, &plan, progress);
-    drop(lock);
-    status
-}
-
-/// Carries out the plan, with what is kept in the progress file.
-fn run_on(
-    rt: &HostRuntime,
-    options: &RunOptions,
-    plan: &PlanFile,
-    progress: ProgressFile<'_, HostRuntime>,
-) -> Result<ExitStatus, Trouble> {
-    let saved = progress_to_begin_with(rt, options, plan, &progress)?;
-    let saved = match &saved {
-        Some(text) => Some(text.as_str()),
-        None => None,
-    };
-    let account = Account::new(rt, options, &plan.plan, saved)?;
-    let metrics = MetricsFile::of(rt, options, plan);
-    if let Some(metrics) = &metrics {
-        metrics.begin(&account);
-    }
-    account.show_start(saved);
-    let mut keeper = FileKeeper {
-        file: progress,
-        account: &account,
-        refusals: 0,
-        failure: None,
-    };
-    let status = run_with(rt, options, saved, &mut keeper);
-    if let Some(metrics) = &metrics {
-        metrics.end(&account, matches!(status, Ok(ExitStatus::Done)));
-    }
-    status
-}
-
-/// Carries out the plan over the link to the server that was named.
-fn run_with(
-    rt: &HostRuntime,
-    options: &RunOptions,
-    saved: Option<&str>,
-    keeper: &mut FileKeeper<'_>,
-) -> Result<ExitStatus, Trouble> {
-    let limit = Duration::from_secs(options.timeout);
-    match &options.peer {
-        Peer::Tcp(address) => {
-            let link = tcp_link(rt, *address, limit, Some(keeper.account.wire()));
-            run_over(rt, options, saved, keeper, link)
+    fn close(&mut self) -> Result<(), SaveFault> {
+        if !self.is_open {
+            return Ok(());
         }
-        Peer::Unix(path) => {
-            let link = unix_link(rt, path.as_str(), limit, Some(keeper.account.wire()))?;
-            run_over(rt, options, saved, keeper, link)
+        match self.file.close() {
+            Ok(()) => {
+                self.is_open = false;
+                Ok(())
+            }
+            Err(error) => {
+                self.refuse(Cannot::Last, &error);
+                Err(SaveFault::Output)
+            }
         }
-        Peer::Loopback => {
-            let link = loopback(rt, limit)?;
-            run_over(rt, options, saved, keeper, link)
-        }
-    }
-}
-
-/// Carries out the plan over this link.
-fn run_over<L: Link + Drop>(
-    rt: &HostRuntime,
-    options: &RunOptions,
-    saved: Option<&str>,
-    keeper: &mut FileKeeper<'_>,
-    link: L,
-) -> Result<ExitStatus, Trouble> {
-    let input = RunInput {
-        report: options.report,
-        path: options.progress.as_str(),
-        limit: options.limit as usize,
-        batch: batch_of(options.batch),
-    };
-    let account = keeper.account;
-    let mut link = Observed::new(link, Teller::new(account));
-    let mut watch = Watch::new(account, first_wait(options), options.give_up);
-    let status = match options.format {
-        Format::Text => run_in_text(&input, saved, &mut link, keeper, &mut watch)?,
-        Format::Json => run_in_json(&input, saved, &mut link, keeper, &mut watch),
-    };
-    if keeper.refusals == 0 && !matches!(status, ExitStatus::Failed(_)) {
-        tell_end(account, watch.has_given_up());
-    }
-    Ok(status)
-}
-
-/// Carries out the plan, and prints in lines how that ended.
-fn run_in_text<L: Link>(
-    input: &RunInput<'_>,
-    saved: Option<&str>,
-    link: &mut L,
-    keeper: &mut FileKeeper<'_>,
-    watch: &mut Watch<'_>,
-) -> Result<ExitStatus, Trouble>
-    requires { IsTrue (may_have input.now.batch) }
-{
-    let (rt, plan) = (keeper.account.rt(), keeper.account.plan());
-    let mut writer = BufWriter::new(rt.alloc(), standard_output(rt))?;
-    Ok(kmip_plan_commands::run_plan(
-        rt.alloc(),
-        plan,
-        input,
-        saved,
-        link,
-        keeper,
-        watch,
-        &mut writer,
-    ))
-}
-
-/// Carries out the plan, and prints in documents how that ended.
-fn run_in_json<L: Link>(
-    input: &RunInput<'_>,
-    saved: Option<&str>,
-    link: &mut L,
-    keeper: &mut FileKeeper<'_>,
-    watch: &mut Watch<'_>,
-) -> ExitStatus
-    requires { IsTrue (may_have input.now.batch) }
-{
-    let account = keeper.account;
-    let (rt, plan) = (account.rt(), account.plan());
-    let mut documents = Vec::new(rt.alloc());
-    let made = match run_to_end(rt.alloc(), plan, input, saved, link, keeper, watch) {
-        Ok(end) => {
-            let failure = keeper.failure.as_ref();
-            push_end(account, input.path, failure, &end, &mut documents)
-        }
-        Err(NoMemory) => Err(NoMemory),
-    };
-    print_documents(rt, made, documents.as_slice())
-}
-
-/// Tells why keys are not finished, and that the run was given up, where it was. What there is no memory
-/// for is not told.
-fn tell_end(account: &Account<'_>, has_given_up: bool) {
-    let _ = account.tell_unfinished();
-    if has_given_up {
-        account.tell_given_up();
-    }
-}
-
-/// How long the run waits first where it does not get on, in milliseconds. A server in this process is not
-/// waited for.
-fn first_wait(options: &RunOptions) -> u64 {
-    match options.peer {
-        Peer::Loopback => 0,
-        Peer::Tcp(_) | Peer::Unix(_) => options.wait,
     }
 }

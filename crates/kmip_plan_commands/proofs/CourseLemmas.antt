@@ -1,5 +1,6 @@
 -- What has come of a run is what its exchanges did.
 use Rattle.std.proofs.Common.{◌≡◌, ◌≢◌, ◌∙◌, ℕ, Bool, true, false, List, Option, Some, None, Result, Ok, Err, IfErr, IfOk, refl, subst, sym, [], append-nil}
+use Rattle.std.specs.Bool.{⊤}
 use Rattle.std.proofs.lemmas.List.Elements.{All-nil}
 use Rattle.std.specs.Io.KnownBytes.{Appends}
 use Rattle.kmip_choices.specs.declared.report.Report.{Report}
@@ -10,6 +11,8 @@ use Rattle.kmip_plan.specs.declared.plan_fault.PlanFault.TheVariants as plan_fau
 use Rattle.kmip_plan.specs.declared.key.Key.{Key}
 use Rattle.kmip_client.specs.Clients.{ClientState}
 use Rattle.kmip_client.specs.Held.{Held}
+use Rattle.kmip_client.specs.Laws.{HeldForGood}
+use Rattle.kmip_plan.specs.Plans.{IsLawful}
 use Rattle.kmip_client.specs.declared.knowledge.Knowledge.{Knowledge}
 use Rattle.kmip_protocol.specs.Past.{Past}
 use Rattle.kmip_protocol.specs.Seen.{Seen}
@@ -22,13 +25,15 @@ use Rattle.kmip_runs.specs.Saved.{AreSaved, IsInMemory, Snapshot}
 use Rattle.kmip_runs.specs.declared.save_fault.SaveFault.{SaveFault}
 use Rattle.kmip_runs.specs.declared.save_fault.SaveFault.TheVariants as faults
 use Rattle.kmip_runs.specs.CarriesOut.{CarriesOut, Stage}
-use Rattle.kmip_plan_commands.specs.Course.{AsksFew, Came, IsGoodStart, IsTrueText, RunState, run_state}
+use Rattle.kmip_plan_commands.specs.Course.{AsksFew, Came, IsGoodStart, IsTrueText, KeepsSafe, LeavesTrue, RunState, run_state}
 use Rattle.kmip_plan_commands.specs.Runs.{RunsOver}
 use Rattle.kmip_plan_commands.specs.Checking.{is_memory, plan_refusal_text}
 use Rattle.kmip_plan_commands.specs.PrivateRuns.{EndsExchanges}
 use Rattle.kmip_plan_commands.specs.RunEnds.{EndsFrom, EndsRun, Outcome}
 use Rattle.kmip_plan_commands.specs.RunText.{WritesEnd, is_end_refused, run_end_text}
 use Rattle.kmip_plan_commands.specs.declared.run_end.RunEnd.{RunEnd}
+use Rattle.kmip_plan_commands.proofs.TrueTextLemmas.{leaves_true}
+use Rattle.kmip_disk.proofs.ForCallers.{nothing_since}
 use Rattle.kmip_plan_commands.specs.declared.run_end.RunEnd.TheVariants.{Refused, Unwritten, Stopped}
 
 abbrev ended : Result Stop SaveFault → Result Stop SaveFault
@@ -79,28 +84,41 @@ came_unsaved limit old new r fault same made is alike carries =
     let whole : IsInMemory r = λ e. no_stop fault stops.NoMemory (sym is ∙ e) in
     subst (λ f. P (Err f)) alike (subst P is (came limit old new r made whole carries))
 
--- what carrying out a plan promises of its link, where memory did not run out
-over : (limit : ℕ) (old new : Stage) (r : Result Stop SaveFault) (made : ℕ) → IsInMemory r → CarriesOut limit old r made new
-    → RunsOver (IsGood old.client old.link) old.client.keys old.client.batch old.link new.link (λ P. P)
-over limit old new r made whole carries = record {
-  safe = λ good.
-      let well = carries.well good in
-      let link : GoodLink new.client.keys new.link = record { honest_for = well.good.honest_for; sound = well.good.sound } in
-      record { stays_good = subst (λ keys. GoodLink keys new.link) carries.forgets_nothing.keys_stay link; went_on = well.onward };
+keeps_safe : (limit : ℕ) (old new : Stage) (r : Result Stop SaveFault) (made : ℕ) → IsGood old.client old.link → CarriesOut limit old r made new → KeepsSafe old.client.keys old.link new.link
+keeps_safe limit old new r made good carries =
+    let well = carries.well good in
+    let link : GoodLink new.client.keys new.link = record { honest_for = well.good.honest_for; sound = well.good.sound } in
+    record { stays_good = subst (λ keys. GoodLink keys new.link) carries.forgets_nothing.keys_stay link; went_on = well.onward }
+
+-- what carrying out a plan promises of its link and its file, where memory did not run out
+over : HeldForGood → (limit : ℕ) (old new : Stage) (r : Result Stop SaveFault) (made : ℕ) → IsLawful old.client.keys → IsInMemory r → CarriesOut limit old r made new
+    → RunsOver (IsGood old.client old.link) old.client.keys old.client.batch (state_at old) (state_at new) (λ P. P)
+over for_good limit old new r made lawful whole carries = record {
+  safe = λ good. keeps_safe limit old new r made good carries;
+  any_moment = λ good. leaves_true for_good limit old new r made lawful good carries;
   few = λ honest.
       let learnt = (carries.honestly honest).learns.1 whole in
       record { messages = learnt.questions; sent_are = learnt.sent_are; each = learnt.each };
 }
 
 -- where it stopped so
-pub over_stop : (limit : ℕ) (old new : Stage) (r : Result Stop SaveFault) (stop : Stop) (made : ℕ) → r ≡ Ok stop → stop ≢ stops.NoMemory → CarriesOut limit old r made new
-    → RunsOver (IsGood old.client old.link) old.client.keys old.client.batch old.link new.link (λ P. P)
-over_stop limit old new r stop made is other carries = over limit old new r made (λ e. other (same_stop stop stops.NoMemory (sym is ∙ e))) carries
+pub over_stop : HeldForGood → (limit : ℕ) (old new : Stage) (r : Result Stop SaveFault) (stop : Stop) (made : ℕ) → IsLawful old.client.keys → r ≡ Ok stop → stop ≢ stops.NoMemory → CarriesOut limit old r made new
+    → RunsOver (IsGood old.client old.link) old.client.keys old.client.batch (state_at old) (state_at new) (λ P. P)
+over_stop for_good limit old new r stop made lawful is other carries = over for_good limit old new r made lawful (λ e. other (same_stop stop stops.NoMemory (sym is ∙ e))) carries
 
 -- where the last text was not saved
-pub over_unsaved : (limit : ℕ) (old new : Stage) (r : Result Stop SaveFault) (fault : SaveFault) (made : ℕ) → r ≡ Err fault → CarriesOut limit old r made new
-    → RunsOver (IsGood old.client old.link) old.client.keys old.client.batch old.link new.link (λ P. P)
-over_unsaved limit old new r fault made is carries = over limit old new r made (λ e. no_stop fault stops.NoMemory (sym is ∙ e)) carries
+pub over_unsaved : HeldForGood → (limit : ℕ) (old new : Stage) (r : Result Stop SaveFault) (fault : SaveFault) (made : ℕ) → IsLawful old.client.keys → r ≡ Err fault → CarriesOut limit old r made new
+    → RunsOver (IsGood old.client old.link) old.client.keys old.client.batch (state_at old) (state_at new) (λ P. P)
+over_unsaved for_good limit old new r fault made lawful is carries = over for_good limit old new r made lawful (λ e. no_stop fault stops.NoMemory (sym is ∙ e)) carries
+
+-- where memory ran out
+pub over_broken : HeldForGood → (limit : ℕ) (old new : Stage) (r : Result Stop SaveFault) (made : ℕ) → IsLawful old.client.keys → CarriesOut limit old r made new
+    → RunsOver (IsGood old.client old.link) old.client.keys old.client.batch (state_at old) (state_at new) (λ P. ⊤)
+over_broken for_good limit old new r made lawful carries = record {
+  safe = λ good. keeps_safe limit old new r made good carries;
+  any_moment = λ good. leaves_true for_good limit old new r made lawful good carries;
+  few = λ honest. tt;
+}
 
 saved_for : (keys : List Key) (most : ℕ) (good other honest : Type 0) (old new : Snapshot) (r : Result Stop SaveFault) (made : ℕ) → (other → good)
     → AreSaved keys most (record { good = good; honest = honest }) old new r made → AreSaved keys most (record { good = other; honest = honest }) old new r made
@@ -203,23 +221,28 @@ ends_refused untouched came keys limit read fault kept is =
     subst Q (sym is) (kept, refl)
 
 -- and what a run over what the progress says promises of its link
-pub over_start : (a : ClientState) (x y : Seen) (keys : List Key) (text : Option (List ℕ)) (Whole : Type 0 → Type 0) → a.keys ≡ keys
-    → (IsTrueText x.past.objects keys text → Held x.past.objects a.keys a.knowns)
-    → RunsOver (IsGood a x) a.keys a.batch x y Whole → RunsOver (IsGoodStart text x keys) keys a.batch x y Whole
-over_start a x y keys text Whole same held o =
-    let H : List Key → Type 0 = λ keys. IsTrueText x.past.objects keys text → Held x.past.objects a.keys a.knowns in
-    let P : List Key → Type 0 = λ keys. RunsOver (IsGoodStart text x keys) keys a.batch x y Whole in
-    subst P same (record { safe = λ good. o.safe (good_start a x text (subst H (sym same) held) good); few = o.few })
+pub over_start : (a : ClientState) (old new : RunState) (keys : List Key) (text : Option (List ℕ)) (Whole : Type 0 → Type 0) → a.keys ≡ keys
+    → (IsTrueText old.link.past.objects keys text → Held old.link.past.objects a.keys a.knowns)
+    → RunsOver (IsGood a old.link) a.keys a.batch old new Whole → RunsOver (IsGoodStart text old.link keys) keys a.batch old new Whole
+over_start a old new keys text Whole same held o =
+    let H : List Key → Type 0 = λ keys. IsTrueText old.link.past.objects keys text → Held old.link.past.objects a.keys a.knowns in
+    let P : List Key → Type 0 = λ keys. RunsOver (IsGoodStart text old.link keys) keys a.batch old new Whole in
+    let start : IsGoodStart text old.link a.keys → IsGood a old.link = good_start a old.link text (subst H (sym same) held) in
+    subst P same (record { safe = λ good. o.safe (start good); any_moment = λ good. o.any_moment (start good); few = o.few })
 
 -- where nothing was sent, nothing was asked
 pub asks_none : (keys : List Key) (most : ℕ) (past : Past) → AsksFew keys most past past
 asks_none keys most past = record { messages = []; sent_are = sym (append-nil past.sent); each = All-nil (IsQuestion keys most) }
 
+-- and nothing was left that was not there
+pub leaves_nothing : (keys : List Key) (at : RunState) → LeavesTrue keys at at
+leaves_nothing keys at = λ rules began. nothing_since at.keeper.disk rules (IsTrueText at.link.past.objects keys) began
+
 -- where that is said, it is said too of a call that may end with a fault of its own
-pub over_printed : (good : Type 0) (keys : List Key) (most : ℕ) (old new : Seen) (result : Result Bool CommandFault)
+pub over_printed : (good : Type 0) (keys : List Key) (most : ℕ) (old new : RunState) (result : Result Bool CommandFault)
     → RunsOver good keys most old new (λ P. P) → RunsOver good keys most old new (λ P. IfOk result (λ refused. P))
-over_printed good keys most old new (Ok refused) o = record { safe = o.safe; few = o.few }
-over_printed good keys most old new (Err fault) o = record { safe = o.safe; few = λ honest. tt }
+over_printed good keys most old new (Ok refused) o = record { safe = o.safe; any_moment = o.any_moment; few = o.few }
+over_printed good keys most old new (Err fault) o = record { safe = o.safe; any_moment = o.any_moment; few = λ honest. tt }
 
 -- ---- what is written of an end
 

@@ -4,3 +4,4 @@ pub mod LineLemmas
 mod ListingLemmas
 pub mod ProgressLineLemmas
 mod SimulatingLemmas
+pub mod TrueTextLemmas

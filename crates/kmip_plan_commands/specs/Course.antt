@@ -1,5 +1,5 @@
 -- What comes of a run: what its exchanges taught, what was kept of it, and what stays safe.
--- Source: own (view), but `KeepsSafe` and `AsksFew`: own (law).
+-- Source: own (view), but `LeavesTrue`, `KeepsSafe` and `AsksFew`: own (law).
 use Rattle.std.specs.Prelude.{◌≡◌, ◌≤◌, ◌<◌, ◌⊎◌, ⊤, ℕ, Bool, true, false, List, ◌++◌, Option, Some, None, Ok, Err}
 use Rattle.std.specs.List.{All, AllZip}
 use Rattle.kmip_objects.specs.Objects.{Object}
@@ -8,6 +8,8 @@ use Rattle.kmip_plan.specs.declared.key.Key.{Key}
 use Rattle.kmip_progress.specs.Reading.{read_text}
 use Rattle.kmip_progress.specs.declared.known.Known.{Known}
 use Rattle.kmip_client.specs.Held.{TrueProgress}
+use Rattle.kmip_disk.specs.Views.{Content}
+use Rattle.kmip_disk.specs.Whole.{LeavesOnly}
 use Rattle.kmip_client.specs.Shapes.{IsKept}
 use Rattle.kmip_client.specs.declared.knowledge.Knowledge.{Knowledge}
 use Rattle.kmip_protocol.specs.Past.{Past, is_planned}
@@ -50,10 +52,10 @@ pub record Came (limit most : ℕ) (good : List Key → Type 0) (old new : RunSt
   -- Over an honest link, each message asked about keys of the plan. What is known then is what was known
   -- at first and what the exchanges handed over.
   pub learnt : old.link.honest (is_planned keys) → Learnt keys most old.link.past new.link.past knowns outcome.knowns outcome.exchanges
-  -- Where the keeper keeps what it is given, it does so still. The text of what was known after each
+  -- Where the keeper's disk keeps the rules, it does so still. The text of what was known after each
   -- exchange was kept, but for the last one where it could not be (`AreSaved`). Where all was good, what
   -- each of these texts says is true of the objects at the end, so that the next run may begin with it.
-  pub saved_are : old.keeper.keeps → new.keeper.keeps
+  pub saved_are : old.keeper.disk.lawful → new.keeper.disk.lawful
       × AreSaved keys most (record { good = good keys; honest = old.link.honest (is_planned keys) })
       (snapshot (record { knowns = knowns; past = old.link.past }) old.keeper.saved)
       (snapshot (record { knowns = outcome.knowns; past = new.link.past }) new.keeper.saved) outcome.result outcome.exchanges
@@ -84,6 +86,15 @@ IsTrueText objects keys (Some text) = (saved : List Known) → read_text keys te
 -- where there is one, is true.
 abbrev pub IsGoodStart : Option (List ℕ) → Seen → List Key → Type 0
 IsGoodStart text link keys = GoodLink keys link × IsTrueText link.past.objects keys text
+
+-- Own (law): a run that is killed, or whose machine stops, at any moment, leaves what is true, so that the next
+-- run may begin with it. The disk kept the rules, and whatever a crash might have left before was true of the
+-- objects then. Whatever a crash at any moment from the one to the other leaves is no file, or a text that is
+-- true of the objects at the end.
+abbrev pub LeavesTrue : List Key → RunState → RunState → Type 0
+LeavesTrue keys old new =
+    old.keeper.disk.lawful → ((c : Content) → old.keeper.disk.may_leave c → IsTrueText old.link.past.objects keys c)
+    → LeavesOnly old.keeper.disk new.keeper.disk (IsTrueText new.link.past.objects keys)
 
 -- Own (law): over a link that was honest and sound for the keys, from nothing or from what was true, the
 -- link is so still. The objects have gone onward, and a past that was an image of the plan machine is one

@@ -38,4 +38,4 @@ pub record CarriesToEnd (old : ClientState) (limit : ℕ) (change : RunChange) (
       old.keys limit new made.0 made.1)
   -- It asks that all is good before.
   pub over : RunsOver (IsGood old change.before.link) old.keys old.batch
-      change.before.link change.after.link (λ P. IfOk ended (λ made. P))
+      change.before change.after (λ P. IfOk ended (λ made. P))

@@ -11,9 +11,8 @@ use Rattle.kmip_message_commands.specs.declared.exit_status.ExitStatus.{ExitStat
 use Rattle.kmip_plan.specs.declared.key.Key.{Key}
 use Rattle.kmip_plan.specs.declared.plan_fault.PlanFault.{PlanFault}
 use Rattle.kmip_protocol.specs.Past.{is_planned}
-use Rattle.kmip_protocol.specs.Seen.{Seen}
 use Rattle.kmip_ttlv.specs.declared.no_memory.NoMemory.{NoMemory}
-use Rattle.kmip_plan_commands.specs.Course.{AsksFew, Came, IsGoodStart, KeepsSafe, RunState}
+use Rattle.kmip_plan_commands.specs.Course.{AsksFew, Came, IsGoodStart, KeepsSafe, LeavesTrue, RunState}
 use Rattle.kmip_plan_commands.specs.RunEnds.{EndsRun, Outcome}
 use Rattle.kmip_plan_commands.specs.RunText.{WritesEnd}
 use Rattle.kmip_plan_commands.specs.declared.run_end.RunEnd.{RunEnd}
@@ -99,16 +98,20 @@ CameOf start change =
 abbrev pub EndsRead : Result (List Key) PlanFault → RunStart → RunChange → Result RunEnd PlanFault → Type 0
 EndsRead read start change = EndsRun change.untouched (CameOf start change) read start.saved start.limit
 
--- What a run over these keys promises of its link. `good` is that the link is honest for the keys, that all
+-- What a run over these keys promises of its link and its file. `good` is that the link is honest for the keys, that all
 -- that has happened over it is sound, and that what the run begins with is true.
-pub record RunsOver (good : Type 0) (keys : List Key) (most : ℕ) (old new : Seen) (Whole : Type 0 → Type 0) : Type 0 where
+pub record RunsOver (good : Type 0) (keys : List Key) (most : ℕ) (old new : RunState) (Whole : Type 0 → Type 0) : Type 0 where
   -- It asks that the link is honest for the names of the plan, that all that has happened over it is sound,
   -- and that the progress, if any, is true. Then the link is honest and all is sound after it too, however it
   -- ends. The objects have gone onward, and a past that was an image of the plan machine is one still.
-  pub safe : good → KeepsSafe keys old new
+  pub safe : good → KeepsSafe keys old.link new.link
+  -- It asks that too, and that the keeper's disk keeps the rules, and that what a crash might have left before
+  -- is true. Then whatever a crash at any moment of the run leaves is true, however it ends: so the next run
+  -- may begin with it.
+  pub any_moment : good → LeavesTrue keys old new
   -- Over a link that is honest for the names of the plan, each message that was sent asks about keys of the
   -- plan, each once, and about no more than the input says. That is not said where it ends with a fault.
-  pub few : old.honest (is_planned keys) → Whole (AsksFew keys most old.past new.past)
+  pub few : old.link.honest (is_planned keys) → Whole (AsksFew keys most old.link.past new.link.past)
 
 -- What a call that does what `run` does promises, for what was read of the text of a plan.
 pub record RunsText (read : Result (List Key) PlanFault) (start : RunStart) (change : RunChange) (ended : CallEnd) : Type 0 where
@@ -118,10 +121,10 @@ pub record RunsText (read : Result (List Key) PlanFault) (start : RunStart) (cha
   pub text : ended.tells (EndsRead read start change)
   -- Where it ends with a fault, nothing of this is told.
   pub broken : ended.otherwise
-  -- Where the text is a plan, both of this hold.
+  -- Where the text is a plan, all of this holds.
   pub planned : (keys : List Key) → read ≡ Ok keys
       → RunsOver (IsGoodStart start.saved change.before.link keys) keys start.batch
-      change.before.link change.after.link ended.whole
+      change.before change.after ended.whole
 
 -- What a call that does what `run` does promises, for the keys of a plan that was read before.
 pub record RunsPlan (keys : List Key) (start : RunStart) (change : RunChange) (ended : CallEnd) : Type 0 where
@@ -130,6 +133,6 @@ pub record RunsPlan (keys : List Key) (start : RunStart) (change : RunChange) (e
   pub text : ended.tells (EndsRead (Ok keys) start change)
   -- Where it ends with a fault, nothing of this is told.
   pub broken : ended.otherwise
-  -- Both of this hold.
+  -- All of this holds.
   pub over : RunsOver (IsGoodStart start.saved change.before.link keys) keys start.batch
-      change.before.link change.after.link ended.whole
+      change.before change.after ended.whole

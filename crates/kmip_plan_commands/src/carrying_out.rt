@@ -9,7 +9,7 @@ use crate::beginning::begin;
 use crate::run_end::RunEnd;
 use crate::run_input::RunInput;
 use kmip_client::Client;
-use kmip_client::laws::onward_is_an_order;
+use kmip_client::laws::{onward_is_an_order, truth_is_for_good};
 use kmip_plan::Plan;
 use kmip_progress::ProgressFault;
 use kmip_protocol::Link;
@@ -86,6 +86,9 @@ fn carry_to_end<L: Link, K: Keeper, E: Patience>(
         (AreUntouched link.old link.new keeper.old keeper.new))
         result client.new }
 {
+    // proof: what was true stays so, for the keys of a lawful plan
+    truth_is_for_good();
+    let _plan = client.plan();
     let (ended, exchanges) = carry_out(alloc, client, link, keeper, patience, limit);
     match ended {
         Ok(Stop::NoMemory) | Err(SaveFault::NoMemory) => Err(NoMemory),

@@ -90,10 +90,13 @@ pub fn run_plan<L: Link, K: Keeper, E: Patience, W: Write>(
 ///
 /// The result is true where something was refused, not kept, or left unfinished.
 ///
+/// A run that is killed, or whose machine stops, at any moment, leaves a file from which the next run may
+/// begin (`LeavesTrue`).
+///
 /// That is said of every link, every keeper and every writer. Of the link over sockets that kmipctl
-/// gives, no clause says that it is honest. No clause speaks of the bytes of a file. That both are what
-/// they should be is a premise in words. `run` calls `kmip_runs::carry_out` once; what that promises
-/// beyond this stands there.
+/// gives, no clause says that it is honest; of this machine's files none says that they keep the rules of
+/// a disk. Both are premises in words. `run` calls `kmip_runs::carry_out` once; what that promises beyond
+/// this stands there.
 ///
 /// # Errors
 /// `Output` where the writer fails, and `NoMemory`: nothing is written then. What the keeper was given

@@ -21,14 +21,17 @@ use Rattle.kmip_runs.specs.Driving.{AreFinished, AsksOne, IsBorneOut, IsGood, Is
 use Rattle.kmip_runs.specs.declared.stop.Stop.{Stop}
 use Rattle.kmip_runs.specs.declared.stop.Stop.TheVariants as stops
 use Rattle.kmip_runs.specs.Private.{IsBrokenOff, exchanges_made}
-use Rattle.kmip_runs.specs.PrivateCarried.{Carried, CarryingLaws, Went}
+use Rattle.kmip_runs.specs.Keeping.{Kept, MakesLast}
+use Rattle.kmip_runs.specs.Lasting.{Leaves}
+use Rattle.kmip_runs.specs.PrivateCarried.{Carried, CarryingLaws, SavesProgress, Went}
 use Rattle.kmip_runs.specs.PrivateTurns.{MakesTurn}
-use Rattle.kmip_runs.specs.Saved.{AreSaved, AreUnsaved, Grounds, IsInMemory, IsLeft, IsWhole, Situation, Snapshot, grounds_in, moment, snapshot_in}
+use Rattle.kmip_runs.specs.Saved.{AreSaved, AreUnsaved, Grounds, IsInMemory, IsLeft, IsWhole, Situation, Snapshot, grounds_in, moment, snapshot, snapshot_in, text_at}
 use Rattle.kmip_runs.specs.declared.save_fault.SaveFault.{SaveFault}
 use Rattle.kmip_runs.specs.declared.turn_fault.TurnFault.{TurnFault}
 use Rattle.kmip_runs.specs.declared.turn_fault.TurnFault.TheVariants.{Unmade, Unheard}
 use Rattle.kmip_runs.proofs.KnownLemmas.{learnt_nothing, learnt_still, stays_itself}
-use Rattle.kmip_runs.proofs.SavedLemmas.{saved_broken, saved_closed, saved_none, saved_not, saved_one, saved_then}
+use Rattle.kmip_runs.proofs.LastingLemmas.{leaves_closed, leaves_ended, leaves_from, leaves_not, leaves_one, leaves_same, leaves_then}
+use Rattle.kmip_runs.proofs.SavedLemmas.{StaysTrue, same_text, saved_broken, saved_closed, saved_none, saved_not, saved_one, saved_then}
 use Rattle.kmip_runs.proofs.WentLemmas.{kept_itself, learnt_delivered, stop_is, went_closed, went_nowhere, went_then, went_unbegun}
 
 -- ---- how the end of the run changes the answer
@@ -162,6 +165,7 @@ carried_broken a next y fault n made went = record {
     saved_broken a.client.keys a.client.batch (grounds_in a) (moment a.client a.link) (moment next y) n a.keeper.saved went.keeps.kept
         (subst (λ n. n ≤ 1) (sym made) (one_at_most fault)),
   );
+  any_moment = λ lawful. leaves_same a.client.keys (grounds_in a) a next y (Ok stops.NoMemory) n lawful went.keeps.kept (λ whole. absurd (whole refl));
 }
 
 learns : (a b : Situation) (stop : Stop) (n : ℕ) → stop ≢ stops.NoMemory → Went a b (Ok stop) n → a.link.honest (is_planned a.client.keys)
@@ -178,6 +182,7 @@ carried_none a next y stop went = record {
     saved_none a.client.keys a.client.batch (grounds_in a) (moment a.client a.link) (moment next y) stop a.keeper.saved went.keeps.kept
         (λ holds memory. learns a (record a { client = next; link = y }) stop 0 memory went holds),
   );
+  any_moment = λ lawful. leaves_same a.client.keys (grounds_in a) a next y (Ok stop) 0 lawful went.keeps.kept (λ whole. refl);
 }
 
 -- where there was no memory to begin with
@@ -188,13 +193,15 @@ carried_unbegun l a = record {
     keeping,
     saved_broken a.client.keys a.client.batch (grounds_in a) (moment a.client a.link) (moment a.client a.link) 0 a.keeper.saved (kept_itself a.client.knowns) (omega arith),
   );
+  any_moment = λ lawful. leaves_same a.client.keys (grounds_in a) a a.client a.link (Ok stops.NoMemory) 0 lawful (kept_itself a.client.knowns) (λ whole. refl);
 }
 
 -- where it was saved
-pub carried_one : (a b : Situation) (stop : Stop) → stop ≢ stops.NoMemory
-    → (a.keeper.keeps → b.keeper.keeps × (b.keeper.saved ≡ a.keeper.saved ++ progress_text b.client.keys (progress b.client) ∷ [])) → Went a b (Ok stop) 1
+pub carried_one : (a b : Situation) (stop : Stop) (done : Unit {0}) → stop ≢ stops.NoMemory
+    → (a.keeper.disk.lawful → b.keeper.disk.lawful × (b.keeper.saved ≡ a.keeper.saved ++ progress_text b.client.keys (progress b.client) ∷ []))
+    → (a.keeper.disk.lawful → SavesProgress a.keeper.disk b.client (Ok done) b.keeper.disk) → Went a b (Ok stop) 1
     → Carried a b (Ok stop) 1
-carried_one a b stop memory saves went = record {
+carried_one a b stop done memory saves whole went = record {
   went = went;
   saved = λ keeping.
       let so = saves keeping in (
@@ -204,12 +211,16 @@ carried_one a b stop memory saves went = record {
             (subst (λ ks. b.keeper.saved ≡ a.keeper.saved ++ progress_text ks (progress b.client) ∷ []) went.keeps.keys_stay so.1)
             (λ good. subst (λ ks. Held b.link.past.objects ks b.client.knowns) went.keeps.keys_stay (went.good good).held),
       );
+  any_moment = λ lawful.
+      leaves_one a.client.keys (grounds_in a) a b stop done went.keeps.keys_stay went.keeps.kept
+      (λ good. subst (λ ks. Held b.link.past.objects ks b.client.knowns) went.keeps.keys_stay (went.good good).held) (whole lawful);
 }
 
 -- where it was not saved
-pub carried_not : (a b : Situation) (fault : SaveFault) → (a.keeper.keeps → b.keeper.keeps × (b.keeper.saved ≡ a.keeper.saved))
+pub carried_not : (a b : Situation) (fault : SaveFault) → (a.keeper.disk.lawful → b.keeper.disk.lawful × (b.keeper.saved ≡ a.keeper.saved))
+    → (a.keeper.disk.lawful → SavesProgress a.keeper.disk b.client (Err fault) b.keeper.disk)
     → Went a b (Err fault) 1 → Carried a b (Err fault) 1
-carried_not a b fault saves went = record {
+carried_not a b fault saves whole went = record {
   went = went;
   saved = λ keeping.
       let so = saves keeping in (
@@ -217,6 +228,9 @@ carried_not a b fault saves went = record {
         saved_not a.client.keys a.client.batch (grounds_in a) (moment a.client a.link) (moment b.client b.link) fault a.keeper.saved b.keeper.saved went.keeps.kept
             (λ holds. (went.learns holds).1 (λ is. absurd cc)) so.1,
       );
+  any_moment = λ lawful.
+      leaves_not a.client.keys (grounds_in a) a b fault went.keeps.keys_stay went.keeps.kept
+      (λ good. subst (λ ks. Held b.link.past.objects ks b.client.knowns) went.keeps.keys_stay (went.good good).held) (whole lawful);
 }
 
 -- ---- several exchanges
@@ -231,10 +245,25 @@ carried_rest l a stop memory =
         saved_none a.client.keys a.client.batch (grounds_in a) (moment a.client a.link) (moment a.client a.link) stop a.keeper.saved (kept_itself a.client.knowns)
             (λ holds memory. learns a a stop 0 memory went holds),
       );
+      any_moment = λ lawful. leaves_same a.client.keys (grounds_in a) a a.client a.link (Ok stop) 0 lawful (kept_itself a.client.knowns) (λ whole. refl);
     }
 
 pub carried_itself : CarryingLaws → (a : Situation) → Carried a a (Ok stops.Limit) 0
 carried_itself l a = carried_rest l a stops.Limit (λ is. absurd cc)
+
+whole_in_memory : (result : Result Stop SaveFault) → IsWhole result → IsInMemory result
+whole_in_memory (Ok stop) whole = λ is. whole (stop_is stop stops.NoMemory is)
+whole_in_memory (Err fault) whole = absurd whole
+
+-- where no exchange is made, the text of what is known stays
+same_text_then : (a b c : Situation) (result : Result Stop SaveFault) (m n : ℕ) → Went a b (Ok stops.Limit) m → Went b c result n
+    → a.link.honest (is_planned a.client.keys) → IsWhole result → n ≡ 0 → text_at a.client.keys (moment c.client c.link) ≡ text_at a.client.keys (moment b.client b.link)
+same_text_then a b c result m n first second honest whole none =
+    let keys = first.keeps.keys_stay in
+    let learnt = (second.learns (subst (λ ks. b.link.honest (is_planned ks)) (sym keys) (first.learns honest).0)).1 (whole_in_memory result whole) in
+    subst (λ ks. text_at ks (moment c.client c.link) ≡ text_at ks (moment b.client b.link)) keys
+    (same_text b.client.keys b.client.batch (moment b.client b.link) (moment c.client c.link)
+    (subst (λ k. Learnt b.client.keys b.client.batch b.link.past c.link.past b.client.knowns c.client.knowns k) none learnt))
 
 pub carried_then : CarryingLaws → (a b c : Situation) (result : Result Stop SaveFault) (m n : ℕ) → IsLawful a.client.keys
     → Carried a b (Ok stops.Limit) m → Carried b c result n
@@ -243,6 +272,10 @@ carried_then l a b c result m n lawful first second =
     let keys = first.went.keeps.keys_stay in
     let memory : stops.Limit ≢ stops.NoMemory = λ is. absurd cc in
     let grounds_for : List Key → Grounds = λ ks. record { good = IsGood b.client b.link; honest = b.link.honest (is_planned ks) } in
+    let stays : StaysTrue a.client.keys (IsGood a.client a.link) (moment b.client b.link) (moment c.client c.link) =
+    λ good knowns.
+    l.known_for_good a.client.keys knowns b.link.past.objects c.link.past.objects lawful
+    (subst (λ ks. WentOn ks b.link.past c.link.past) keys (second.went.onward (first.went.good good))).onward in
     record {
       went = went_then l a b c stops.Limit result m n memory first.went second.went;
       saved = λ keeping.
@@ -250,16 +283,18 @@ carried_then l a b c result m n lawful first second =
           let after = second.saved before.0 in (
             after.0,
             saved_then l.blind a.client.keys a.client.batch (grounds_in a) (moment a.client a.link) (moment b.client b.link) (moment c.client c.link) stops.Limit result m n a.keeper.saved
-                b.keeper.saved c.keeper.saved memory
-                (λ good knowns.
-                l.known_for_good a.client.keys knowns b.link.past.objects c.link.past.objects lawful
-                (subst (λ ks. WentOn ks b.link.past c.link.past) keys (second.went.onward (first.went.good good))).onward)
-                before.1
+                b.keeper.saved c.keeper.saved memory stays before.1
                 (saved_from_start a.client.keys a.client.batch (grounds_in a) (grounds_for a.client.keys) (snapshot_in b) (snapshot_in c) result n first.went.good
                 (λ holds. (first.went.learns holds).0)
                 (subst (λ ks. AreSaved ks a.client.batch (grounds_for ks) (snapshot_in b) (snapshot_in c) result n) keys
                 (subst (λ most. AreSaved b.client.keys most (grounds_in b) (snapshot_in b) (snapshot_in c) result n) first.went.keeps.batch_stays after.1))),
           );
+      any_moment = λ kept.
+          let before = first.any_moment kept in
+          leaves_then a.client.keys (grounds_in a) a b c stops.Limit result m n memory stays
+          (λ honest whole none. same_text_then a b c result m n first.went second.went honest whole none) before
+          (leaves_from a.client.keys (grounds_in a) (grounds_for a.client.keys) b c result n first.went.good (λ holds. (first.went.learns holds).0)
+          (subst (λ ks. Leaves ks (grounds_for ks) b c result n) keys (second.any_moment before.lawful)));
     }
 
 -- and one more, after which some key is worked on still
@@ -287,6 +322,12 @@ pub carried_closed : {V E : Type 0} → CarryingLaws → (a b : Situation) (z : 
 carried_closed l a b z result ended closed m lawful delivers calms same stop fault first =
     let memory = memory_before closed result ended same stop fault in
     let whole = whole_before {P = z.past ≡ b.link.past} closed result ended same stop fault in
+    let stays : StaysTrue a.client.keys (IsGood a.client a.link) (moment b.client b.link) (moment b.client z) =
+    λ good knowns.
+    l.known_for_good a.client.keys knowns b.link.past.objects z.past.objects lawful
+    (l.onward a.client.keys b.link.past z.past (subst (λ ks. Sound ks b.link.past) first.went.keeps.keys_stay (first.went.good good).sound)
+    (delivers (is_planned a.client.keys)
+    (subst (λ ks. b.link.honest (is_planned ks)) first.went.keeps.keys_stay (first.went.good good).honest_for)).1) in
     record {
       went = went_closed l a b z result ended closed m lawful delivers calms memory (λ is. cut_before closed result ended same stop fault is) whole first.went;
       saved = λ keeping.
@@ -297,15 +338,39 @@ carried_closed l a b z result ended closed m lawful delivers calms same stop fau
                 (λ holds.
                 learnt_delivered l.requests a.client.keys a.client.batch (is_planned a.client.keys) b.link.past z.past b.client.knowns
                 (delivers (is_planned a.client.keys) (first.went.learns holds).0).1)
-                (still_unsaved closed result ended same stop fault) memory (λ done. (whole done).0)
-                (λ good knowns.
-                l.known_for_good a.client.keys knowns b.link.past.objects z.past.objects lawful
-                (l.onward a.client.keys b.link.past z.past (subst (λ ks. Sound ks b.link.past) first.went.keeps.keys_stay (first.went.good good).sound)
-                (delivers (is_planned a.client.keys)
-                (subst (λ ks. b.link.honest (is_planned ks)) first.went.keeps.keys_stay (first.went.good good).honest_for)).1))
-                before.1,
+                (still_unsaved closed result ended same stop fault) memory (λ done. (whole done).0) stays before.1,
           );
+      any_moment = λ kept.
+          leaves_ended a.client.keys (grounds_in a) a b z result ended m (λ done. (whole done).0) stays (first.any_moment kept);
     }
+
+went_kept : (a b : Situation) (k : Kept) (result : Result Stop SaveFault) (m : ℕ) → Went a b result m → Went a (record b { keeper = k }) result m
+went_kept a b k result m went = record {
+  good = went.good;
+  onward = went.onward;
+  learns = went.learns;
+  broken = went.broken;
+  takes_nothing_back = went.takes_nothing_back;
+  keeps = went.keeps;
+  near = went.near;
+}
+
+-- and the keeper's
+pub carried_kept : {E : Type 0} (a b : Situation) (k : Kept) (result : Result Stop SaveFault) (closed : Result (Unit {0}) E) (m : ℕ)
+    → (b.keeper.disk.lawful → k.disk.lawful × (k.saved ≡ b.keeper.saved)) → (b.keeper.disk.lawful → MakesLast b.keeper.disk closed k.disk)
+    → Carried a b result m → Carried a (record b { keeper = k }) result m
+carried_kept a b k result closed m kept lasts first = record {
+  went = went_kept a b k result m first.went;
+  saved = λ lawful.
+      let before = first.saved lawful in
+      let same = kept before.0 in (
+        same.0,
+        subst (λ texts. AreSaved a.client.keys a.client.batch (grounds_in a) (snapshot_in a) (snapshot (moment b.client b.link) texts) result m) (sym same.1) before.1,
+      );
+  any_moment = λ lawful.
+      let before = first.any_moment lawful in
+      leaves_closed a.client.keys (grounds_in a) a b k result closed m (lasts before.lawful) before;
+}
 
 -- ---- how it ends
 

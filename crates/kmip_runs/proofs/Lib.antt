@@ -22,6 +22,7 @@ pub mod LastLemmas
 pub mod PlanLemmas
 pub mod WentLemmas
 pub mod SavedLemmas
+pub mod LastingLemmas
 pub mod SightLemmas
 pub mod CarryLemmas
 pub mod CarryEndingLemmas
@@ -29,3 +30,4 @@ pub mod CarryLosingLemmas
 pub mod WaitLemmas
 pub mod RefusalLemmas
 pub mod PatienceLemmas
+pub mod ForKeepers

@@ -42,7 +42,7 @@ same_text keys most a b learnt =
 
 -- ---- moments, one after the other
 
-kept_joined : (knowns : List Knowledge) (first : List Moment) (mid : Moment) (second : List Moment) → AreKept knowns (first ++ mid ∷ [])
+pub kept_joined : (knowns : List Knowledge) (first : List Moment) (mid : Moment) (second : List Moment) → AreKept knowns (first ++ mid ∷ [])
     → AreKept mid.knowns second → AreKept knowns (first ++ second)
 kept_joined knowns [] mid [] before after = tt
 kept_joined knowns [] mid (m ∷ second) before after = (kept_then knowns mid.knowns m.knowns before.0 after.0, after.1)
@@ -87,7 +87,7 @@ last_text keys begun first mid (m ∷ second) ended before after = after ∙ ap 
 abbrev pub StaysTrue : List Key → Type 0 → Moment → Moment → Type 0
 StaysTrue keys good mid ended = good → (knowns : List Knowledge) → Held mid.past.objects keys knowns → Held ended.past.objects keys knowns
 
-still_true : (keys : List Key) (good : Type 0) (mid ended : Moment) (moments : List Moment) → StaysTrue keys good mid ended → good
+pub still_true : (keys : List Key) (good : Type 0) (mid ended : Moment) (moments : List Moment) → StaysTrue keys good mid ended → good
     → All (λ (m : Moment). Held mid.past.objects keys m.knowns) moments → All (λ (m : Moment). Held ended.past.objects keys m.knowns) moments
 still_true keys good mid ended moments stays holds all =
     All-weaker (λ (m : Moment). Held mid.past.objects keys m.knowns) (λ (m : Moment). Held ended.past.objects keys m.knowns)

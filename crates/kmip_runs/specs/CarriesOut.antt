@@ -8,6 +8,8 @@ use Rattle.kmip_protocol.specs.Past.{is_planned}
 use Rattle.kmip_protocol.specs.Seen.{Seen}
 use Rattle.kmip_runs.specs.Driving.{AsksOne, IsBorneOut, IsGood, IsSettling, Keeps, Learnt, LearntUntil, Nearer, TakesNothingBack, WentOn, need}
 use Rattle.kmip_runs.specs.Keeping.{Kept}
+use Rattle.kmip_disk.specs.Whole.{IsWritten}
+use Rattle.kmip_runs.specs.Lasting.{LeavesBetween, LeavesTheFile}
 use Rattle.kmip_runs.specs.Losing.{ArePaid, IsEnough, left_for}
 use Rattle.kmip_runs.specs.Refusals.{HasRisen}
 use Rattle.kmip_runs.specs.Saved.{AreSavedBetween, IsInMemory, IsLeft, IsWhole, Situation}
@@ -109,13 +111,22 @@ pub record CarriesOut (most : ℕ) (old : Stage) (stopped : Result Stop SaveFaul
   -- Over any link the plan stays, and how many keys a message may ask about. No identifier or count is
   -- taken back.
   pub forgets_nothing : Keeps old.client new.client
-  -- A keeper that keeps what it is given does so still. It saved one text for each exchange, in order,
+  -- A disk that kept the rules does so still. One text was saved for each exchange, in order,
   -- and no other. The last exchange has none where its text was not saved, and may have none where
   -- memory ran out. Each is the progress text of what was known at a moment; no moment, and not the
   -- end, takes back an identifier or a count. `AreSaved` says what each text says over an honest link,
   -- and what it says where all was good at the start.
-  pub saved : old.keeper.keeps → new.keeper.keeps
+  pub saved : old.keeper.disk.lawful → new.keeper.disk.lawful
       × AreSavedBetween (situation old) (situation new) stopped made
+  -- On a disk that kept the rules, a crash at any moment leaves what it might have left at the start, or
+  -- the text of what was known at a moment of the run. That text is whole, and where all was good it is true.
+  pub any_moment : old.keeper.disk.lawful
+      → LeavesBetween (situation old) (situation new) stopped made
+  -- On a disk that kept the rules, once the run has ended: a crash leaves what a read gives, and nothing
+  -- else. That is said where the bytes of the file were on the disk at the start, and unless the keeper's
+  -- count of refusals has risen, or stands at its last value. An older text is as true.
+  pub lasts : old.keeper.disk.lawful → IsWritten old.keeper.disk
+      → LeavesTheFile new.keeper.disk ⊎ HasRisen old.keeper.refusals new.keeper.refusals
   -- The keeper's count of refusals never falls.
   pub counted : old.keeper.refusals ≤ new.keeper.refusals
   -- It answers that a text could not be written only where the keeper's count of refusals has risen, or

@@ -1,12 +1,41 @@
--- All that a contract sees of a keeper at a moment, as one value.
+-- All that a contract sees of a keeper at a moment, as one value, and what its calls leave on the disk.
 -- Source: own (view): the standard knows no progress that is kept.
-use Rattle.std.specs.Prelude.{ℕ, List}
+use Rattle.std.specs.Prelude.{◌≡◌, ◌⊎◌, ℕ, List, OnOk, Result, Some}
+use Rattle.kmip_disk.specs.Views.{Content, DiskView}
+use Rattle.kmip_disk.specs.Whole.{IsBeforeOrText, IsWritten, LeavesOnly}
 
--- What is seen of who keeps texts: which it saved, whether it keeps what it is given, and how often it could not.
+-- What is seen of who keeps texts: which it saved, the disk that it keeps them on, and how often it could not.
 pub record Kept : Type 1 where
   -- Each text that was saved, the first one first.
   pub saved : List (List ℕ)
-  -- That it keeps what it is given, whole or not at all. Of a file no contract can say so.
-  pub keeps : Type 0
-  -- How often it could not write a text, up to 2^64 - 1.
+  -- The disk, whose file has the text that was saved last. That it keeps the rules is a premise: of a real
+  -- machine no contract can say so.
+  pub disk : DiskView
+  -- How often it could not write a text, or not make it last, up to 2^64 - 1.
   pub refusals : ℕ
+
+-- A text is saved in place of the one before it.
+pub record SavesText {E : Type 0} (old : DiskView) (text : List ℕ) (result : Result (Unit {0}) E) (new : DiskView) : Type 0 where
+  -- The disk keeps the rules after it.
+  pub lawful : new.lawful
+  -- At `Ok` a read gives the text, and its bytes are on the disk.
+  pub written : OnOk result ((new.file ≡ Some text) × IsWritten new)
+  -- However it ends, a read gives the text, or what it gave before.
+  pub whole : (new.file ≡ old.file) ⊎ (new.file ≡ Some text)
+  -- A crash at any moment of the call leaves what it might have left before, or the text, and no torn one.
+  pub any_moment : LeavesOnly old new (IsBeforeOrText old text)
+  -- Where the bytes of the file were on the disk before, those of the file are after it, also at a fault.
+  pub still : IsWritten old → IsWritten new
+
+-- The text that was saved last is made to last.
+pub record MakesLast {E : Type 0} (old : DiskView) (result : Result (Unit {0}) E) (new : DiskView) : Type 0 where
+  -- The disk keeps the rules after it.
+  pub lawful : new.lawful
+  -- A read gives what it gave.
+  pub same : new.file ≡ old.file
+  -- A crash at any moment of the call leaves what it might have left before.
+  pub any_moment : LeavesOnly old new old.may_leave
+  -- Where the bytes of the file were on the disk before, they are after it.
+  pub still : IsWritten old → IsWritten new
+  -- At `Ok` a crash leaves what a read gives and nothing else, where the bytes of the file were on the disk.
+  pub lasts : IsWritten old → OnOk result ((c : Content) → new.may_leave c → c ≡ old.file)

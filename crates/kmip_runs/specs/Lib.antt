@@ -36,9 +36,11 @@ pub mod PrivateLawbook
 
 -- which texts are saved, and what each of them says
 pub mod Saved
+-- what a crash may leave of a run, at any moment
+pub mod Lasting
 -- what carrying out a plan promises
 pub mod CarriesOut
--- all that a contract sees of a keeper, as one value
+-- all that a contract sees of a keeper, as one value, and what its calls leave on the disk
 pub mod Keeping
 -- that a text could not be written
 pub mod Refusals

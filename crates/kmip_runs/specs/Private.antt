@@ -21,6 +21,7 @@ use Rattle.kmip_runs.specs.Turning.{GivesUp}
 use Rattle.kmip_runs.specs.Remembering.{Talk}
 use Rattle.kmip_runs.specs.TurnedRuns.{RunTurned}
 use Rattle.kmip_runs.specs.Keeping.{Kept}
+use Rattle.kmip_disk.specs.Private.{unclaimed as unclaimed_disk}
 
 -- What a turn leaves in which memory ran out, by where it did.
 abbrev pub IsBrokenOff : List Key → ℕ → Past → Past → TurnFault → Type 0
@@ -115,4 +116,4 @@ pub record RanTurned (keys : List Key) (first last : ClientState) (honest : Type
 
 -- A keeper of which nothing is claimed, but how often it could not write a text.
 abbrev pub unclaimed : ℕ → Kept
-unclaimed refusals = record { saved = []; keeps = ⊥; refusals = refusals }
+unclaimed refusals = record { saved = []; disk = unclaimed_disk refusals; refusals = refusals }

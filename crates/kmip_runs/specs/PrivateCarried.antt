@@ -1,6 +1,12 @@
 -- Private: what the parts of carrying out a plan keep.
 -- Source: own (view).
-use Rattle.std.specs.Prelude.{Err, IfOk, IsTrue, Ok, Result, false, ℕ, ◌<◌, ◌≡◌, ◌≤◌, ◌⊎◌}
+use Rattle.std.specs.Prelude.{Err, IfOk, IsTrue, Ok, Result, [], false, ℕ, ◌<◌, ◌≡◌, ◌≤◌, ◌⊎◌}
+use Rattle.kmip_client.specs.Clients.{ClientState}
+use Rattle.kmip_client.specs.Saving.{progress}
+use Rattle.kmip_disk.specs.Views.{DiskView}
+use Rattle.kmip_disk.specs.Whole.{IsWritten, LeavesOneOf}
+use Rattle.kmip_progress.specs.Reading.{read_text}
+use Rattle.kmip_progress.specs.Texts.{progress_text}
 use Rattle.kmip_client.specs.Laws.{OnwardToItself, OnwardTwice, HeldForGood, HeldIsNoConflict, HearingIsBlind}
 use Rattle.kmip_protocol.specs.Laws.{DeliveriesKeepSound, DeliveriesKeepTheImage, DeliveriesKeepTheRequests, ObjectsGoOnward}
 use Rattle.kmip_protocol.specs.Past.{Names, is_planned}
@@ -14,6 +20,8 @@ use Rattle.kmip_runs.specs.declared.save_fault.SaveFault.{SaveFault}
 use Rattle.kmip_runs.specs.declared.save_fault.SaveFault.TheVariants as faults
 use Rattle.kmip_runs.specs.CarriesOut.{Stage, situation}
 use Rattle.kmip_runs.specs.Losing.{ArePaid, left_for}
+use Rattle.kmip_runs.specs.Keeping.{SavesText}
+use Rattle.kmip_runs.specs.Lasting.{LeavesBetween}
 use Rattle.kmip_runs.specs.Refusals.{HasRisen}
 
 -- The laws of the crates below that the proofs use.
@@ -50,7 +58,8 @@ pub record Went (old new : Situation) (result : Result Stop SaveFault) (made : �
 -- So many exchanges were made, and what was known after each was saved.
 pub record Carried (old new : Situation) (result : Result Stop SaveFault) (made : ℕ) : Type 0 where
   pub went : Went old new result made
-  pub saved : old.keeper.keeps → new.keeper.keeps × AreSavedBetween old new result made
+  pub saved : old.keeper.disk.lawful → new.keeper.disk.lawful × AreSavedBetween old new result made
+  pub any_moment : old.keeper.disk.lawful → LeavesBetween old new result made
 
 -- What exchanges make of a run, however many are made.
 pub record MakesExchanges (old new : Situation) (result : Result Stop SaveFault) (made : ℕ) : Type 0 where
@@ -89,3 +98,19 @@ pub record MakesExchangesInTurn (most : ℕ) (old : Stage) (result : Result Stop
   pub within : made ≤ most
   -- Over a link that was honest for the names of the plan no run was ended.
   pub ended : old.link.honest (is_planned old.client.keys) → new.link.ended ≡ old.link.ended
+
+-- Nothing was written.
+pub record WritesNothing (old new : DiskView) : Type 0 where
+  pub lawful : new.lawful
+  pub any_moment : LeavesOneOf old [] new
+  pub still : IsWritten old → IsWritten new
+
+-- The text of what a client knows was given to the disk, and is read back as that.
+pub record WritesProgress (old : DiskView) (client : ClientState) (result : Result (Unit {0}) SaveFault) (new : DiskView) : Type 0 where
+  pub read_back : read_text client.keys (progress_text client.keys (progress client)) ≡ Ok (progress client)
+  pub saves : SavesText old (progress_text client.keys (progress client)) result new
+
+-- The text of what a client knows was saved, or at a fault perhaps not even written.
+abbrev pub SavesProgress : DiskView → ClientState → Result (Unit {0}) SaveFault → DiskView → Type 0
+SavesProgress old client (Ok done) new = WritesProgress old client (Ok done) new
+SavesProgress old client (Err fault) new = WritesProgress old client (Err fault) new ⊎ WritesNothing old new

@@ -3,7 +3,7 @@ ghost use Rattle.std.specs.Prelude.{◌≡◌, ◌≢◌, ◌≤◌, ◌<◌, �
 ghost use Rattle.kmip_client.specs.Saving.{progress};
 ghost use Rattle.kmip_progress.specs.Texts.{progress_text};
 ghost use Rattle.kmip_runs.specs.CarriesOut.{CarriesOut, stage};
-ghost use Rattle.kmip_runs.specs.PrivateCarried.{CarryingLaws, MakesExchangesInTurn, MakesOneExchange};
+ghost use Rattle.kmip_runs.specs.PrivateCarried.{CarryingLaws, MakesExchangesInTurn, MakesOneExchange, SavesProgress};
 ghost use Rattle.kmip_runs.specs.Refusals.{HasRisen};
 
 use crate::driving::{stop_of, turn};
@@ -17,6 +17,7 @@ use kmip_client::laws::{
     onward_is_an_order, the_settled_are_not_worked_on, truth_is_for_good, what_is_known_was_heard,
     what_is_true_is_no_conflict,
 };
+use kmip_progress::laws::texts_are_read_back;
 use kmip_protocol::Link;
 use kmip_protocol::laws::{
     deliveries_keep_sound, deliveries_keep_the_requests, objects_go_onward, the_image_is_kept,
@@ -35,8 +36,11 @@ use std::alloc::Global;
 /// ended over the link; failures of the link are passed over. Where memory ran out, or the text of the
 /// last exchange was not saved, the run may not be ended.
 ///
-/// All of this is said of every link and of every keeper that a caller may bring. That a file keeps
-/// what it is given no contract can say: for a file it is a premise in words, as the honest link is.
+/// At the end the keeper makes the last text outlast a crash. Where it cannot, it counts a refusal, and a
+/// crash may leave an older text, which is as true.
+///
+/// All of this is said of every link and of every keeper that a caller may bring. That the disk of a real
+/// machine keeps the rules no contract can say: it is a premise in words, as the honest link is.
 ///
 /// The result is why it stopped, and how many exchanges were made. An exchange counts too where there
 /// was no memory to learn from its reply.
@@ -61,6 +65,7 @@ pub fn carry_out<L: Link, K: Keeper, P: Patience>(
     let _plan = client.plan();
     let (carried, made) = exchange_in_turn(alloc, client, link, keeper, patience, limit);
     let closed = close_run(alloc, link);
+    let _ = keeper.close(); // where that fails, a crash may leave an older text, which is as true
     (after_close(carried, closed), made)
 }
 
@@ -173,14 +178,18 @@ fn save_progress<K: Keeper>(
     client: &Client<'_>,
     keeper: &mut K,
 ) -> Result<(), SaveFault>
-    ensures kept { (K.kept keeper.old).keeps → (K.kept keeper.new).keeps
+    ensures kept { (K.kept keeper.old).disk.lawful → (K.kept keeper.new).disk.lawful
         × OnOk result ((K.kept keeper.new).saved ≡ (K.kept keeper.old).saved
         ++ progress_text client.now.keys (progress client.now) ∷ [])
         × OnErr result ((K.kept keeper.new).saved ≡ (K.kept keeper.old).saved) }
+    ensures whole { (K.kept keeper.old).disk.lawful
+        → SavesProgress (K.kept keeper.old).disk client.now result (K.kept keeper.new).disk }
     ensures counted { (K.kept keeper.old).refusals ≤ (K.kept keeper.new).refusals }
     ensures output { IfErr result (λ fault. fault ≡ SaveFault.Output
         → HasRisen (K.kept keeper.old).refusals (K.kept keeper.new).refusals) }
 {
+    // proof: a text that was written is read back
+    texts_are_read_back();
     let progress = client.progress(alloc)?;
     let text = progress.write_text(alloc, client.plan())?;
     keeper.save(alloc, text.as_str().as_bytes())

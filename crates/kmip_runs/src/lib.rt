@@ -73,7 +73,7 @@ pub use keeper::Keeper;
 pub use kmip_protocol::{Link, LinkFault};
 pub use observed::Observed;
 pub use observer::Observer;
-pub use pace::{Pace, next_wait};
+pub use pace::{Pace, next_wait, wait_within};
 pub use patience::Patience;
 pub use prolonging::campaigns;
 pub use reporting::{finished_count, identifier_text, report, sum_line, verdict_word};

@@ -32,6 +32,44 @@ pub fn next_wait(wait: u64, first: u64, got_on: bool) -> u64
     }
 }
 
+/// Waits so many milliseconds, but no longer than until `most` seconds have passed since a moment; false
+/// where they have passed, and then it does not wait. It waits the whole time where `most` is 0, where the
+/// moment is not known, and where the clock does not tell the time. Takes no memory.
+///
+/// That it waits for so long no clause says, as no clause says what a clock tells.
+pub fn wait_within<C: Clock>(clock: &C, wait: u64, since: Option<Instant>, most: u64) -> bool
+    // With 0 seconds it is always true.
+    ensures endless { most ≡ 0 → IsTrue result }
+    // So it is where the moment is not known.
+    ensures unknown { since ≡ None → IsTrue result }
+{
+    let wait = Duration::from_millis(wait);
+    let wait = match left_until(clock, since, most) {
+        Some(left) if left.is_zero() => return false,
+        Some(left) => wait.min(left),
+        None => wait,
+    };
+    if !wait.is_zero() {
+        thread::sleep(clock, wait);
+    }
+    true
+}
+
+/// How long it is until `most` seconds have passed since a moment; none where `most` is 0, the moment is not
+/// known, or the clock does not tell the time.
+fn left_until<C: Clock>(clock: &C, since: Option<Instant>, most: u64) -> Option<Duration>
+    ensures endless { most ≡ 0 → result ≡ None }
+    ensures unknown { since ≡ None → result ≡ None }
+{
+    if most == 0 {
+        return None;
+    }
+    let since = since?;
+    let now = Instant::now(clock).ok()?;
+    let passed = now.saturating_duration_since(since);
+    Some(Duration::from_secs(most).saturating_sub(passed))
+}
+
 /// Waits before an exchange where the run did not get on by the one before it, longer each time. It
 /// gives up where the run has not got on for some time. That it sleeps for so long, and when it gives
 /// up, no clause says, as no clause says what a clock tells. The stored runs try both with a clock in
@@ -85,19 +123,6 @@ impl<C: Clock> Pace<C> {
     {
         self.has_given_up
     }
-
-    /// How long it may wait still, until it gives up; none where it never does, or the clock does not
-    /// tell the time.
-    fn left(&self) -> Option<Duration>
-        ensures { self.now.most ≡ 0 → result ≡ None }
-    {
-        if self.most == 0 {
-            return None;
-        }
-        let now = Instant::now(&self.clock).ok()?;
-        let passed = now.saturating_duration_since(self.since?);
-        Some(Duration::from_secs(self.most).saturating_sub(passed))
-    }
 }
 
 impl<C: Clock> Patience for Pace<C> {
@@ -136,18 +161,7 @@ impl<C: Clock> Patience for Pace<C> {
         if self.has_given_up {
             return false;
         }
-        let wait = Duration::from_millis(self.wait);
-        let wait = match self.left() {
-            Some(left) if left.is_zero() => {
-                self.has_given_up = true;
-                return false;
-            }
-            Some(left) => wait.min(left),
-            None => wait,
-        };
-        if !wait.is_zero() {
-            thread::sleep(&self.clock, wait);
-        }
-        true
+        self.has_given_up = !wait_within(&self.clock, self.wait, self.since, self.most);
+        !self.has_given_up
     }
 }

@@ -1,18 +1,21 @@
-//! A keeper in memory, with room for so many texts.
-ghost use Rattle.std.specs.Prelude.{◌≡◌};
+//! A keeper on a disk in memory, with room for so many texts.
+ghost use Rattle.std.specs.Prelude.{◌≡◌, ◌≤◌};
+ghost use Rattle.kmip_runs.specs.Refusals.{HasRisen};
 
+use kmip_disk::{MemoryDisk, MemoryFault, WholeFile};
 use kmip_runs::{Keeper, SaveFault};
 use kmip_ttlv::Bytes;
 use std::alloc::Global;
 use std::str::from_utf8;
 use std::test::Fail;
 
-/// Keeps each text that it is given, as many as it has room for.
+/// Keeps each text that it is given, as many as it has room for, and the last one in a file.
 #[derive(Drop)]
 pub(crate) struct Shelf {
     texts: Vec<Bytes>,
     room: usize,
-    /// How often a text had no room.
+    file: WholeFile<MemoryDisk>,
+    /// How often a text had no room, or was not written or made to last.
     refusals: u64,
 }
 
@@ -22,6 +25,9 @@ impl Shelf {
         Shelf {
             texts: Vec::new(alloc),
             room,
+            file: WholeFile {
+                disk: MemoryDisk::new(alloc, usize::MAX),
+            },
             refusals: 0,
         }
     }
@@ -41,12 +47,29 @@ fn line_of(alloc: Global, text: &Bytes) -> Result<String, Fail> {
     Ok(from_utf8(text.as_slice())?.replace(alloc, "\n", "/")?)
 }
 
+impl Shelf {
+    /// The fault for one of the disk, which is counted unless it is want of memory.
+    fn refuse(&mut self, fault: MemoryFault) -> SaveFault
+        ensures rest { (self.new.texts ≡ self.old.texts) × (self.new.file ≡ self.old.file) }
+        ensures counted { self.old.refusals ≤ self.new.refusals }
+        ensures output { result ≡ SaveFault.Output → HasRisen self.old.refusals self.new.refusals }
+    {
+        match fault {
+            MemoryFault::NoMemory => SaveFault::NoMemory,
+            MemoryFault::NotFound | MemoryFault::Stopped => {
+                self.refusals = self.refusals.saturating_add(1);
+                SaveFault::Output
+            }
+        }
+    }
+}
+
 impl Keeper for Shelf {
-    ghost use Rattle.std.specs.Prelude.{⊤};
+    ghost use Rattle.kmip_disk.specs.Memory.{memory_view};
 
     ghost kept = { λ shelf. record {
       saved = shelf.texts.items;
-      keeps = ⊤;
+      disk = memory_view shelf.file.disk;
       refusals = shelf.refusals;
     } };
 
@@ -61,7 +84,22 @@ impl Keeper for Shelf {
         let Ok(()) = self.texts.reserve(1) else {
             return Err(SaveFault::NoMemory);
         };
-        self.texts.push_reserved(copy);
-        Ok(())
+        match self.file.write(text) {
+            Ok(()) => {
+                self.texts.push_reserved(copy);
+                Ok(())
+            }
+            Err(fault) => Err(self.refuse(fault)),
+        }
+    }
+
+    fn close(&mut self) -> Result<(), SaveFault> {
+        match self.file.close() {
+            Ok(()) => Ok(()),
+            Err(_) => {
+                self.refusals = self.refusals.saturating_add(1);
+                Err(SaveFault::Output)
+            }
+        }
     }
 }

@@ -23,6 +23,7 @@ returns g c =
           let few = AsksFew keys c.args.input.now.batch (g.L.Link.seen c.args.link.now).past (g.L.Link.seen c.run-ended.new.link).past in
           record {
             safe = over.safe;
+            any_moment = over.any_moment;
             few = λ honest. finished_whole c.run-ended.result c.finished.result mid new (λ written refused. few) c.finished.ensures (over.few honest);
           };
     }

@@ -1,13 +1,14 @@
 -- All of it, clause by clause: what the exchanges promise, and what the end of the run leaves of it.
-use Rattle.std.proofs.Common.{subst, sym, rules}
+use Rattle.std.proofs.Common.{arith, subst, sym, rules}
 use Rattle.kmip_plan.specs.Plans.{IsLawful}
 use Rattle.kmip_protocol.specs.Past.{is_planned}
 use Rattle.kmip_runs.specs.Losing.{ArePaid, left_for}
 use Rattle.kmip_runs.specs.Saved.{IsInMemory, Situation}
-use Rattle.kmip_runs.proofs.CarryLemmas.{carried_closed, good_end, left_last, limit_last, memory_before, settled_end, stands_last, unless_given_up}
+use Rattle.kmip_runs.proofs.CarryLemmas.{carried_closed, carried_kept, good_end, left_last, limit_last, memory_before, settled_end, stands_last, unless_given_up}
 use Rattle.kmip_runs.proofs.CarryEndingLemmas.{ended_once, ended_whole, one_of_both}
 use Rattle.kmip_runs.proofs.CarryLosingLemmas.{outlasted, paid_closed}
-use Rattle.kmip_runs.proofs.RefusalLemmas.{output_before}
+use Rattle.kmip_runs.proofs.LastingLemmas.{file_lasts}
+use Rattle.kmip_runs.proofs.RefusalLemmas.{output_before, risen_at_fault, risen_still}
 use Rattle.kmip_runs.proofs.carrying.carry_out.Goals as goal
 
 pub returns : goal.returns
@@ -29,12 +30,15 @@ returns g c =
     let first = made.carried in
     let before : Situation = record { client = client; link = old; keeper = kept c.args.keeper.now } in
     let between : Situation = record { client = next; link = mid; keeper = kept done.new.keeper } in
-    let after : Situation = record between { link = new } in
+    let shut = c.close in
+    let unshut : Situation = record between { link = new } in
+    let after : Situation = record unshut { keeper = kept shut.new.self } in
     let limit = limit_last close.result done.result.0 last end.whole end.stop end.fault in
     let stands = stands_last next close.result done.result.0 last end.whole end.stop end.fault made.stops_for_its_reason in
-    let carried =
+    let ended =
     carried_closed laws before between new done.result.0 last close.result done.result.1 lawful
     (λ names honest. (close.ensures.honestly names honest).honest) close.ensures.calm end.whole end.stop end.fault first in
+    let carried = carried_kept before unshut (kept shut.new.self) last shut.result done.result.1 shut.ensures.kept shut.ensures.lasts ended in
     record {
       well = λ good.
           let paid : IsInMemory last → ArePaid done.result.1 (left_for client old.past) (left_for next new.past) old.disturbances new.disturbances =
@@ -68,8 +72,16 @@ returns g c =
           };
       forgets_nothing = carried.went.keeps;
       saved = carried.saved;
-      counted = search rules;
-      output = λ is. made.output (output_before close.result done.result.0 last end.whole end.stop end.fault is);
+      any_moment = carried.any_moment;
+      lasts = λ lawful written.
+          let left = ended.any_moment lawful in
+          file_lasts between.keeper.disk after.keeper.disk shut.result (left.still written)
+          (risen_at_fault shut.result before.keeper.refusals between.keeper.refusals after.keeper.refusals made.counted shut.ensures.output)
+          (shut.ensures.lasts left.lawful);
+      counted = omega (arith, made.counted, shut.ensures.counted);
+      output = λ is.
+          risen_still before.keeper.refusals between.keeper.refusals after.keeper.refusals made.counted shut.ensures.counted
+          (made.output (output_before close.result done.result.0 last end.whole end.stop end.fault is));
       stops_for_its_reason = stands;
       limit = λ is. done.ensures.limit (limit is);
       given_up = λ fresh gave.

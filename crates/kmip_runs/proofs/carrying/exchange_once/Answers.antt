@@ -70,8 +70,9 @@ returns-in-Ok g c =
     record {
       exchanges = record {
         carried =
-            carried_one (record { client = client; link = x; keeper = i }) (record { client = next; link = y; keeper = j }) stop c.stop_of-in-Ok.ensures.in_memory
-            (λ keeping. let so = c.in-Ok.ensures.kept keeping in (so.0, so.1))
+            carried_one (record { client = client; link = x; keeper = i }) (record { client = next; link = y; keeper = j }) stop tt c.stop_of-in-Ok.ensures.in_memory
+            (λ lawful. let so = c.in-Ok.ensures.kept lawful in (so.0, so.1))
+            c.in-Ok.ensures.whole
             (subst (λ asked. Went (record { client = client; link = x; keeper = i }) (record { client = next; link = y; keeper = j }) (Ok stop) (one_if asked)) c.in-Ok-true.field-0-test
             (took (record { client = client; link = x; keeper = i }) (record { client = next; link = y; keeper = j }) (Ok stop) c.in-Ok-true.field-0 _
             (λ is. c.stop_of-in-Ok.ensures.in_memory (stop_is stop stops.NoMemory is)) e));
@@ -99,7 +100,8 @@ returns-in-Err-save_progress g c =
       exchanges = record {
         carried =
             carried_not (record { client = client; link = x; keeper = i }) (record { client = next; link = y; keeper = j }) fault
-            (λ keeping. let so = c.in-Err-save_progress.ensures.kept keeping in (so.0, so.2))
+            (λ lawful. let so = c.in-Err-save_progress.ensures.kept lawful in (so.0, so.2))
+            c.in-Err-save_progress.ensures.whole
             (subst (λ asked. Went (record { client = client; link = x; keeper = i }) (record { client = next; link = y; keeper = j }) (Err fault) (one_if asked)) c.in-Ok-true.field-0-test
             (took (record { client = client; link = x; keeper = i }) (record { client = next; link = y; keeper = j }) (Err fault) c.in-Ok-true.field-0 _ (λ is. absurd cc) e));
         counted = search rules;
