@@ -9,7 +9,8 @@
 # processor time, the system's included, so other work on the machine disturbs it little. First come
 # whole loads, then how the cost of a request grows from 10 objects of the server to 10,000, and then
 # the memory that an object takes, how the time of `kmipctl sim` grows with the keys of a plan, and last
-# what `sim` and `run` take by how many keys a message asks about. Where gnuplot is there, it draws the
+# what `sim` and `run` take by how many keys a message asks about, and `run` beside a bare loop over the disk.
+# Where gnuplot is there, it draws the
 # growths into out/bench/growth.svg.
 # The exit status is 1 where the outputs differ, or a simulation takes another number of exchanges than
 # its plan needs, and 0 whatever the times are.
@@ -29,6 +30,8 @@ small_aim=2
 memory_aim=300
 # How much longer a simulation of 1,000 keys may take than one of 100.
 sim_aim=11
+# How much longer a run of 1,000 keys may take than a bare loop that writes its texts.
+disk_aim=1.3
 
 TIMEFORMAT='%3U %3S'
 
@@ -253,9 +256,28 @@ batches() {
     done
 }
 
+# Prints what `run --loopback` of 1,000 keys takes beside a bare loop that writes, syncs and renames as many texts
+# of the same sizes on the same disk. The first text is written after the first exchange, and another one after
+# each of two steps a key.
+disk() {
+    local texts=2001 first last ran bare
+    write_plan 1000 > "$out/plan.toml"
+    local words=("$program" run --plan "$out/plan.toml" --progress "$out/batch.progress" --loopback)
+    rm -f "$out/batch.progress"
+    "${words[@]}" --limit 1 > "$out/told" || true
+    first=$(wc -c < "$out/batch.progress")
+    ran=$(elapsed "${words[@]}")
+    expect "$(tail -n 1 "$out/told")" 'stop AllFinished 3000'
+    last=$(wc -c < "$out/batch.progress")
+    bare=$(elapsed "$out/disk" "$out/bare" "$texts" "$first" "$last")
+    rm -f "$out/bare"
+    echo "1,000 keys, $texts texts of $first to $last bytes, $((texts * (first + last) / 2000000)) MB: run --loopback $ran ms, a bare loop $bare ms, ratio $(quotient "$ran" "$bare" 2) (aim: at most $disk_aim)"
+}
+
 mkdir -p "$out"
 rm -f "$out/growth.tsv" "$out/growth.svg"
 build baseline
+build disk
 build input
 
 load '100000 requests over 100 objects' "$small_aim" 1 mix 100000 100
@@ -278,3 +300,4 @@ memory baseline "$out/baseline"
 
 growth_of_simulations
 batches
+disk
