@@ -11,7 +11,7 @@
 # make refuse     refuses each growth of memory of the program and of test_memory in turn (needs cc, python3)
 # make faults     gives the program plans with each fault, and wants the line that says where and why (needs python3)
 # make hostile    gives the program lines of ten megabytes, under limits of memory
-# make storm      carries 200 plans over a network that loses and cuts messages, kills the runs, looks and probes (needs rustc)
+# make storm      carries 200 plans, by up to four runs at once, over a network that loses and cuts; kills, looks, probes (needs rustc)
 # make peers      runs it against peers that answer nothing, rubbish or too late (needs python3)
 # make troubles   runs it against servers that give trouble, and compares what it tells of that (needs python3)
 # make origin     runs it on progress files that were kept against other servers, or for other keys (needs python3)

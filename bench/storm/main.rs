@@ -5,10 +5,11 @@
 //!     storm PROGRAM FOLDER PLANS SEED
 //!
 //! A proxy stands between the runs and one `kmipctl serve`. What the server answers is noted there, and
-//! read at the end by `kmipctl show`. For each plan there are some stormy rounds: a run is started, whose
-//! messages ask about one to eight keys, and killed after a random time if it has not ended. Between two of them the progress file may be put back
-//! to an older copy, or removed. Then the storm ends: what was delayed is delivered or dropped, and one
-//! run more, with the plan's bound as its limit, has to finish all keys.
+//! read at the end by `kmipctl show`. For each plan there are some stormy rounds: one to four runs are started at
+//! once, each with a progress file of its own. Their messages ask about one to eight keys. Each is killed after a
+//! random time if it has not ended. Between two rounds a progress file may be put back to an older copy of any
+//! run, or removed. Then the storm ends: what was delayed is delivered or dropped. Each run is started once more,
+//! all at once, and has to finish all keys: one alone within the plan's bound, one amid others within twice that.
 //!
 //! Amid the runs of a plan `kmipctl look` asks how its keys stand. What it tells of a key never goes back, and
 //! is never a conflict; after the last run it tells each key as finished. No step is any look's.

@@ -1,11 +1,12 @@
-//! Random plans, carried out in storms by runs that are killed and go on from old progress files.
+//! Random plans, carried out in storms by runs that are killed and go on from old progress files: up to four
+//! runs of one plan at once, each with a file of its own.
 
 use crate::looks::Looks;
 use crate::network::{Shared, Weather};
 use std::collections::HashMap;
 use std::fs;
 use std::io::{self, BufReader, Read, Write};
-use std::path::Path;
+use std::path::{Path, PathBuf};
 use std::process::{Child, Command, Stdio};
 use std::sync::atomic::Ordering;
 use std::thread;
@@ -48,11 +49,29 @@ fn bound(plan: &Plan) -> usize {
     plan.iter().map(|(_, target)| TARGETS[*target].1.len() + 2).sum()
 }
 
+/// The most runs of a plan at once.
+const MOST_RUNS: u64 = 4;
+
+/// The progress file of each run of a plan that is carried out by so many at once.
+fn progress_files(folder: &Path, count: u64) -> Vec<PathBuf> {
+    (0..count).map(|number| folder.join(format!("progress{number}"))).collect()
+}
+
+/// Removes each progress file that a plan before may have left, with what lies beside it.
+fn remove_files(folder: &Path) {
+    for progress in progress_files(folder, MOST_RUNS) {
+        for behind in ["", ".origin", ".new", ".before"] {
+            let _ = fs::remove_file(format!("{}{behind}", progress.display()));
+        }
+    }
+}
+
 /// A run of a plan, whose messages ask about so many keys at most as the storm draws.
 fn start(
     shared: &Shared,
     program: &Path,
     folder: &Path,
+    progress: &Path,
     port: u16,
     limit: usize,
 ) -> io::Result<Child> {
@@ -61,7 +80,7 @@ fn start(
         .args(["run", "--plan"])
         .arg(folder.join("plan.toml"))
         .arg("--progress")
-        .arg(folder.join("progress"))
+        .arg(progress)
         .arg("--connect")
         .arg(format!("127.0.0.1:{port}"))
         .args(["--limit", &limit.to_string(), "--batch", &batch.to_string()])
@@ -83,6 +102,8 @@ fn is_whole(text: &str, plan: &Plan) -> bool {
 /// What went on.
 #[derive(Default)]
 struct Tally {
+    /// Plans that were carried out by several runs at once.
+    together: u64,
     kills: u64,
     ends: u64,
     restores: u64,
@@ -90,7 +111,50 @@ struct Tally {
     wrong: u64,
 }
 
-/// Carries one plan through a storm and then to its end.
+/// Kills a run that has not ended.
+fn end_run(run: &mut Child, tally: &mut Tally) -> io::Result<()> {
+    if run.try_wait()?.is_some() {
+        tally.ends += 1;
+    } else {
+        run.kill()?;
+        tally.kills += 1;
+    }
+    run.wait()?;
+    Ok(())
+}
+
+/// Looks whether a progress is whole, and puts back an older one, which any run may have saved, or removes it.
+fn disturb_file(
+    shared: &Shared,
+    plan: &Plan,
+    progress: &Path,
+    old: &mut Vec<String>,
+    tally: &mut Tally,
+) -> io::Result<()> {
+    match fs::read_to_string(progress) {
+        Ok(text) if is_whole(&text, plan) => old.push(text),
+        Ok(text) => {
+            println!("wrong: a progress that is not whole: {text:?}");
+            tally.wrong += 1;
+        }
+        Err(_) => {}
+    }
+    match shared.below(4) {
+        0 if !old.is_empty() => {
+            let text = &old[shared.below(old.len() as u64) as usize];
+            fs::write(progress, text)?;
+            tally.restores += 1;
+        }
+        1 => {
+            let _ = fs::remove_file(progress);
+            tally.removals += 1;
+        }
+        _ => {}
+    }
+    Ok(())
+}
+
+/// Carries one plan through a storm and then to its end, by one to four runs at once.
 fn carry_plan(
     shared: &Shared,
     program: &Path,
@@ -100,54 +164,55 @@ fn carry_plan(
     tally: &mut Tally,
     looks: &mut Looks,
 ) -> io::Result<()> {
-    let progress = folder.join("progress");
-    let _ = fs::remove_file(&progress);
+    remove_files(folder);
+    let files = progress_files(folder, 1 + shared.below(MOST_RUNS));
+    tally.together += u64::from(files.len() > 1);
     fs::write(folder.join("plan.toml"), text_of(plan))?;
     let mut old = Vec::new();
     shared.is_calm.store(false, Ordering::SeqCst);
     for _ in 0..2 + shared.below(6) {
-        let mut run = start(shared, program, folder, port, 10_000)?;
+        let start = |progress: &PathBuf| start(shared, program, folder, progress, port, 10_000);
+        let mut runs = files.iter().map(start).collect::<io::Result<Vec<Child>>>()?;
         looks.begin(shared, program, folder, port, plan)?;
         thread::sleep(Duration::from_micros(500 + shared.below(40_000)));
-        if run.try_wait()?.is_some() {
-            tally.ends += 1;
-        } else {
-            run.kill()?;
-            tally.kills += 1;
+        for run in &mut runs {
+            end_run(run, tally)?;
         }
-        run.wait()?;
-        match fs::read_to_string(&progress) {
-            Ok(text) if is_whole(&text, plan) => old.push(text),
-            Ok(text) => {
-                println!("wrong: a progress that is not whole: {text:?}");
-                tally.wrong += 1;
-            }
-            Err(_) => {}
-        }
-        match shared.below(4) {
-            0 if !old.is_empty() => {
-                let text = &old[shared.below(old.len() as u64) as usize];
-                fs::write(&progress, text)?;
-                tally.restores += 1;
-            }
-            1 => {
-                let _ = fs::remove_file(&progress);
-                tally.removals += 1;
-            }
-            _ => {}
+        for progress in &files {
+            disturb_file(shared, plan, progress, &mut old, tally)?;
         }
     }
     looks.end(plan)?;
     // The storm ends: what killed runs have sent comes to its end, and what was delayed.
     shared.end_storm()?;
     shared.is_calm.store(true, Ordering::SeqCst);
-    let output = start(shared, program, folder, port, bound(plan))?.wait_with_output()?;
-    if !output.status.success() {
-        println!("wrong: not finished within {}:", bound(plan));
-        print!("{}", String::from_utf8_lossy(&output.stdout));
-        tally.wrong += 1;
-    }
+    finish(shared, program, folder, &files, port, plan, tally)?;
     looks.end_in_calm(shared, program, folder, port, plan)
+}
+
+/// Finishes a plan in a calm by its runs, all at once. One alone needs no more exchanges than the plan's bound, and
+/// one amid others at most twice as many.
+fn finish(
+    shared: &Shared,
+    program: &Path,
+    folder: &Path,
+    files: &[PathBuf],
+    port: u16,
+    plan: &Plan,
+    tally: &mut Tally,
+) -> io::Result<()> {
+    let limit = if files.len() > 1 { 2 * bound(plan) } else { bound(plan) };
+    let start = |progress: &PathBuf| start(shared, program, folder, progress, port, limit);
+    let runs = files.iter().map(start).collect::<io::Result<Vec<Child>>>()?;
+    for run in runs {
+        let output = run.wait_with_output()?;
+        if !output.status.success() {
+            println!("wrong: not finished within {limit}:");
+            print!("{}", String::from_utf8_lossy(&output.stdout));
+            tally.wrong += 1;
+        }
+    }
+    Ok(())
 }
 
 /// The value of the first line of a shown item with this tag and type.
@@ -233,7 +298,7 @@ pub fn carry_plans(
 fn report(shared: &Shared, plans: u64, keys: usize, replies: usize, tally: &Tally) {
     let counts = shared.counts.lock().unwrap();
     let count = |weather| counts.get(&weather).copied().unwrap_or(0);
-    println!("{plans} plans of {keys} keys, {replies} replies of the server");
+    println!("{plans} plans of {keys} keys, {} by several runs at once, {replies} replies of the server", tally.together);
     println!(
         "{} requests lost, {} replies lost, {} delayed, {} doubled, {} requests and {} replies cut, {} garbled",
         count(Weather::LoseRequest),

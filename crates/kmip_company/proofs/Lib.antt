@@ -1,0 +1,5 @@
+pub mod ListLemmas
+pub mod TruthLemmas
+pub mod EventLemmas
+pub mod SuitLemmas
+pub mod ActLemmas

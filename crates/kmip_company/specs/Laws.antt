@@ -1,0 +1,65 @@
+-- What holds of any company of clients of one plan.
+-- Source: own (law).
+use Rattle.std.specs.Prelude.{◌≡◌, List, Option, Some, slice_get, slice_set, ℕ}
+use Rattle.std.specs.List.{All}
+use Rattle.kmip_client.specs.Asking.{after_ask}
+use Rattle.kmip_client.specs.Clients.{ClientState}
+use Rattle.kmip_client.specs.Places.{Onward}
+use Rattle.kmip_client.specs.declared.question.Question.{Question}
+use Rattle.kmip_plan.specs.Plans.{IsLawful}
+use Rattle.kmip_plan.specs.declared.key.Key.{Key}
+use Rattle.kmip_progress.specs.Suiting.{Suits}
+use Rattle.kmip_protocol.specs.Exchanges.{with_asked}
+use Rattle.kmip_protocol.specs.Machine.{IsMirrored}
+use Rattle.kmip_protocol.specs.Past.{Past}
+use Rattle.kmip_protocol.specs.Sound.{Opening, Sound}
+use Rattle.kmip_protocol.specs.Turns.{taught}
+use Rattle.kmip_runs.specs.Turning.{Turns}
+use Rattle.kmip_company.specs.Acting.{IsActAt, acts}
+use Rattle.kmip_company.specs.Companies.{AllMayOccur, Company, Event, after_events, nobody, with_client}
+use Rattle.kmip_company.specs.Safety.{IsGoodCompany, IsSafeCompany}
+
+-- From where nothing of the plan has happened, whatever occurs, the company is safe.
+abbrev pub AnyCompanyIsSafe : Type 0
+AnyCompanyIsSafe =
+    (keys : List Key) (p : Past) (events : List Event) → IsLawful keys → Opening keys p → AllMayOccur keys events (nobody p)
+    → IsSafeCompany keys (after_events keys events (nobody p))
+
+-- Where the past is sound, a company of nobody is good.
+abbrev pub NobodyIsGood : Type 0
+NobodyIsGood = (keys : List Key) (p : Past) → Sound keys p → IsGoodCompany keys (nobody p)
+
+-- Whatever occurs, a good company stays good, and the objects go onward.
+abbrev pub EventsKeepTheGood : Type 0
+EventsKeepTheGood =
+    (keys : List Key) (w : Company) (events : List Event) → IsLawful keys → IsGoodCompany keys w → AllMayOccur keys events w
+    → IsGoodCompany keys (after_events keys events w) × Onward keys w.past.objects (after_events keys events w).past.objects
+
+-- Whatever occurs, the past of a good company stays an image of the plan machine.
+abbrev pub EventsKeepTheImage : Type 0
+EventsKeepTheImage =
+    (keys : List Key) (w : Company) (events : List Event) → IsLawful keys → IsGoodCompany keys w → IsMirrored keys w.past → AllMayOccur keys events w
+    → IsMirrored keys (after_events keys events w).past
+
+-- A good company is safe, where its past is an image of the plan machine.
+abbrev pub GoodIsSafe : Type 0
+GoodIsSafe = (keys : List Key) (w : Company) → IsLawful keys → IsGoodCompany keys w → IsMirrored keys w.past → IsSafeCompany keys w
+
+-- What anybody of a good company saved suits the plan.
+abbrev pub WhatIsSavedSuits : Type 0
+WhatIsSavedSuits = (keys : List Key) (w : Company) → IsLawful keys → IsGoodCompany keys w → All (Suits keys) w.saved
+
+-- A turn of a client, which asks its message and learns from an answer, or that none came, is a list of events at
+-- its place.
+abbrev pub TurnsAreActs : Type 0
+TurnsAreActs =
+    (keys : List Key) (w : Company) (place : ℕ) (c : ClientState) (question : Question) (answer : Option (List ℕ)) → slice_get w.clients place ≡ Some c
+    → after_events keys (acts place c question answer) w
+    ≡ with_client place (taught question answer (after_ask c)) (record w { past = with_asked question.bytes w.past })
+
+-- So is a run: the turns that `drive` promises of its client (*turned*).
+abbrev pub RunsAreActs : Type 0
+RunsAreActs =
+    (keys : List Key) (w : Company) (place : ℕ) (old new : ClientState) (questions : List (List ℕ)) (answers : List (Option (List ℕ)))
+    → slice_get w.clients place ≡ Some old → Turns questions answers old new
+    → (events : List Event) × All (IsActAt place) events × ((after_events keys events w).clients ≡ slice_set w.clients place new)

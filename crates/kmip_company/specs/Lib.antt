@@ -1,0 +1,12 @@
+-- Clients of one plan, any number at once: what may occur, and what then holds.
+
+-- open this first: what a company is, and what may occur in it
+pub mod Companies
+-- what a good company is, and a safe one
+pub mod Safety
+-- what the turns of a client are in a company
+pub mod Acting
+-- what holds of any company
+pub mod Laws
+-- private: the laws of the crates below that these rest on
+pub mod PrivateLawbook

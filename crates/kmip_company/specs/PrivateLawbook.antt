@@ -1,0 +1,30 @@
+-- Private: the laws of the crates below that the proofs use.
+-- Source: own (view).
+use Rattle.kmip_client.specs.Laws.{AsksWhatItMay, HearingKeepsTheTruth, HeldForGood, HeldIsNoConflict, LosingKeepsTheTruth, OnwardToItself, OnwardTwice}
+use Rattle.kmip_messages.specs.Items.{ReadAreSaid}
+use Rattle.kmip_plan.specs.ChainLaws.{PlacesAndSteps, ReachedIsWithin}
+use Rattle.kmip_plan.specs.Laws.{KeysAreFound}
+use Rattle.kmip_protocol.specs.Laws.{AnswersAreTrue, AskingKeepsSound, AskingKeepsTheImage, DeliveriesKeepSound, DeliveriesKeepTheImage, NothingDoneIsSound, ObjectsGoOnward, OpeningIsMirrored, SoundIsSafe}
+
+-- The laws of the crates below.
+pub record Lawbook : Type 0 where
+  pub found : KeysAreFound
+  pub places : PlacesAndSteps
+  pub within : ReachedIsWithin
+  pub said : ReadAreSaid
+  pub itself : OnwardToItself
+  pub twice : OnwardTwice
+  pub known : HeldForGood
+  pub hears : HearingKeepsTheTruth
+  pub loses : LosingKeepsTheTruth
+  pub no_conflict : HeldIsNoConflict
+  pub asks : AsksWhatItMay
+  pub onward : ObjectsGoOnward
+  pub deliveries : DeliveriesKeepSound
+  pub asking : AskingKeepsSound
+  pub answers : AnswersAreTrue
+  pub begins : NothingDoneIsSound
+  pub safe : SoundIsSafe
+  pub opening : OpeningIsMirrored
+  pub image_asked : AskingKeepsTheImage
+  pub image_delivered : DeliveriesKeepTheImage

@@ -1,0 +1,81 @@
+//! What holds of any company, each as the contract of a function that does nothing.
+ghost use Rattle.kmip_company.specs.PrivateLawbook.{Lawbook};
+ghost use Rattle.kmip_company.specs.Laws.{
+  AnyCompanyIsSafe,
+  EventsKeepTheGood,
+  EventsKeepTheImage,
+  GoodIsSafe,
+  NobodyIsGood,
+  RunsAreActs,
+  TurnsAreActs,
+  WhatIsSavedSuits,
+};
+
+use kmip_client::laws::{
+    hearing_keeps_the_truth, onward_is_an_order, truth_is_for_good, what_is_asked_may_be,
+    what_is_true_is_no_conflict,
+};
+use kmip_messages::laws::answer_laws;
+use kmip_plan::chain_laws::{states_have_places, steps_have_places};
+use kmip_plan::laws::keys_have_names;
+use kmip_protocol::laws::{
+    answers_are_true, asking_keeps_sound, deliveries_keep_sound, nothing_done_is_sound,
+    objects_go_onward, opening_is_mirrored, sound_is_safe, the_image_is_kept,
+};
+
+/// The laws of the crates below.
+fn laws_below()
+    ensures { Lawbook }
+{
+    keys_have_names();
+    steps_have_places();
+    states_have_places();
+    answer_laws();
+    onward_is_an_order();
+    truth_is_for_good();
+    hearing_keeps_the_truth();
+    what_is_true_is_no_conflict();
+    what_is_asked_may_be();
+    objects_go_onward();
+    deliveries_keep_sound();
+    asking_keeps_sound();
+    answers_are_true();
+    nothing_done_is_sound();
+    sound_is_safe();
+    opening_is_mirrored();
+    the_image_is_kept();
+}
+
+/// Any number of clients of one plan may live at once. Whatever they, the network and the server do, from
+/// where nothing of the plan has happened: the headline holds, of all that any of them ever reported or saved,
+/// what happened is an image of the plan machine, and no client finds a conflict.
+pub fn any_company_is_safe()
+    ensures { AnyCompanyIsSafe }
+{
+    laws_below();
+}
+
+/// What is kept by whatever occurs in a company.
+pub fn good_companies_stay_good()
+    // Where the past is sound, a company of nobody is good.
+    ensures begin { NobodyIsGood }
+    // A good company is good after any events, and the objects have gone onward.
+    ensures good { EventsKeepTheGood }
+    // The past of a good company that is an image of the plan machine is one still.
+    ensures image { EventsKeepTheImage }
+    // A good company is safe, where its past is an image of the plan machine.
+    ensures safe { GoodIsSafe }
+    // What anybody of a good company saved suits the plan, so that a client may begin from it.
+    ensures suits { WhatIsSavedSuits }
+{
+    laws_below();
+}
+
+/// What a client does in its turns is a list of events of a company at its place, whatever else occurs before and
+/// after it.
+pub fn runs_are_acts()
+    // A turn is one: it asks its message, and learns from an answer or that none came.
+    ensures turn { TurnsAreActs }
+    // So is a run, whose turns `drive` promises.
+    ensures run { RunsAreActs }
+{}

@@ -1,0 +1,8 @@
+//! Any number of clients of one plan at once, and what holds of them.
+//!
+//! A company is what clients of one plan and their server are to each other at a moment. Each client begins from
+//! nothing, or from what any of them saved, and is killed at any moment. Their exchanges overlap as they like:
+//! one event is one move of the network or the server, or one thing that one client does.
+#![tactic(auto)]
+
+pub mod laws;
