@@ -33,7 +33,7 @@ SIZES = {
     'docs/OPERATING.md': (16_000, None),
     'docs/PROFILE.md': (12_000, None),
     'docs/PROOF-GUIDE.md': (18_000, None),
-    'docs/PROOF.md': (12_500, None),
+    'docs/PROOF.md': (12_700, None),
     'docs/TESTING.md': (8_000, None),
 }
 

@@ -115,7 +115,7 @@ good_asked l keys w place c question lawful good is about =
 
 -- ---- what is heard
 
-held_read : Lawbook → (keys : List Key) (objects : List Object) (knowns : List Knowledge) (bytes : List ℕ) (read : Result (List Reply) MessageFault) → replies_read bytes ≡ read
+pub held_read : Lawbook → (keys : List Key) (objects : List Object) (knowns : List Knowledge) (bytes : List ℕ) (read : Result (List Reply) MessageFault) → replies_read bytes ≡ read
     → All (TrueReply keys objects) (replies_in bytes) → Held objects keys knowns → Held objects keys (knowns_heard knowns (hear_all keys knowns read))
 held_read l keys objects knowns bytes (Ok replies) is told held =
     l.hears objects keys replies knowns held (subst (λ rs. All (TrueReply keys objects) rs) (l.said bytes replies is) told)

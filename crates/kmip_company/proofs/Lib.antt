@@ -3,3 +3,4 @@ pub mod TruthLemmas
 pub mod EventLemmas
 pub mod SuitLemmas
 pub mod ActLemmas
+pub mod AmidLemmas

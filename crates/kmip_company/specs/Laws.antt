@@ -1,11 +1,12 @@
 -- What holds of any company of clients of one plan.
 -- Source: own (law).
-use Rattle.std.specs.Prelude.{◌≡◌, List, Option, Some, slice_get, slice_set, ℕ}
+use Rattle.std.specs.Prelude.{◌*◌, ◌+◌, ◌≡◌, ◌≤◌, List, Option, Some, slice_get, slice_set, ℕ}
 use Rattle.std.specs.List.{All}
 use Rattle.kmip_client.specs.Asking.{after_ask}
-use Rattle.kmip_client.specs.Clients.{ClientState}
+use Rattle.kmip_client.specs.Clients.{ClientState, fresh}
 use Rattle.kmip_client.specs.Places.{Onward}
 use Rattle.kmip_client.specs.declared.question.Question.{Question}
+use Rattle.kmip_plan.specs.Chains.{bound}
 use Rattle.kmip_plan.specs.Plans.{IsLawful}
 use Rattle.kmip_plan.specs.declared.key.Key.{Key}
 use Rattle.kmip_progress.specs.Suiting.{Suits}
@@ -16,6 +17,7 @@ use Rattle.kmip_protocol.specs.Sound.{Opening, Sound}
 use Rattle.kmip_protocol.specs.Turns.{taught}
 use Rattle.kmip_runs.specs.Turning.{Turns}
 use Rattle.kmip_company.specs.Acting.{IsActAt, acts}
+use Rattle.kmip_company.specs.Amid.{AllMayPass, Passing, StandsWell, Standing, after_passings, all_cost, left_amid, went_well}
 use Rattle.kmip_company.specs.Companies.{AllMayOccur, Company, Event, after_events, nobody, with_client}
 use Rattle.kmip_company.specs.Safety.{IsGoodCompany, IsSafeCompany}
 
@@ -63,3 +65,18 @@ RunsAreActs =
     (keys : List Key) (w : Company) (place : ℕ) (old new : ClientState) (questions : List (List ℕ)) (answers : List (Option (List ℕ)))
     → slice_get w.clients place ≡ Some old → Turns questions answers old new
     → (events : List Event) × All (IsActAt place) events × ((after_events keys events w).clients ≡ slice_set w.clients place new)
+
+-- A client amid others: its exchanges that go well and those that may be left are no more than were left before, and
+-- what its other exchanges cost.
+abbrev pub WhatIsLeftIsPaid : Type 0
+WhatIsLeftIsPaid =
+    (keys : List Key) (passings : List Passing) (s : Standing) → IsLawful keys → StandsWell keys s → AllMayPass keys passings s
+    → went_well passings + left_amid keys (after_passings keys passings s) ≤ left_amid keys s + all_cost keys passings
+
+-- Nobody is kept from its end, whatever the others do. From where nothing of the plan has happened a client makes at
+-- most twice the plan's bound of exchanges that go well, and what its other exchanges cost.
+abbrev pub NobodyIsKept : Type 0
+NobodyIsKept =
+    (keys : List Key) (p : Past) (passings : List Passing) → IsLawful keys → Opening keys p
+    → AllMayPass keys passings (record { knowns = (fresh keys).knowns; past = p })
+    → went_well passings ≤ 2 * bound keys + all_cost keys passings

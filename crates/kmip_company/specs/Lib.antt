@@ -6,6 +6,8 @@ pub mod Companies
 pub mod Safety
 -- what the turns of a client are in a company
 pub mod Acting
+-- one client amid others, and how many exchanges it may still make
+pub mod Amid
 -- what holds of any company
 pub mod Laws
 -- private: the laws of the crates below that these rest on

@@ -3,8 +3,9 @@
 use Rattle.kmip_client.specs.Laws.{AsksWhatItMay, HearingKeepsTheTruth, HeldForGood, HeldIsNoConflict, LosingKeepsTheTruth, OnwardToItself, OnwardTwice}
 use Rattle.kmip_messages.specs.Items.{ReadAreSaid}
 use Rattle.kmip_plan.specs.ChainLaws.{PlacesAndSteps, ReachedIsWithin}
-use Rattle.kmip_plan.specs.Laws.{KeysAreFound}
-use Rattle.kmip_protocol.specs.Laws.{AnswersAreTrue, AskingKeepsSound, AskingKeepsTheImage, DeliveriesKeepSound, DeliveriesKeepTheImage, NothingDoneIsSound, ObjectsGoOnward, OpeningIsMirrored, SoundIsSafe}
+use Rattle.kmip_plan.specs.Laws.{BoundsAddUp, KeysAreFound}
+use Rattle.kmip_protocol.specs.LosingLaws.{CleanTurnsAreNearer, DisturbedTurnsCostTwoEach, LateArrivalsAddNothing, OpeningLeavesTheBound}
+use Rattle.kmip_protocol.specs.Laws.{AnswersAreTrue, AskingKeepsSound, AskingKeepsTheImage, DeliveriesKeepSound, DeliveriesKeepTheImage, DeliveriesKeepTheRequests, ExchangesKeepSound, NothingDoneIsSound, ObjectsGoOnward, OpeningIsMirrored, SoundIsSafe}
 
 -- The laws of the crates below.
 pub record Lawbook : Type 0 where
@@ -28,3 +29,10 @@ pub record Lawbook : Type 0 where
   pub opening : OpeningIsMirrored
   pub image_asked : AskingKeepsTheImage
   pub image_delivered : DeliveriesKeepTheImage
+  pub late : LateArrivalsAddNothing
+  pub clean : CleanTurnsAreNearer
+  pub disturbed : DisturbedTurnsCostTwoEach
+  pub all_left : OpeningLeavesTheBound
+  pub grows : DeliveriesKeepTheRequests
+  pub exchanged : ExchangesKeepSound
+  pub bounds : BoundsAddUp

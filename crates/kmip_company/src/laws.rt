@@ -6,8 +6,10 @@ ghost use Rattle.kmip_company.specs.Laws.{
   EventsKeepTheImage,
   GoodIsSafe,
   NobodyIsGood,
+  NobodyIsKept,
   RunsAreActs,
   TurnsAreActs,
+  WhatIsLeftIsPaid,
   WhatIsSavedSuits,
 };
 
@@ -17,10 +19,14 @@ use kmip_client::laws::{
 };
 use kmip_messages::laws::answer_laws;
 use kmip_plan::chain_laws::{states_have_places, steps_have_places};
-use kmip_plan::laws::keys_have_names;
+use kmip_plan::laws::{bounds_add_up, keys_have_names};
 use kmip_protocol::laws::{
-    answers_are_true, asking_keeps_sound, deliveries_keep_sound, nothing_done_is_sound,
-    objects_go_onward, opening_is_mirrored, sound_is_safe, the_image_is_kept,
+    answers_are_true, asking_keeps_sound, deliveries_keep_sound, deliveries_keep_the_requests,
+    exchanges_keep_sound, nothing_done_is_sound, objects_go_onward, opening_is_mirrored,
+    sound_is_safe, the_image_is_kept,
+};
+use kmip_protocol::losing_laws::{
+    a_losing_turn_is_bounded, late_arrivals_add_nothing, left_is_bounded,
 };
 
 /// The laws of the crates below.
@@ -28,6 +34,7 @@ fn laws_below()
     ensures { Lawbook }
 {
     keys_have_names();
+    bounds_add_up();
     steps_have_places();
     states_have_places();
     answer_laws();
@@ -44,6 +51,11 @@ fn laws_below()
     sound_is_safe();
     opening_is_mirrored();
     the_image_is_kept();
+    deliveries_keep_the_requests();
+    exchanges_keep_sound();
+    late_arrivals_add_nothing();
+    a_losing_turn_is_bounded();
+    left_is_bounded();
 }
 
 /// Any number of clients of one plan may live at once. Whatever they, the network and the server do, from
@@ -79,3 +91,15 @@ pub fn runs_are_acts()
     // So is a run, whose turns `drive` promises.
     ensures run { RunsAreActs }
 {}
+
+/// Nobody is kept from its end by others of its plan, whatever they ask and whatever arrives meanwhile. Each exchange
+/// of its own stands in one piece there.
+pub fn nobody_is_kept_from_its_end()
+    // The exchanges that went well, and those that may be left, are no more than were left before, and what the
+    // others cost.
+    ensures paid { WhatIsLeftIsPaid }
+    // From where nothing of the plan has happened that is at most twice the plan's bound, and this cost.
+    ensures bounded { NobodyIsKept }
+{
+    laws_below();
+}

@@ -1,0 +1,9 @@
+-- Passing by passing.
+use Rattle.kmip_company.proofs.AmidLemmas.{kept_bounded, left_paid}
+use Rattle.kmip_company.proofs.laws.nobody_is_kept_from_its_end.Goals as goal
+
+pub returns-clause-paid : goal.returns-clause-paid
+returns-clause-paid c = λ keys passings s lawful well may. left_paid c.laws_below.ensures keys passings s lawful well may
+
+pub returns-clause-bounded : goal.returns-clause-bounded
+returns-clause-bounded c = λ keys p passings lawful opening may. kept_bounded c.laws_below.ensures keys p passings lawful opening may
