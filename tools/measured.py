@@ -164,6 +164,11 @@ def read_bench(page, log, origin):
     for batch, exchanges, sim, run in re.findall(
             r'^1,000 keys, --batch (\d): (\d+) exchanges; sim (\d+) ms, run --loopback (\d+) ms', log, re.M):
         rows.append([f'1,000 keys, `--batch {batch}`: `sim`, `run --loopback`', f'{sim} ms, {run} ms', '', f'{exchanges} exchanges', ''])
+    for texts, size, run, bare, ratio, aim in re.findall(
+            r'^1,000 keys, (\d+) texts of .*, (\d+) MB: run --loopback (\d+) ms, a bare loop (\d+) ms, '
+            r'ratio ([\d.]+) \(aim: at most ([\d.]+)\)', log, re.M):
+        rows.append([f'1,000 keys, {texts} texts of {size} MB in all: `run --loopback`, a bare loop that writes them',
+                     f'{run} ms', f'{bare} ms', ratio, aim])
     for row in rows:
         page.put('bench', row + [origin], by_first(row))
     return bool(rows)

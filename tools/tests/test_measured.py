@@ -33,6 +33,7 @@ kmipctl: 300 bytes an object beyond its data (aim: at most 290)
 baseline: 310 bytes an object beyond its data (aim: at most 290)
 sim of 10, 100 and 1,000 keys, 3 exchanges a key: 1.00, 2.00 and 16.00 ms, growth from 100 to 1,000 8.00 (aim: at most 11)
 1,000 keys, --batch 8: 375 exchanges; sim 28 ms, run --loopback 700 ms, with the waits for the disk
+1,000 keys, 2001 texts of 17918 to 22704 bytes, 40 MB: run --loopback 3100 ms, a bare loop 2500 ms, ratio 1.24 (aim: at most 1.3)
 '''
 REFUSE = '''answer: 4 growths refused, one a run: each time whole lines, `no memory` and exit status 1
 answer: 4 growths refused, each with all after it: the same each time
@@ -110,7 +111,9 @@ class Measured(Scratch):
             ['growth: Create, a used name', '2.00', '2.50', '0.80', '1.3', ORIGIN],
             ['bytes of an object beyond its data', '300', '310', '', '290', ORIGIN],
             ['`sim` of 10, 100 and 1,000 keys; the growth from 100', '1.00, 2.00, 16.00 ms', '', '8.00', '11', ORIGIN],
-            ['1,000 keys, `--batch 8`: `sim`, `run --loopback`', '28 ms, 700 ms', '', '375 exchanges', '', ORIGIN]])
+            ['1,000 keys, `--batch 8`: `sim`, `run --loopback`', '28 ms, 700 ms', '', '375 exchanges', '', ORIGIN],
+            ['1,000 keys, 2001 texts of 40 MB in all: `run --loopback`, a bare loop that writes them',
+             '3100 ms', '2500 ms', '1.24', '1.3', ORIGIN]])
 
     def test_growths(self):
         self.write_page(growths=[['answer', '3', 'old']])
