@@ -33,6 +33,7 @@ ITEM = '4200080100000000\n'
 
 MISSING = 'No such file or directory (os error 2)'
 FOLDER = 'Is a directory (os error 21)'
+NO_DISK = 'Input/output error (os error 5)'
 FULL = 'No space left on device (os error 28)'
 READ_ONLY = 'Read-only file system (os error 30)'
 NO_READER = 'Broken pipe (os error 32)'
@@ -169,6 +170,22 @@ class Causes:
         os.mkdir(self.path('there.new'))
         self.progress('a folder in the way of a progress behind a link', 'cannot write plan.progress\n',
                       f': {FOLDER}; {UNKNOWN_EFFECT}: run again')
+        self.start()
+
+    def unsynced_folder(self):
+        """At the end of a run the folder of a progress that was there before is not brought to the disk."""
+        what = 'a folder that cannot be brought to the disk'
+        # The first fsync is that of the folder for the origin: the bytes of files are brought there by fdatasync.
+        failing = ['strace', '-f', '-qq', '-o', '/dev/null', '-e', 'inject=fsync:error=EIO:when=2']
+        if not shutil.which('strace') or subprocess.run([*failing, 'true'], capture_output=True).returncode:
+            self.skip(what, 'as no strace can be had')
+            return
+        self.start()
+        self.run((*RUN, '--progress', 'p', '--limit', '1'), stdout=subprocess.PIPE, stderr=subprocess.PIPE)
+        done = subprocess.run([*failing, self.program, *RUN, '--progress', 'p'], cwd=self.folder, text=True, timeout=60,
+                              env=AROUND, stdin=subprocess.DEVNULL, capture_output=True)
+        self.look(what, (done.returncode, 0), (done.stdout, FINISHED), (self.text('p'), ALL_KNOWN),
+                  (done.stderr, f'p: {NO_DISK}; all is written, but a power cut may bring an older text back, which is true too\n'))
         self.start()
 
     def on_disk(self, what, options, left, printed, told):
@@ -412,6 +429,7 @@ def main():
     causes.unread_plans()
     causes.unread_progress()
     causes.unwritten_progress()
+    causes.unsynced_folder()
     causes.disks()
     causes.sockets()
     causes.outputs()
