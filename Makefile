@@ -19,6 +19,7 @@
 # make reports    reads what each command prints with --json by another reader (needs python3)
 # make installed  installs it into a scratch folder, and carries out a timer's day there (needs python3)
 # make tls        carries a plan out over TLS between two tunnels, with client certificates (needs openssl, stunnel)
+# make pykmip     probes PyKMIP's engine, and carries a plan out against it (needs python3-pykmip of Debian)
 # make reading    lists the public functions; with FUNCTION=crate::name [CLAUSE=name], what they rest on (needs python3)
 # make reference  writes a page for each crate to out/reference, from the sources (needs python3)
 # make man        writes docs/man, from the help texts of the program and OPERATING and PROFILE (needs python3)
@@ -34,7 +35,7 @@ DESTDIR =
 growths := crates/test_memory/out/test_memory
 sources := crates.txt $(shell find crates -name out -prune -o \( -name '*.rt' -o -name '*.antt' \) -print)
 
-.PHONY: all install uninstall dist deb demo check test rows bench refuse faults hostile storm peers troubles origin causes reports installed tls reading reference man layers examples documents tools help
+.PHONY: all install uninstall dist deb demo check test rows bench refuse faults hostile storm peers troubles origin causes reports installed tls pykmip reading reference man layers examples documents tools help
 
 all: $(program)
 
@@ -106,6 +107,9 @@ installed: $(program)
 
 tls: $(program)
 	@examples/tls/tls.sh $(program)
+
+pykmip: $(program)
+	@python3 bench/pykmip.py $(program) out/pykmip
 
 reading:
 	@python3 tools/reading.py $(FUNCTION) $(CLAUSE)

@@ -35,6 +35,7 @@ TRIALS = [
     ('hostile', ['bench/hostile.sh', PROGRAM], []),
     ('tls', ['examples/tls/tls.sh', PROGRAM], [['openssl'], ['stunnel4', 'stunnel']]),
     ('storm', ['bench/storm.sh', PROGRAM, '40'], [['rustc']]),
+    ('pykmip', ['python3', 'bench/pykmip.py', PROGRAM, 'out/pykmip'], [['pykmip-server']]),
     ('examples', ['python3', 'tools/examples.py', PROGRAM], []),
     ('documents', ['python3', 'tools/reading.py', '--check'], []),
     ('tools', ['python3', '-B', '-m', 'unittest', 'discover', 'tools/tests'], []),

@@ -34,6 +34,7 @@ SIZES = {
     'docs/PROFILE.md': (12_000, None),
     'docs/PROOF-GUIDE.md': (18_000, None),
     'docs/PROOF.md': (12_700, None),
+    'docs/SERVERS.md': (3_000, None),
     'docs/TESTING.md': (8_000, None),
 }
 
