@@ -1,11 +1,11 @@
 -- What may be left for a client amid others.
-use Rattle.std.proofs.Common.{◌≡◌, ◌≤◌, ◌*◌, ◌+◌, ◌++◌, ◌∷◌, ◌∙◌, ◌||◌, [], ap, arith, Bool, Err, false, filter, if◌then◌else◌, IfSome, length, List, nat_le, not, None, Ok, Option, refl, Result, slice_get, Some, subst, suc, sym, true, zero, ℕ}
+use Rattle.std.proofs.Common.{◌≡◌, ◌<◌, ◌≤◌, ◌*◌, ◌+◌, ◌++◌, ◌∷◌, ◌∙◌, ◌||◌, [], ap, arith, Bool, Err, false, filter, if◌then◌else◌, IfSome, length, List, nat_le, not, None, Ok, Option, refl, Result, slice_get, Some, subst, suc, sym, true, zero, ℕ}
 use Rattle.std.specs.List.{All}
 use Rattle.std.specs.Option.{is_none, option_map_or}
 use Rattle.std.proofs.lemmas.List.Folds.{list_any-append}
 use Rattle.kmip_batch_items.specs.declared.request.Request.{Request}
 use Rattle.kmip_client.specs.Asking.{IsAbout}
-use Rattle.kmip_client.specs.Clients.{changed_at, fresh, lost_working, one_if}
+use Rattle.kmip_client.specs.Clients.{changed_at, fresh, lost_working, one_if, verdict_at}
 use Rattle.kmip_client.specs.Hearing.{hear}
 use Rattle.kmip_client.specs.Held.{Held}
 use Rattle.kmip_client.specs.Known.{knowns_heard}
@@ -17,6 +17,7 @@ use Rattle.kmip_client.specs.declared.heard.Heard.{Heard}
 use Rattle.kmip_client.specs.declared.knowledge.Knowledge.{Knowledge}
 use Rattle.kmip_client.specs.declared.part.Part.{Part}
 use Rattle.kmip_client.specs.declared.question.Question.{Question}
+use Rattle.kmip_client.specs.declared.verdict.Verdict.TheVariants.{Finished}
 use Rattle.kmip_messages.specs.Batches.{replies_read}
 use Rattle.kmip_messages.specs.Items.{requests_in}
 use Rattle.kmip_objects.specs.Objects.{Object, object_named}
@@ -263,3 +264,11 @@ kept_bounded l keys p passings lawful opening may =
     let left = l.all_left keys p lawful opening in
     let within = unasked_within l keys p.requests in
     omega (arith, paid, left, within)
+
+-- ---- the end
+
+pub nothing_left : Lawbook → (keys : List Key) (s : Standing) → StandsWell keys s → left_amid keys s ≡ 0
+    → (place : ℕ) → place < length keys → verdict_at keys s.knowns place ≡ Finished
+nothing_left l keys s well none =
+    let needs = l.needs_left keys s.past s.knowns in
+    l.needless keys s.past.objects s.knowns well.held (omega (arith, needs, none))

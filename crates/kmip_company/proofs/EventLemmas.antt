@@ -1,5 +1,5 @@
 -- Each event keeps a company good and its past an image.
-use Rattle.std.proofs.Common.{◌≡◌, ◌≢◌, ◌++◌, ◌∷◌, [], arith, Err, List, map, None, Ok, Option, refl, Result, slice_get, Some, subst, sym, ℕ}
+use Rattle.std.proofs.Common.{◌≡◌, ◌≢◌, ◌≤◌, ◌+◌, ◌++◌, ◌∷◌, [], arith, Err, length, List, map, None, Ok, Option, refl, Result, slice_get, Some, subst, sym, ℕ}
 use Rattle.std.specs.List.{All}
 use Rattle.std.proofs.lemmas.List.Elements.{All-append, All-contains, All-nil, All-weaker}
 use Rattle.kmip_batch_items.specs.declared.message_fault.MessageFault.{MessageFault}
@@ -28,7 +28,9 @@ use Rattle.kmip_protocol.specs.Exchanges.{AreGiven, with_asked}
 use Rattle.kmip_protocol.specs.Laws.{IsReached}
 use Rattle.kmip_protocol.specs.Machine.{IsMirrored}
 use Rattle.kmip_protocol.specs.Moves.{Delivered, MayHappen, Move, after_move}
+use Rattle.kmip_protocol.specs.Needs.{missing}
 use Rattle.kmip_protocol.specs.Past.{Past, is_planned}
+use Rattle.kmip_protocol.specs.Ready.{IsReady}
 use Rattle.kmip_protocol.specs.Sound.{Sound}
 use Rattle.kmip_runs.specs.Headline.{reported_by}
 use Rattle.kmip_server.specs.declared.effect.Effect.{Effect}
@@ -280,3 +282,9 @@ safe_company l keys w lawful good image = record {
   no_conflict = λ c among place clash. clients_agree l keys w c (All-contains (IsMember keys w.past.objects) w.clients c good.members among) place clash;
   good = good;
 }
+
+pub all_ready : Lawbook → (keys : List Key) (w : Company) → IsGoodCompany keys w → length w.past.objects + missing keys w.past.objects ≤ w.past.room
+    → All (λ (c : ClientState). IsReady w.past.room keys w.past.objects c.knowns) w.clients
+all_ready l keys w good roomy =
+    All-weaker (IsMember keys w.past.objects) (λ (c : ClientState). IsReady w.past.room keys w.past.objects c.knowns)
+    (λ c m. l.ready keys w.past c.knowns good.sound m.held roomy) w.clients good.members

@@ -1,18 +1,22 @@
 -- What holds of any company of clients of one plan.
 -- Source: own (law).
-use Rattle.std.specs.Prelude.{◌*◌, ◌+◌, ◌≡◌, ◌≤◌, List, Option, Some, slice_get, slice_set, ℕ}
+use Rattle.std.specs.Prelude.{◌*◌, ◌+◌, ◌<◌, ◌≡◌, ◌≤◌, List, Option, Some, length, slice_get, slice_set, ℕ}
 use Rattle.std.specs.List.{All}
 use Rattle.kmip_client.specs.Asking.{after_ask}
-use Rattle.kmip_client.specs.Clients.{ClientState, fresh}
+use Rattle.kmip_client.specs.Clients.{ClientState, fresh, verdict_at}
+use Rattle.kmip_client.specs.Justified.{Justified}
 use Rattle.kmip_client.specs.Places.{Onward}
 use Rattle.kmip_client.specs.declared.question.Question.{Question}
+use Rattle.kmip_client.specs.declared.verdict.Verdict.TheVariants.{Finished}
 use Rattle.kmip_plan.specs.Chains.{bound}
 use Rattle.kmip_plan.specs.Plans.{IsLawful}
 use Rattle.kmip_plan.specs.declared.key.Key.{Key}
 use Rattle.kmip_progress.specs.Suiting.{Suits}
 use Rattle.kmip_protocol.specs.Exchanges.{with_asked}
 use Rattle.kmip_protocol.specs.Machine.{IsMirrored}
+use Rattle.kmip_protocol.specs.Needs.{missing}
 use Rattle.kmip_protocol.specs.Past.{Past}
+use Rattle.kmip_protocol.specs.Ready.{IsReady}
 use Rattle.kmip_protocol.specs.Sound.{Opening, Sound}
 use Rattle.kmip_protocol.specs.Turns.{taught}
 use Rattle.kmip_runs.specs.Turning.{Turns}
@@ -51,6 +55,17 @@ GoodIsSafe = (keys : List Key) (w : Company) → IsLawful keys → IsGoodCompany
 abbrev pub WhatIsSavedSuits : Type 0
 WhatIsSavedSuits = (keys : List Key) (w : Company) → IsLawful keys → IsGoodCompany keys w → All (Suits keys) w.saved
 
+-- Whatever was asked by anybody of a good company may be asked still.
+abbrev pub WhatWasAskedMayBe : Type 0
+WhatWasAskedMayBe = (keys : List Key) (w : Company) → IsGoodCompany keys w → All (Justified keys w.past.objects) w.past.requests
+
+-- With room for the objects that are missing, each client of a good company is ready to come to its end over a calm
+-- link.
+abbrev pub ClientsAreReady : Type 0
+ClientsAreReady =
+    (keys : List Key) (w : Company) → IsGoodCompany keys w → length w.past.objects + missing keys w.past.objects ≤ w.past.room
+    → All (λ (c : ClientState). IsReady w.past.room keys w.past.objects c.knowns) w.clients
+
 -- A turn of a client, which asks its message and learns from an answer, or that none came, is a list of events at
 -- its place.
 abbrev pub TurnsAreActs : Type 0
@@ -80,3 +95,9 @@ NobodyIsKept =
     (keys : List Key) (p : Past) (passings : List Passing) → IsLawful keys → Opening keys p
     → AllMayPass keys passings (record { knowns = (fresh keys).knowns; past = p })
     → went_well passings ≤ 2 * bound keys + all_cost keys passings
+
+-- Once nothing is left for a client, each of its keys is finished.
+abbrev pub WhoHasNothingLeftIsFinished : Type 0
+WhoHasNothingLeftIsFinished =
+    (keys : List Key) (s : Standing) → StandsWell keys s → left_amid keys s ≡ 0
+    → (place : ℕ) → place < length keys → verdict_at keys s.knowns place ≡ Finished

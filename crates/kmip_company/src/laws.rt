@@ -2,6 +2,7 @@
 ghost use Rattle.kmip_company.specs.PrivateLawbook.{Lawbook};
 ghost use Rattle.kmip_company.specs.Laws.{
   AnyCompanyIsSafe,
+  ClientsAreReady,
   EventsKeepTheGood,
   EventsKeepTheImage,
   GoodIsSafe,
@@ -11,6 +12,8 @@ ghost use Rattle.kmip_company.specs.Laws.{
   TurnsAreActs,
   WhatIsLeftIsPaid,
   WhatIsSavedSuits,
+  WhatWasAskedMayBe,
+  WhoHasNothingLeftIsFinished,
 };
 
 use kmip_client::laws::{
@@ -28,6 +31,7 @@ use kmip_protocol::laws::{
 use kmip_protocol::losing_laws::{
     a_losing_turn_is_bounded, late_arrivals_add_nothing, left_is_bounded,
 };
+use kmip_protocol::settling_laws::{sound_is_ready, who_needs_nothing_is_finished};
 
 /// The laws of the crates below.
 fn laws_below()
@@ -56,6 +60,8 @@ fn laws_below()
     late_arrivals_add_nothing();
     a_losing_turn_is_bounded();
     left_is_bounded();
+    sound_is_ready();
+    who_needs_nothing_is_finished();
 }
 
 /// Any number of clients of one plan may live at once. Whatever they, the network and the server do, from
@@ -79,6 +85,10 @@ pub fn good_companies_stay_good()
     ensures safe { GoodIsSafe }
     // What anybody of a good company saved suits the plan, so that a client may begin from it.
     ensures suits { WhatIsSavedSuits }
+    // Whatever was asked by anybody may be asked still.
+    ensures justified { WhatWasAskedMayBe }
+    // With room for the objects that are missing, each client is ready to come to its end over a calm link.
+    ensures ready { ClientsAreReady }
 {
     laws_below();
 }
@@ -100,6 +110,8 @@ pub fn nobody_is_kept_from_its_end()
     ensures paid { WhatIsLeftIsPaid }
     // From where nothing of the plan has happened that is at most twice the plan's bound, and this cost.
     ensures bounded { NobodyIsKept }
+    // Once nothing is left for it, each of its keys is finished.
+    ensures finished { WhoHasNothingLeftIsFinished }
 {
     laws_below();
 }

@@ -1,5 +1,5 @@
 -- Event by event.
-use Rattle.kmip_company.proofs.EventLemmas.{good_events, image_events, nobody_good, safe_company}
+use Rattle.kmip_company.proofs.EventLemmas.{all_ready, good_events, image_events, nobody_good, safe_company}
 use Rattle.kmip_company.proofs.SuitLemmas.{saved_suits}
 use Rattle.kmip_company.proofs.laws.good_companies_stay_good.Goals as goal
 
@@ -17,3 +17,9 @@ returns-clause-safe c = λ keys w lawful good image. safe_company c.laws_below.e
 
 pub returns-clause-suits : goal.returns-clause-suits
 returns-clause-suits c = λ keys w lawful good. saved_suits c.laws_below.ensures keys w lawful good
+
+pub returns-clause-justified : goal.returns-clause-justified
+returns-clause-justified c = λ keys w good. good.sound.requests
+
+pub returns-clause-ready : goal.returns-clause-ready
+returns-clause-ready c = λ keys w good roomy. all_ready c.laws_below.ensures keys w good roomy

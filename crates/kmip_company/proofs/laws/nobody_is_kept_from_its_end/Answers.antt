@@ -1,5 +1,5 @@
 -- Passing by passing.
-use Rattle.kmip_company.proofs.AmidLemmas.{kept_bounded, left_paid}
+use Rattle.kmip_company.proofs.AmidLemmas.{kept_bounded, left_paid, nothing_left}
 use Rattle.kmip_company.proofs.laws.nobody_is_kept_from_its_end.Goals as goal
 
 pub returns-clause-paid : goal.returns-clause-paid
@@ -7,3 +7,6 @@ returns-clause-paid c = λ keys passings s lawful well may. left_paid c.laws_bel
 
 pub returns-clause-bounded : goal.returns-clause-bounded
 returns-clause-bounded c = λ keys p passings lawful opening may. kept_bounded c.laws_below.ensures keys p passings lawful opening may
+
+pub returns-clause-finished : goal.returns-clause-finished
+returns-clause-finished c = λ keys s well none. nothing_left c.laws_below.ensures keys s well none
