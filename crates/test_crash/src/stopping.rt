@@ -131,7 +131,7 @@ fn each_crash_is_survived(rt: HostRuntime) -> Result<(), Fail> {
         for which in 0..outcomes {
             let course = Course {
                 first,
-                second: SECOND[(first + which) % SECOND.len()],
+                second: SECOND[first.wrapping_add(which) % SECOND.len()],
                 which,
             };
             survive(&rt, alloc, course)?;
