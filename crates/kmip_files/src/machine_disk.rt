@@ -17,38 +17,35 @@ pub(crate) struct MachineDisk<'a, R: Files> {
     rt: &'a R,
     path: &'a str,
     /// The path of the file beside.
-    beside: String,
+    beside: &'a str,
     /// Who may read and write a new file.
     mode: u32,
     /// The file beside, while it is written.
     file: Option<R::File>,
 }
 
-impl<'a, R: Files + AllocGlobal> MachineDisk<'a, R> {
-    /// The file at this path, which is made for whom the mode says.
-    ///
-    /// # Errors
-    /// Where there is no memory.
-    pub(crate) fn at(rt: &'a R, path: &'a str, mode: u32) -> io::Result<Self> {
-        let beside = format!(in rt.alloc(); "{path}.new")?;
-        Ok(MachineDisk {
+impl<'a, R: Files> MachineDisk<'a, R> {
+    /// The file at this path, with the path of the one beside it. It is made for whom the mode says. Takes no
+    /// memory.
+    pub(crate) fn at(rt: &'a R, path: &'a str, beside: &'a str, mode: u32) -> Self {
+        MachineDisk {
             rt,
             path,
             beside,
             mode,
             file: None,
-        })
+        }
     }
 
     /// Makes the file beside, where there is none.
     fn make_beside(&self) -> io::Result<R::File> {
         let mut options = OpenOptions::new();
         options.write(true).create_new(true).mode(self.mode);
-        options.open(self.rt, self.beside.as_str())
+        options.open(self.rt, self.beside)
     }
 }
 
-impl<'a, R: Files + AllocGlobal> Disk for MachineDisk<'a, R> {
+impl<'a, R: Files> Disk for MachineDisk<'a, R> {
     ghost use Rattle.kmip_disk.specs.Private.{unclaimed};
 
     type Fault = Error;
@@ -58,7 +55,7 @@ impl<'a, R: Files + AllocGlobal> Disk for MachineDisk<'a, R> {
     fn create_beside(&mut self) -> io::Result<()> {
         let made = match self.make_beside() {
             Err(error) if error.kind() == ErrorKind::AlreadyExists => {
-                fs::remove_file(self.rt, self.beside.as_str())?;
+                fs::remove_file(self.rt, self.beside)?;
                 self.make_beside()?
             }
             made => made?,
@@ -82,7 +79,7 @@ impl<'a, R: Files + AllocGlobal> Disk for MachineDisk<'a, R> {
     }
 
     fn rename(&mut self) -> io::Result<()> {
-        fs::rename(self.rt, self.beside.as_str(), self.path)
+        fs::rename(self.rt, self.beside, self.path)
     }
 
     fn sync_folder(&mut self) -> io::Result<()> {
@@ -91,7 +88,7 @@ impl<'a, R: Files + AllocGlobal> Disk for MachineDisk<'a, R> {
 
     fn remove_beside(&mut self) -> io::Result<()> {
         self.file = None;
-        fs::remove_file(self.rt, self.beside.as_str())
+        fs::remove_file(self.rt, self.beside)
     }
 
     fn read(&self, alloc: Global) -> io::Result<Option<Vec<u8>>> {

@@ -2,9 +2,11 @@
 
 use crate::links::file_behind;
 use crate::lock_fault::LockFault;
+use crate::machine_disk::MachineDisk;
 use crate::progress_lock::ProgressLock;
 use crate::reading::text_at;
-use crate::replacing::whole_file;
+use crate::replacing::{path_beside, save, whole_file};
+use kmip_disk::WholeFile;
 use std::alloc::Global;
 use std::fs::{self, File, Files};
 use std::io::{self, ErrorKind};
@@ -30,6 +32,8 @@ pub struct ProgressFile<'a, R> {
     rt: &'a R,
     given_path: &'a str,
     path: String,
+    /// The path of the file that takes its place.
+    beside: String,
 }
 
 impl<'a, R: Files + AllocGlobal> ProgressFile<'a, R> {
@@ -41,11 +45,23 @@ impl<'a, R: Files + AllocGlobal> ProgressFile<'a, R> {
     /// Where there is no memory, a link cannot be read, or the links lead in a circle.
     pub fn at(rt: &'a R, given_path: &'a str) -> io::Result<Self> {
         let path = file_behind(rt, given_path)?;
+        let beside = path_beside(rt.alloc(), path.as_str())?;
         Ok(ProgressFile {
             rt,
             given_path,
             path,
+            beside,
         })
+    }
+
+    /// The file, on the disk of this machine.
+    fn whole(&self) -> WholeFile<MachineDisk<'_, R>> {
+        whole_file(
+            self.rt,
+            self.path.as_str(),
+            self.beside.as_str(),
+            OWNER_ALONE,
+        )
     }
 
     /// The system that has the file.
@@ -87,7 +103,7 @@ impl<'a, R: Files + AllocGlobal> ProgressFile<'a, R> {
     /// Where it cannot be written: the file is as it was before, or has the new text. Nothing stays
     /// beside it, if that can be removed.
     pub fn write(&self, text: &[u8]) -> io::Result<()> {
-        whole_file(self.rt, self.path.as_str(), OWNER_ALONE)?.write(text)
+        self.whole().write(text)
     }
 
     /// Makes what was written last: a crash of the machine leaves no text before it.
@@ -96,7 +112,7 @@ impl<'a, R: Files + AllocGlobal> ProgressFile<'a, R> {
     ///
     /// Where the folder cannot be brought to the disk.
     pub fn close(&self) -> io::Result<()> {
-        whole_file(self.rt, self.path.as_str(), OWNER_ALONE)?.close()
+        self.whole().close()
     }
 
     /// Gives the file this text, and makes it last: `write`, and then `close`.
@@ -105,7 +121,7 @@ impl<'a, R: Files + AllocGlobal> ProgressFile<'a, R> {
     ///
     /// As of `write` and `close`.
     pub fn save(&self, text: &[u8]) -> io::Result<()> {
-        whole_file(self.rt, self.path.as_str(), OWNER_ALONE)?.save(text)
+        self.whole().save(text)
     }
 
     /// Gives the file beside this one that says where this one was kept this text, and returns once it
@@ -116,7 +132,7 @@ impl<'a, R: Files + AllocGlobal> ProgressFile<'a, R> {
     /// As of `save`.
     pub fn write_origin(&self, text: &[u8]) -> io::Result<()> {
         let path = self.origin_path()?;
-        whole_file(self.rt, path.as_str(), OWNER_ALONE)?.save(text)
+        save(self.rt, path.as_str(), OWNER_ALONE, text)
     }
 
     /// Gives the file the path of `before_path`, in the place of one that stands there, and returns

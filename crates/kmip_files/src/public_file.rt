@@ -2,7 +2,7 @@
 
 use crate::links::file_behind;
 use crate::reading::text_at;
-use crate::replacing::whole_file;
+use crate::replacing::save;
 use std::alloc::Global;
 use std::fs::{self, Files};
 use std::io;
@@ -55,6 +55,6 @@ impl<'a, R: Files + AllocGlobal> PublicFile<'a, R> {
     /// # Errors
     /// As of `ProgressFile::save`.
     pub fn write(&self, text: &[u8]) -> io::Result<()> {
-        whole_file(self.rt, self.path.as_str(), READ_BY_ALL)?.save(text)
+        save(self.rt, self.path.as_str(), READ_BY_ALL, text)
     }
 }
