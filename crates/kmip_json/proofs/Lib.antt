@@ -5,4 +5,3 @@ mod DocumentLemmas
 mod LookLemmas
 mod PairLemmas
 mod ProbeLemmas
-mod SimLemmas

@@ -1,22 +1,14 @@
 //! What `sim` says of the end of a simulation.
 ghost use Rattle.std.specs.Prelude.{◌≡◌, ◌++◌, IfOk, OnOk, map, string_bytes};
 ghost use Rattle.std.specs.Str.Lines.{lines};
-ghost use Rattle.kmip_server.specs.Shown.{objects_in};
-ghost use Rattle.kmip_store.specs.Stock.{object_of};
 ghost use Rattle.kmip_json.specs.SimJson.{
   ask_line,
-  ask_line_if_any,
-  ask_lines,
-  message_line,
   prolongs_not_line,
-  record_line,
-  record_lines,
   request_word,
   script_fault_line,
+  sim_documents,
   sim_end_lines,
   sim_run_line,
-  sim_run_lines,
-  simulation_lines,
 };
 
 use crate::document::push_document;
@@ -26,11 +18,9 @@ use crate::member::Member;
 use kmip_batch_items::Request;
 use kmip_plan_commands::SimEnd;
 use kmip_runs::RunEnd;
-use kmip_scripted::Scripted;
-use kmip_server::{IndexedStore, Records};
-use kmip_simulation::Simulation;
+use kmip_simulation::{SimForm, push_simulation};
 use kmip_store::Row;
-use kmip_trace::{push_requests, requests_in, state_word};
+use kmip_trace::{push_requests, state_word};
 use kmip_ttlv::NoMemory;
 use std::alloc::{AllocError, Global};
 use std::slice;
@@ -54,7 +44,7 @@ pub fn push_sim_end(alloc: Global, end: &SimEnd, text: &mut Vec<u8>) -> Result<(
         SimEnd::PlanRefused(fault) => push_plan_fault(alloc, fault, None, text),
         SimEnd::ProlongsNot => push_prolongs_not(alloc, text),
         SimEnd::ScriptRefused(line) => push_script_fault(alloc, *line, text),
-        SimEnd::Ran(simulation) => push_simulation(alloc, simulation, text),
+        SimEnd::Ran(simulation) => push_simulation::<SimDocuments>(alloc, simulation, text),
     }
 }
 
@@ -82,39 +72,41 @@ fn push_script_fault(alloc: Global, line: usize, text: &mut Vec<u8>) -> Result<(
     push_document(alloc, &members, text)
 }
 
-/// Appends the lines of a simulation.
-fn push_simulation(
-    alloc: Global,
-    simulation: &Simulation,
-    text: &mut Vec<u8>,
-) -> Result<(), NoMemory>
-    ensures { OnOk result (text.new.items
-        ≡ text.old.items ++ simulation_lines simulation.now) }
-{
-    push_runs(alloc, simulation.end.runs.as_slice(), text)?;
-    if simulation.end.fault.is_some() {
-        return Ok(());
-    }
-    push_asks(alloc, &simulation.link, text)?;
-    push_records(alloc, &simulation.link, text)
-}
+/// A simulation in documents, one a line.
+struct SimDocuments;
 
-/// Appends the lines of the runs.
-fn push_runs(alloc: Global, ends: &[RunEnd], text: &mut Vec<u8>) -> Result<(), NoMemory>
-    ensures { OnOk result (text.new.items ≡ text.old.items ++ sim_run_lines ends.now) }
-{
-    for (place, end) in ends.iter().enumerate() {
-        push_run(alloc, place + 1, end, text)?;
-    }
-    Ok(())
-}
+impl SimForm for SimDocuments {
+    ghost texts = { sim_documents };
 
-/// Appends the line of a run.
-fn push_run(alloc: Global, number: usize, end: &RunEnd, text: &mut Vec<u8>) -> Result<(), NoMemory>
-    ensures { OnOk result (text.new.items ≡ text.old.items ++ sim_run_line number end.now) }
-{
-    let report = lines_of(alloc, end.report.as_str())?;
-    push_run_with(alloc, number, end, report.as_slice(), text)
+    fn push_run(
+        alloc: Global,
+        number: usize,
+        end: &RunEnd,
+        text: &mut Vec<u8>,
+    ) -> Result<(), NoMemory> {
+        let report = lines_of(alloc, end.report.as_str())?;
+        push_run_with(alloc, number, end, report.as_slice(), text)
+    }
+
+    fn push_asked(
+        alloc: Global,
+        number: usize,
+        requests: &[Request],
+        text: &mut Vec<u8>,
+    ) -> Result<(), NoMemory> {
+        let asked = request_words(alloc, requests)?;
+        let words = texts_of(alloc, asked.as_slice())?;
+        push_ask_of(alloc, number, words.as_slice(), text)
+    }
+
+    fn push_object(alloc: Global, row: &Row, text: &mut Vec<u8>) -> Result<(), NoMemory> {
+        let members = [
+            Member::text("record", row.uid.as_str()),
+            Member::text("name", row.attrs.name.as_str()),
+            Member::text("state", state_word(row.state)),
+        ];
+        push_document(alloc, &members, text)
+    }
 }
 
 /// Appends the line of a run, given the lines of its report.
@@ -142,65 +134,6 @@ fn lines_of(alloc: Global, text: &str) -> Result<Vec<&str>, AllocError>
     ensures { IfOk result (λ found. map (λ line. line.now) found.items ≡ lines text.now) }
 {
     text.lines().collect(alloc)
-}
-
-/// Appends the lines of the messages that were ever asked over the link.
-fn push_asks(
-    alloc: Global,
-    link: &Scripted<IndexedStore>,
-    text: &mut Vec<u8>,
-) -> Result<(), NoMemory>
-    ensures { OnOk result (text.new.items ≡ text.old.items ++ ask_lines link.now.asked) }
-{
-    let messages = link.requests();
-    for (place, message) in messages.iter().enumerate() {
-        push_message(alloc, place + 1, message.as_slice(), text)?;
-    }
-    Ok(())
-}
-
-/// Appends the line of a message that was asked, where it asks something.
-fn push_message(
-    alloc: Global,
-    number: usize,
-    message: &[u8],
-    text: &mut Vec<u8>,
-) -> Result<(), NoMemory>
-    ensures { OnOk result (text.new.items ≡ text.old.items ++ message_line number message.now) }
-{
-    let requests = requests_in(alloc, message)?;
-    push_ask_if_any(alloc, number, requests.as_slice(), text)
-}
-
-/// Appends the line of what a message asked, where it is something.
-fn push_ask_if_any(
-    alloc: Global,
-    number: usize,
-    requests: &[Request],
-    text: &mut Vec<u8>,
-) -> Result<(), NoMemory>
-    ensures { OnOk result (text.new.items
-        ≡ text.old.items ++ ask_line_if_any number requests.now) }
-{
-    if requests.is_empty() {
-        return Ok(());
-    }
-    push_ask(alloc, number, requests, text)
-}
-
-/// Appends the line of what a message asked.
-fn push_ask(
-    alloc: Global,
-    number: usize,
-    requests: &[Request],
-    text: &mut Vec<u8>,
-) -> Result<(), NoMemory>
-    ensures { OnOk result (text.new.items
-        ≡ text.old.items ++ ask_line number (map request_word requests.now)) }
-{
-    let asked = request_words(alloc, requests)?;
-    let words = texts_of(alloc, asked.as_slice())?;
-    push_ask_of(alloc, number, words.as_slice(), text)
 }
 
 /// Appends the line of a message whose requests are told by these words.
@@ -247,35 +180,4 @@ fn texts_of(alloc: Global, texts: &[String]) -> Result<Vec<&str>, AllocError>
         ≡ map string_bytes texts.now) }
 {
     texts.iter().map(|text| text.as_str()).collect(alloc)
-}
-
-/// Appends the lines of the objects of the link's server.
-fn push_records(
-    alloc: Global,
-    link: &Scripted<IndexedStore>,
-    text: &mut Vec<u8>,
-) -> Result<(), NoMemory>
-    ensures { OnOk result (text.new.items
-        ≡ text.old.items ++ record_lines (objects_in link.now.stock)) }
-{
-    let records = link.server().records();
-    for place in 0..records.count() {
-        let Some(row) = records.at(place) else {
-            return Ok(());
-        };
-        push_record(alloc, row, text)?;
-    }
-    Ok(())
-}
-
-/// Appends the line of an object.
-fn push_record(alloc: Global, row: &Row, text: &mut Vec<u8>) -> Result<(), NoMemory>
-    ensures { OnOk result (text.new.items ≡ text.old.items ++ record_line (object_of row.now)) }
-{
-    let members = [
-        Member::text("record", row.uid.as_str()),
-        Member::text("name", row.attrs.name.as_str()),
-        Member::text("state", state_word(row.state)),
-    ];
-    push_document(alloc, &members, text)
 }

@@ -8,7 +8,7 @@ use crate::push_refusal;
 use crate::sim_end::SimEnd;
 use kmip_choices::Detail;
 use kmip_message_commands::push_text;
-use kmip_simulation::{Simulation, push_diagram, push_simulation, push_trace};
+use kmip_simulation::{SimLines, Simulation, push_diagram, push_simulation, push_trace};
 use kmip_ttlv::NoMemory;
 use std::alloc::Global;
 
@@ -72,7 +72,7 @@ fn push_told(
             push_diagram(alloc, simulation.words.words(), &simulation.link, text)
         }
         (Detail::Runs, _) | (Detail::Exchanges | Detail::Diagram, Some(NoMemory)) => {
-            push_simulation(alloc, simulation, text)
+            push_simulation::<SimLines>(alloc, simulation, text)
         }
     }
 }
@@ -84,6 +84,6 @@ fn push_traced(alloc: Global, simulation: &Simulation, text: &mut Vec<u8>) -> Re
         ++ sim_text simulation.now.end simulation.now.link)) }
 {
     push_trace(alloc, simulation.words.words(), &simulation.link, text)?;
-    push_simulation(alloc, simulation, text)?;
+    push_simulation::<SimLines>(alloc, simulation, text)?;
     Ok(())
 }

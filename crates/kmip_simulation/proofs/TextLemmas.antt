@@ -1,9 +1,9 @@
 -- Texts of things, one after the other.
-use Rattle.std.proofs.Common.{◌≡◌, ◌+◌, ℕ, zero, suc, List, [], ◌∷◌, ◌++◌, drop, Option, Some, None, refl, sym, ap, ◌∙◌, arith, append_assoc, append-nil}
+use Rattle.std.proofs.Common.{◌≡◌, ◌+◌, ℕ, zero, suc, List, [], ◌∷◌, ◌++◌, drop, Some, None, refl, sym, ap, ◌∙◌, arith, append_assoc, append-nil}
 use Rattle.std.specs.List.{slice_get}
 use Rattle.kmip_store.specs.declared.row.Row.{Row}
 use Rattle.kmip_store.specs.Stock.{object_of, objects_of}
-use Rattle.kmip_simulation.specs.SimText.{numbered_text, record_text, records_text}
+use Rattle.kmip_simulation.specs.SimText.{SimTexts, numbered_text, objects_text}
 
 -- what is written so far, and then the text of the things from a place on, is what was there before and the text of all
 pub record IsWritten {X : Type 0} (text : ℕ → X → List ℕ) (xs : List X) (place : ℕ) (old now : List ℕ) : Type 0 where
@@ -43,15 +43,15 @@ all_written text xs place old now none so_far =
     sym (append-nil now) ∙ ap (λ ys. now ++ numbered_text text (place + 1) ys) (sym (left_none xs place none)) ∙ so_far.whole
 
 -- the same of objects, which have no numbers
-abbrev pub AreListed : List Row → ℕ → List ℕ → List ℕ → Type 0
-AreListed rows place old now = now ++ records_text (objects_of (drop place rows)) ≡ old ++ records_text (objects_of rows)
+abbrev pub AreListed : SimTexts → List Row → ℕ → List ℕ → List ℕ → Type 0
+AreListed texts rows place old now = now ++ objects_text texts (objects_of (drop place rows)) ≡ old ++ objects_text texts (objects_of rows)
 
-pub next_listed : (rows : List Row) (place : ℕ) (row : Row) (old now new : List ℕ) → slice_get rows place ≡ Some row
-    → AreListed rows place old now → new ≡ now ++ record_text (object_of row) → AreListed rows (place + 1) old new
-next_listed rows place row old now new here so_far is =
+pub next_listed : (texts : SimTexts) (rows : List Row) (place : ℕ) (row : Row) (old now new : List ℕ) → slice_get rows place ≡ Some row
+    → AreListed texts rows place old now → new ≡ now ++ texts.object (object_of row) → AreListed texts rows (place + 1) old new
+next_listed texts rows place row old now new here so_far is =
     let at : suc place ≡ place + 1 = omega arith in
     let left : drop place rows ≡ row ∷ drop (place + 1) rows = left_next rows place row here ∙ ap (λ p. row ∷ drop p rows) at in
-    ap (λ ys. ys ++ records_text (objects_of (drop (place + 1) rows))) is
-    ∙ append_assoc now (record_text (object_of row)) (records_text (objects_of (drop (place + 1) rows)))
-    ∙ ap (λ ys. now ++ records_text (objects_of ys)) (sym left)
+    ap (λ ys. ys ++ objects_text texts (objects_of (drop (place + 1) rows))) is
+    ∙ append_assoc now (texts.object (object_of row)) (objects_text texts (objects_of (drop (place + 1) rows)))
+    ∙ ap (λ ys. now ++ objects_text texts (objects_of ys)) (sym left)
     ∙ so_far

@@ -6,12 +6,16 @@
 mod diagram;
 mod moment;
 mod moments;
+mod sim_form;
+mod sim_lines;
 mod simulation;
 mod tracing;
 mod words;
 mod writing;
 
 pub use diagram::push_diagram;
+pub use sim_form::SimForm;
+pub use sim_lines::SimLines;
 pub use simulation::{Simulation, simulate, simulate_again, simulate_plans};
 pub use tracing::push_trace;
-pub use writing::{push_asks, push_records, push_runs, push_simulation};
+pub use writing::{push_asks, push_objects, push_runs, push_simulation};

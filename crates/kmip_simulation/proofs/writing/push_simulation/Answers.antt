@@ -3,4 +3,4 @@ use Rattle.std.proofs.Common.{rules, append_assoc}
 use Rattle.kmip_simulation.proofs.writing.push_simulation.Goals as goal
 
 pub returns : goal.returns
-returns c = search (rules, append_assoc, c.push_records.ensures)
+returns g c = search (rules, append_assoc, c.push_objects.ensures)

@@ -4,7 +4,7 @@ use Rattle.serde_json.specs.Data.{string}
 use Rattle.kmip_json.specs.SimJson.{record_line}
 use Rattle.kmip_json.proofs.LineLemmas.{line_by}
 use Rattle.kmip_json.proofs.PairLemmas.{last, more, said_as}
-use Rattle.kmip_json.proofs.simulating.push_record.Goals as goal
+use Rattle.kmip_json.proofs.simulating.SimDocumentsSimForm.push_object.Goals as goal
 
 pub returns : goal.returns
 unfolding record_line

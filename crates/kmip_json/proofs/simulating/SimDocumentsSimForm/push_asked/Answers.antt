@@ -1,7 +1,7 @@
 -- The words are those of the requests.
 use Rattle.std.proofs.Common.{List, ℕ, ◌≡◌, ◌++◌, OnOk, ap, map, string_bytes, subst, ◌∙◌}
 use Rattle.kmip_json.specs.SimJson.{ask_line}
-use Rattle.kmip_json.proofs.simulating.push_ask.Goals as goal
+use Rattle.kmip_json.proofs.simulating.SimDocumentsSimForm.push_asked.Goals as goal
 
 pub returns : goal.returns
 returns c =
