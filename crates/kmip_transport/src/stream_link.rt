@@ -16,6 +16,9 @@ use std::alloc::Global;
 use std::marker::Model;
 use std::time::{Duration, Instant};
 
+/// In how many parts of its time an exchange waits (own).
+const PARTS: u32 = 16;
+
 /// A link to a server over TCP.
 pub type TcpLink<R> = StreamLink<Tcp<R>>;
 
@@ -39,6 +42,8 @@ pub struct StreamLink<D: Dial + Drop> {
     dial: D,
     limit: Duration,
     stream: Option<D::Stream>,
+    /// How long the stream that was opened last waits by its options; none where these were not set.
+    waits: Option<Duration>,
     end: Option<Instant>,
     failures: u64,
     is_held: bool,
@@ -74,6 +79,7 @@ impl<D: Dial + Drop> StreamLink<D> {
             dial,
             limit,
             stream: None,
+            waits: None,
             end: None,
             failures: 0,
             is_held: false,
@@ -203,26 +209,35 @@ impl<D: Dial + Drop> StreamLink<D> {
         self.end = Some(end);
         let mut stream = match open {
             Some(stream) => stream,
-            None => self.dial.dial(self.limit).ok()?,
+            None => {
+                self.waits = None;
+                self.dial.dial(self.limit).ok()?
+            }
         };
-        send_message(&mut Timed::new(&self.dial, &mut stream, end), request).ok()?;
+        let part = part_of(self.limit);
+        let mut timed = Timed::new(&self.dial, &mut stream, &mut self.waits, end, part);
+        send_message(&mut timed, request).ok()?;
         Some(stream)
     }
 
     /// The reply that comes over the stream. A new framer each time: nothing is left of an earlier
     /// exchange.
     fn received_from(
-        &self,
+        &mut self,
         alloc: Global,
         stream: &mut D::Stream,
-    ) -> Result<Option<Vec<u8>>, LinkFault> {
+    ) -> Result<Option<Vec<u8>>, LinkFault>
+        ensures { self.new ≡ self.old }
+    {
         let Some(end) = self.end else {
             return Ok(None);
         };
         let Ok(mut framer) = Framer::new(alloc) else {
             return Err(LinkFault::NoMemory);
         };
-        receive_message(alloc, &mut Timed::new(&self.dial, stream, end), &mut framer)
+        let part = part_of(self.limit);
+        let mut timed = Timed::new(&self.dial, stream, &mut self.waits, end, part);
+        receive_message(alloc, &mut timed, &mut framer)
     }
 
     /// A reply came over the stream: it is held for the next exchange, or closed where none is held
@@ -253,4 +268,9 @@ impl<D: Dial + Drop> StreamLink<D> {
         self.failures += 1;
         LinkFault::Io
     }
+}
+
+/// A part of the time of an exchange.
+fn part_of(limit: Duration) -> Duration {
+    limit.checked_div(PARTS).unwrap_or(limit)
 }
