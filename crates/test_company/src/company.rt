@@ -1,4 +1,4 @@
-//! Several clients of one plan, and their server.
+//! Several clients, each of a plan, and their server.
 use crate::event::Event;
 use crate::line::Line;
 use kmip_client::{Client, Verdict};
@@ -11,11 +11,17 @@ use kmip_store::ListStore;
 use std::alloc::Global;
 use std::test::Fail;
 
-/// Several clients of one plan, and their server.
+/// A client, and its plan.
+#[derive(Drop)]
+struct Member<'p> {
+    plan: &'p Plan,
+    client: Client<'p>,
+}
+
+/// Several clients, each of a plan, and their server.
 #[derive(Drop)]
 pub(crate) struct Company<'p> {
-    plan: &'p Plan,
-    clients: Vec<Client<'p>>,
+    members: Vec<Member<'p>>,
     server: Server<ListStore>,
     /// A request that is under way.
     late: Option<Vec<u8>>,
@@ -24,15 +30,15 @@ pub(crate) struct Company<'p> {
 }
 
 impl<'p> Company<'p> {
-    /// So many clients that know nothing, and a server with no object.
-    pub(crate) fn new(alloc: Global, plan: &'p Plan, members: usize) -> Result<Self, Fail> {
-        let mut clients = Vec::new(alloc);
-        for _ in 0..members {
-            clients.push(Client::fresh(alloc, plan)?)?;
+    /// A client of each of these plans that knows nothing, and a server with no object.
+    pub(crate) fn new(alloc: Global, plans: &[&'p Plan]) -> Result<Self, Fail> {
+        let mut members = Vec::new(alloc);
+        for plan in plans {
+            let client = Client::fresh(alloc, plan)?;
+            members.push(Member { plan, client })?;
         }
         Ok(Company {
-            plan,
-            clients,
+            members,
             server: Server::new(ListStore::new(alloc, [0; 32], 100)),
             late: None,
             saved: None,
@@ -42,8 +48,8 @@ impl<'p> Company<'p> {
     /// The places of the clients that have work left.
     pub(crate) fn working(&self, alloc: Global) -> Result<Vec<usize>, Fail> {
         let mut places = Vec::new(alloc);
-        for (place, client) in self.clients.iter().enumerate() {
-            if client.working() > 0 {
+        for (place, member) in self.members.iter().enumerate() {
+            if member.client.working() > 0 {
                 places.push(place)?;
             }
         }
@@ -54,14 +60,14 @@ impl<'p> Company<'p> {
     /// it is killed.
     ///
     /// # Errors
-    /// Where a client finds a conflict, and where there is no memory.
+    /// Where there is no memory.
     pub(crate) fn exchange(
         &mut self,
         alloc: Global,
         place: usize,
         event: Event,
     ) -> Result<(), Fail> {
-        let Some(client) = self.clients.get_mut(place) else {
+        let Some(member) = self.members.get_mut(place) else {
             return Err(Fail::new("there is no such client"));
         };
         let mut line = Line {
@@ -69,31 +75,33 @@ impl<'p> Company<'p> {
             late: &mut self.late,
             event,
         };
-        let (stop, _) = drive(alloc, client, &mut line, 1);
-        match stop {
-            Stop::NoMemory => return Err(Fail::new("there is no memory")),
-            Stop::Conflict => return Err(Fail::new("a client finds a conflict")),
-            Stop::AllFinished | Stop::Limit => {}
+        let (stop, _) = drive(alloc, &mut member.client, &mut line, 1);
+        if stop == Stop::NoMemory {
+            return Err(Fail::new("there is no memory"));
         }
         match event {
-            Event::Killed => *client = Client::fresh(alloc, self.plan)?,
+            Event::Killed => member.client = Client::fresh(alloc, member.plan)?,
             Event::Restarted => {
-                *client = match &self.saved {
-                    Some(saved) => Client::resume(alloc, self.plan, saved)?,
-                    None => Client::fresh(alloc, self.plan)?,
+                member.client = match &self.saved {
+                    Some(saved) => Client::resume(alloc, member.plan, saved)?,
+                    None => Client::fresh(alloc, member.plan)?,
                 }
             }
             Event::Served | Event::RequestLost | Event::ReplyLost | Event::Delayed => {
-                self.saved = Some(client.progress(alloc)?);
+                self.saved = Some(member.client.progress(alloc)?);
             }
         }
         Ok(())
     }
 
-    /// Whether each client has finished each key.
-    pub(crate) fn is_finished(&self) -> bool {
-        self.clients.iter().all(|client| {
-            (0..client.plan().count()).all(|key| client.verdict(key) == Verdict::Finished)
+    /// Whether each key has this verdict or the other, for each client.
+    pub(crate) fn is_all(&self, verdict: Verdict, other: Verdict) -> bool {
+        self.members.iter().all(|member| {
+            let client = &member.client;
+            (0..client.plan().count()).all(|key| {
+                let found = client.verdict(key);
+                found == verdict || found == other
+            })
         })
     }
 
