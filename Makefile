@@ -4,7 +4,8 @@
 # make dist       packs these into out/kmipctl-VERSION-ARCH.tar.gz, with their sums (needs python3)
 # make deb        packs them into out/kmipctl_VERSION_ARCH.deb (needs python3, dpkg-deb)
 # make demo       carries out a plan over a network that loses a reply (by rt try where nothing is built)
-# make check      proves what changed since the last check
+# make check      proves each crate that changed since the last commit, or since the revision SINCE, and runs its tests
+# make fmt        lays out the files of all crates
 # make test       the gate: every proof, the wrong bodies, the tests and the stored runs, and then all trials but bench
 # make rows       runs the stored runs without a proof (by rt try where nothing is built)
 # make bench      compares the program with a baseline in plain Rust, times simulations, and draws (needs rustc)
@@ -35,7 +36,7 @@ DESTDIR =
 growths := crates/test_memory/out/test_memory
 sources := crates.txt $(shell find crates -name out -prune -o \( -name '*.rt' -o -name '*.antt' \) -print)
 
-.PHONY: all install uninstall dist deb demo check test rows bench refuse faults hostile storm peers troubles origin causes reports installed tls pykmip reading reference man layers examples documents tools help
+.PHONY: all install uninstall dist deb demo check fmt test rows bench refuse faults hostile storm peers troubles origin causes reports installed tls pykmip reading reference man layers examples documents tools help
 
 all: $(program)
 
@@ -64,7 +65,10 @@ demo:
 	@examples/demo.sh $(program)
 
 check:
-	@rt all check
+	@python3 tools/changed.py check $(SINCE)
+
+fmt:
+	@python3 tools/changed.py fmt
 
 test:
 	@python3 tools/gate.py
