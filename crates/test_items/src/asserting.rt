@@ -25,6 +25,11 @@ pub fn assert_size(
     assert_eq!(rt; parts_of(size), parts_of(wanted), "{case}");
 }
 
+/// Whether the size of an item, or the fault, is the wanted one.
+pub fn is_size(size: Result<usize, TtlvFault>, wanted: Result<usize, TtlvFault>) -> bool {
+    parts_of(size) == parts_of(wanted)
+}
+
 /// A size, or the number of a fault, with its offset.
 fn parts_of(size: Result<usize, TtlvFault>) -> (Result<usize, u32>, Option<usize>) {
     match size {

@@ -1,6 +1,6 @@
 //! Messages cut at each place and with one byte changed, read as items.
 
-use crate::asserting::assert_size;
+use crate::asserting::{assert_size, is_size};
 use crate::items::size_of;
 use kmip_ttlv::{Item, NoMemory, TtlvFault, fits, read, write};
 use std::alloc::Global;
@@ -8,13 +8,56 @@ use std::process::Abort;
 use std::test::Fail;
 use test_support::{ALL, CREATE_K1, CREATE_K1_REPLY, LOCATE_K1, LOCATE_K1_FOUND, changed};
 
-/// A message, and where the header in it ends.
-const MESSAGES: [(&str, usize); 4] = [
-    (LOCATE_K1, 72),
-    (CREATE_K1, 72),
-    (CREATE_K1_REPLY, 88),
-    (LOCATE_K1_FOUND, 88),
+/// A message: what it is called where a test fails, its bytes in hexadecimal, and where its header ends.
+struct Message {
+    name: &'static str,
+    digits: &'static str,
+    header_end: usize,
+}
+
+const MESSAGES: [Message; 4] = [
+    Message {
+        name: "the Locate of k1",
+        digits: LOCATE_K1,
+        header_end: 72,
+    },
+    Message {
+        name: "the Create of k1",
+        digits: CREATE_K1,
+        header_end: 72,
+    },
+    Message {
+        name: "the reply to the Create of k1",
+        digits: CREATE_K1_REPLY,
+        header_end: 88,
+    },
+    Message {
+        name: "the reply that k1 was found",
+        digits: LOCATE_K1_FOUND,
+        header_end: 88,
+    },
 ];
+
+/// One changed byte of a message.
+#[derive(Clone, Copy)]
+struct Change {
+    message: &'static str,
+    place: usize,
+    value: u8,
+}
+
+/// This holds of the message with its changed byte.
+fn assert_of(rt: &impl Abort, holds: bool, change: Change, what: &str) {
+    let Change {
+        message,
+        place,
+        value,
+    } = change;
+    assert!(rt;
+        holds,
+        "{what}: {message}, with {value:#04x} at its byte {place}"
+    );
+}
 
 /// Whether the bytes are the written form but for padding, which is written as zeros.
 fn is_spelled(written: &[u8], bytes: &[u8]) -> bool {
@@ -27,37 +70,44 @@ fn is_spelled(written: &[u8], bytes: &[u8]) -> bool {
 }
 
 /// What was written is the bytes but for padding, and is read again to its end.
-fn assert_spelled(rt: &impl Abort, alloc: Global, written: &[u8], bytes: &[u8]) {
-    assert!(rt; is_spelled(written, bytes), "{bytes:?}");
-    assert_size(rt, size_of(rt, alloc, written), Ok(bytes.len()), "written");
+fn assert_spelled(rt: &impl Abort, alloc: Global, change: Change, written: &[u8], bytes: &[u8]) {
+    assert_of(
+        rt,
+        is_spelled(written, bytes),
+        change,
+        "it is written as it was read",
+    );
+    let is_whole = is_size(size_of(rt, alloc, written), Ok(bytes.len()));
+    assert_of(rt, is_whole, change, "what was written is read to its end");
 }
 
 /// The item fits, and is written as it stands in the bytes.
 fn assert_written(
     rt: &impl Abort,
     alloc: Global,
+    change: Change,
     item: &Item,
     bytes: &[u8],
 ) -> Result<(), NoMemory> {
-    assert!(rt; fits(item));
+    assert_of(rt, fits(item), change, "what is read fits");
     let mut written = Vec::new(alloc);
     write(item, &mut written)?;
-    assert_spelled(rt, alloc, written.as_slice(), bytes);
+    assert_spelled(rt, alloc, change, written.as_slice(), bytes);
     Ok(())
 }
 
-/// The fault is at one of the bytes.
-fn assert_within(rt: &impl Abort, fault: TtlvFault, bytes: &[u8]) {
-    let at = fault.offset().unwrap_or(bytes.len());
-    assert!(rt; at < bytes.len(), "{fault} of {bytes:?}");
-}
-
 /// What is read can be written as it stands in the bytes, and what is refused is at fault in them.
-fn try_bytes(rt: &impl Abort, alloc: Global, bytes: &[u8]) -> Result<(), NoMemory> {
+fn try_bytes(rt: &impl Abort, alloc: Global, change: Change, bytes: &[u8]) -> Result<(), NoMemory> {
     match read(alloc, bytes) {
-        Ok((item, size)) => assert_written(rt, alloc, &item, &bytes[..size]),
+        Ok((item, size)) => assert_written(rt, alloc, change, &item, &bytes[..size]),
         Err(fault) => {
-            assert_within(rt, fault, bytes);
+            let at = fault.offset().unwrap_or(bytes.len());
+            assert_of(
+                rt,
+                at < bytes.len(),
+                change,
+                "the fault is at one of its bytes",
+            );
             Ok(())
         }
     }
@@ -65,14 +115,19 @@ fn try_bytes(rt: &impl Abort, alloc: Global, bytes: &[u8]) -> Result<(), NoMemor
 
 /// A message with each byte in turn changed to each other one, and what comes of it where that is a byte
 /// of its head.
-fn try_changes(rt: &impl Abort, alloc: Global, text: &str, header_end: usize) -> Result<(), Fail> {
-    let bytes = hex::decode(alloc, text)?;
+fn try_changes(rt: &impl Abort, alloc: Global, message: &Message) -> Result<(), Fail> {
+    let bytes = hex::decode(alloc, message.digits)?;
     for place in 0..bytes.len() {
         for value in 0..=255 {
+            let change = Change {
+                message: message.name,
+                place,
+                value,
+            };
             let changed = changed(alloc, bytes.as_slice(), place, value)?;
-            try_bytes(rt, alloc, changed.as_slice())?;
+            try_bytes(rt, alloc, change, changed.as_slice())?;
             if place < 8 {
-                judge_head(rt, alloc, changed.as_slice(), header_end);
+                judge_head(rt, alloc, change, changed.as_slice(), message.header_end);
             }
         }
     }
@@ -104,11 +159,12 @@ fn outcome_of(
 }
 
 /// What comes of a message with this head.
-fn judge_head(rt: &impl Abort, alloc: Global, bytes: &[u8], header_end: usize) {
+fn judge_head(rt: &impl Abort, alloc: Global, change: Change, bytes: &[u8], header_end: usize) {
     if let [_, _, _, item_type, a, b, c, d, ..] = bytes {
         let len = u32::from_be_bytes([*a, *b, *c, *d]) as usize;
         let wanted = outcome_of(*item_type, len, bytes.len(), header_end);
-        assert_size(rt, size_of(rt, alloc, bytes), wanted, "a head");
+        let is_wanted = is_size(size_of(rt, alloc, bytes), wanted);
+        assert_of(rt, is_wanted, change, "its head is judged");
     }
 }
 
@@ -130,16 +186,11 @@ fn lack_ends(rt: &impl Abort, alloc: Global, messages: &[(&str, &str)]) -> Resul
     Ok(())
 }
 
-/// Each change of a byte of each message, behind which stands where the header in it ends.
-fn try_all_changes(rt: &impl Abort, alloc: Global, messages: &[(&str, usize)]) -> Result<(), Fail> {
-    for (text, header_end) in messages {
-        try_changes(rt, alloc, text, *header_end)?;
-    }
-    Ok(())
-}
-
 #[test]
 fn reads_each_front_and_each_change(rt: HostRuntime) -> Result<(), Fail> {
     lack_ends(&rt, rt.alloc(), &ALL)?;
-    try_all_changes(&rt, rt.alloc(), &MESSAGES)
+    for message in &MESSAGES {
+        try_changes(&rt, rt.alloc(), message)?;
+    }
+    Ok(())
 }

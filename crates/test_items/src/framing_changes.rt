@@ -8,10 +8,24 @@ use std::process::Abort;
 use std::test::Fail;
 use test_support::{ALL, changed};
 
-/// The faults that no command shows, with their numbers and names.
-const UNSEEN: [(FrameFault, usize, &str); 2] = [
-    (FrameFault::Failed, 4, "Failed"),
-    (FrameFault::NoMemory, 5, "NoMemory"),
+/// A fault that no command shows.
+struct Unseen {
+    fault: FrameFault,
+    number: usize,
+    name: &'static str,
+}
+
+const UNSEEN: [Unseen; 2] = [
+    Unseen {
+        fault: FrameFault::Failed,
+        number: 4,
+        name: "Failed",
+    },
+    Unseen {
+        fault: FrameFault::NoMemory,
+        number: 5,
+        name: "NoMemory",
+    },
 ];
 
 /// The size that the head of a message says, or why it is no head of one.
@@ -122,9 +136,10 @@ fn frame_all(rt: &impl Abort, alloc: Global, messages: &[(&str, &str)]) -> Resul
 
 #[test]
 fn frames_by_the_head_alone(rt: HostRuntime) -> Result<(), Fail> {
-    for (fault, number, name) in &UNSEEN {
-        assert_text(&rt, fault.name(), name, "a fault");
-        assert_number(&rt, fault.number() as usize, *number, name);
+    for unseen in &UNSEEN {
+        assert_text(&rt, unseen.fault.name(), unseen.name, "a fault");
+        let number = unseen.fault.number() as usize;
+        assert_number(&rt, number, unseen.number, unseen.name);
     }
     frame_all(&rt, rt.alloc(), &ALL)
 }

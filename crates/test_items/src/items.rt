@@ -28,32 +28,86 @@ const DIGITS: [u8; 16] = [
     0x00, 0x00, 0x00, 0x00, 0x03, 0xFD, 0x35, 0xEB, 0x6B, 0xC2, 0xDF, 0x46, 0x18, 0x08, 0x00, 0x00,
 ];
 
-/// How many levels of Structures, and what `read` says of them.
-const LEVELS: [(u32, Result<usize, TtlvFault>); 4] = [
-    (1, Ok(8)),
-    (16, Ok(128)),
-    (17, Err(TtlvFault::TooDeep(128))),
-    (1000, Err(TtlvFault::TooDeep(128))),
+/// So many levels of Structures, and what `read` says of them.
+struct Levels {
+    levels: u32,
+    wanted: Result<usize, TtlvFault>,
+}
+
+const LEVELS: [Levels; 4] = [
+    Levels {
+        levels: 1,
+        wanted: Ok(8),
+    },
+    Levels {
+        levels: 16,
+        wanted: Ok(128),
+    },
+    Levels {
+        levels: 17,
+        wanted: Err(TtlvFault::TooDeep(128)),
+    },
+    Levels {
+        levels: 1000,
+        wanted: Err(TtlvFault::TooDeep(128)),
+    },
 ];
 
-/// The length of a Byte String, how many bytes there are of it, and what `read` says of them.
-const LENGTHS: [(u32, usize, Result<usize, TtlvFault>); 4] = [
-    (8184, 8184, Ok(8192)),
-    (8184, 8183, Err(TtlvFault::Short(0))),
-    (8185, 8192, Err(TtlvFault::TooLong(0))),
-    (8185, 8, Err(TtlvFault::TooLong(0))),
+/// A Byte String, and what `read` says of it.
+struct Length {
+    /// The length that its head says.
+    said: u32,
+    /// How many bytes stand behind the head.
+    bytes: usize,
+    wanted: Result<usize, TtlvFault>,
+}
+
+const LENGTHS: [Length; 4] = [
+    Length {
+        said: 8184,
+        bytes: 8184,
+        wanted: Ok(8192),
+    },
+    Length {
+        said: 8184,
+        bytes: 8183,
+        wanted: Err(TtlvFault::Short(0)),
+    },
+    Length {
+        said: 8185,
+        bytes: 8192,
+        wanted: Err(TtlvFault::TooLong(0)),
+    },
+    Length {
+        said: 8185,
+        bytes: 8,
+        wanted: Err(TtlvFault::TooLong(0)),
+    },
 ];
 
-/// How many bytes a Byte String and a Big Integer have, and whether they fit.
-const FITTING: [(usize, bool, bool); 8] = [
-    (0, true, false),
-    (4, true, false),
-    (8, true, true),
-    (12, true, false),
-    (16, true, true),
-    (8184, true, true),
-    (8185, false, false),
-    (8192, false, false),
+/// Numbers of bytes, and whether a Byte String and a Big Integer of so many fit.
+struct Fitting {
+    bytes: &'static [usize],
+    is_string: bool,
+    is_number: bool,
+}
+
+const FITTING: [Fitting; 3] = [
+    Fitting {
+        bytes: &[0, 4, 12],
+        is_string: true,
+        is_number: false,
+    },
+    Fitting {
+        bytes: &[8, 16, 8184],
+        is_string: true,
+        is_number: true,
+    },
+    Fitting {
+        bytes: &[8185, 8192],
+        is_string: false,
+        is_number: false,
+    },
 ];
 
 /// The item of `EXAMPLES` at a place, made of its value.
@@ -117,10 +171,10 @@ fn nested(alloc: Global, levels: u32) -> Result<Vec<u8>, AllocError> {
 
 /// What `read` says of so many levels of Structures.
 fn assert_levels(rt: &impl Abort, alloc: Global) -> Result<(), AllocError> {
-    for (levels, wanted) in &LEVELS {
-        let bytes = nested(alloc, *levels)?;
+    for row in &LEVELS {
+        let bytes = nested(alloc, row.levels)?;
         let outcome = size_of(rt, alloc, bytes.as_slice());
-        assert_size(rt, outcome, *wanted, "levels");
+        assert_size(rt, outcome, row.wanted, "levels");
     }
     Ok(())
 }
@@ -135,10 +189,10 @@ fn byte_string(alloc: Global, len: u32, bytes_len: usize) -> Result<Vec<u8>, All
 
 /// What `read` says of Byte Strings of these lengths.
 fn assert_lengths(rt: &impl Abort, alloc: Global) -> Result<(), AllocError> {
-    for (len, bytes_len, wanted) in &LENGTHS {
-        let bytes = byte_string(alloc, *len, *bytes_len)?;
+    for row in &LENGTHS {
+        let bytes = byte_string(alloc, row.said, row.bytes)?;
         let outcome = size_of(rt, alloc, bytes.as_slice());
-        assert_size(rt, outcome, *wanted, "bytes");
+        assert_size(rt, outcome, row.wanted, "bytes");
     }
     Ok(())
 }
@@ -147,14 +201,24 @@ fn assert_lengths(rt: &impl Abort, alloc: Global) -> Result<(), AllocError> {
 fn assert_fitting(
     rt: &impl Abort,
     alloc: Global,
-    row: &(usize, bool, bool),
+    bytes: usize,
+    row: &Fitting,
 ) -> Result<(), AllocError> {
-    let (len, is_string, is_number) = row;
     let tag = Tag::new(0x420020);
-    let string = Item::byte_string(tag, Bytes::from_vec(vec![in alloc; 0; *len]?));
-    assert_true(rt, fits(&string) == *is_string, "bytes");
-    let number = Item::big_integer(tag, Bytes::from_vec(vec![in alloc; 0; *len]?));
-    assert_true(rt, fits(&number) == *is_number, "a number");
+    let string = Item::byte_string(tag, Bytes::from_vec(vec![in alloc; 0; bytes]?));
+    assert_true(rt, fits(&string) == row.is_string, "bytes");
+    let number = Item::big_integer(tag, Bytes::from_vec(vec![in alloc; 0; bytes]?));
+    assert_true(rt, fits(&number) == row.is_number, "a number");
+    Ok(())
+}
+
+/// Whether Byte Strings and Big Integers of these numbers of zeros fit.
+fn assert_all_fitting(rt: &impl Abort, alloc: Global) -> Result<(), AllocError> {
+    for row in &FITTING {
+        for bytes in row.bytes {
+            assert_fitting(rt, alloc, *bytes, row)?;
+        }
+    }
     Ok(())
 }
 
@@ -174,9 +238,7 @@ fn writes_each_type_within_the_limits(rt: HostRuntime) -> Result<(), Fail> {
     assert_examples(&rt, rt.alloc(), &EXAMPLES)?;
     assert_levels(&rt, rt.alloc())?;
     assert_lengths(&rt, rt.alloc())?;
-    for row in &FITTING {
-        assert_fitting(&rt, rt.alloc(), row)?;
-    }
+    assert_all_fitting(&rt, rt.alloc())?;
     assert_levels_fit(&rt, rt.alloc())?;
     Ok(())
 }

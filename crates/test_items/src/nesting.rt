@@ -11,18 +11,65 @@ const BOOLEAN: u8 = 0x06;
 
 const TEXT_STRING: u8 = 0x07;
 
-/// The types of items without children, each with the least length and how many are added to it.
-const LEAVES: [(u8, u32, u32); 10] = [
-    (0x02, 4, 1),
-    (0x03, 8, 1),
-    (0x04, 16, 1),
-    (0x05, 4, 1),
-    (BOOLEAN, 8, 1),
-    (TEXT_STRING, 1, 3_000),
-    (0x08, 1, 3_000),
-    (0x09, 8, 1),
-    (0x0A, 4, 1),
-    (0x0B, 8, 1),
+/// Items without children: their type, and their length, which is one of so many from the least one on.
+#[derive(Clone, Copy)]
+struct Leaf {
+    item_type: u8,
+    least: u32,
+    lengths: u32,
+}
+
+const LEAVES: [Leaf; 10] = [
+    Leaf {
+        item_type: 0x02,
+        least: 4,
+        lengths: 1,
+    },
+    Leaf {
+        item_type: 0x03,
+        least: 8,
+        lengths: 1,
+    },
+    Leaf {
+        item_type: 0x04,
+        least: 16,
+        lengths: 1,
+    },
+    Leaf {
+        item_type: 0x05,
+        least: 4,
+        lengths: 1,
+    },
+    Leaf {
+        item_type: BOOLEAN,
+        least: 8,
+        lengths: 1,
+    },
+    Leaf {
+        item_type: TEXT_STRING,
+        least: 1,
+        lengths: 3_000,
+    },
+    Leaf {
+        item_type: 0x08,
+        least: 1,
+        lengths: 3_000,
+    },
+    Leaf {
+        item_type: 0x09,
+        least: 8,
+        lengths: 1,
+    },
+    Leaf {
+        item_type: 0x0A,
+        least: 4,
+        lengths: 1,
+    },
+    Leaf {
+        item_type: 0x0B,
+        least: 8,
+        lengths: 1,
+    },
 ];
 
 /// What is wrong with an item.
@@ -57,8 +104,12 @@ fn push_head(
 /// Appends a random item without children, which takes at least 16 bytes.
 fn push_leaf(rng: &mut ChaCha20Rng, out: &mut Vec<u8>) -> Result<(), AllocError> {
     let number = rng.next_u32() as usize % LEAVES.len();
-    let (item_type, least, more) = LEAVES[number];
-    let len = least.saturating_add(rng.next_u32().checked_rem(more).unwrap_or(0));
+    let Leaf {
+        item_type,
+        least,
+        lengths,
+    } = LEAVES[number];
+    let len = least.saturating_add(rng.next_u32().checked_rem(lengths).unwrap_or(0));
     push_head(rng, item_type, len, out)?;
     for place in 0..len.div_ceil(8).saturating_mul(8) {
         let byte = random_byte(rng);

@@ -18,3 +18,5 @@ mod growths;
 mod serving;
 #[cfg(test)]
 mod storing;
+#[cfg(test)]
+mod tables;
