@@ -5,8 +5,8 @@
 # make deb        packs them into out/kmipctl_VERSION_ARCH.deb (needs python3, dpkg-deb)
 # make demo       carries out a plan over a network that loses a reply (by rt try where nothing is built)
 # make check      proves what changed since the last check
-# make test       the gate: every proof, the wrong bodies, the tests and the stored runs, and then all trials but bench
-# make rows       runs the stored runs without a proof (by rt try where nothing is built)
+# make test       the gate: every proof, the wrong bodies, the tests, the rows, and then all trials but bench
+# make rows       runs the rows without a proof; with CRATE=, FILE=, NAME= some (by rt try where nothing is built)
 # make bench      compares the program with a baseline in plain Rust, times simulations, and draws (needs rustc)
 # make refuse     refuses each growth of memory of the program and of test_memory in turn (needs cc, python3)
 # make faults     gives the program plans with each fault, and wants the line that says where and why (needs python3)
@@ -70,7 +70,7 @@ test:
 	@python3 tools/gate.py
 
 rows:
-	@python3 tools/rows.py $(CRATE)
+	@python3 tools/rows.py $(if $(CRATE),--crate $(CRATE)) $(if $(FILE),--file $(FILE)) $(if $(NAME),--name $(NAME))
 
 bench: $(program)
 	@bench/bench.sh $(program)
