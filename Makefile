@@ -21,7 +21,7 @@
 # make tls        carries a plan out over TLS between two tunnels, with client certificates (needs openssl, stunnel)
 # make pykmip     probes PyKMIP's engine, and carries a plan out against it (needs python3-pykmip of Debian)
 # make reading    lists the public functions; with FUNCTION=crate::name [CLAUSE=name], what they rest on (needs python3)
-# make reference  writes a page for each crate to out/reference, from the sources (needs python3)
+# make reference  writes a page for each crate to out/reference, and what exercises its calls (needs python3)
 # make man        writes docs/man, from the help texts of the program and OPERATING and PROFILE (needs python3)
 # make layers     draws docs/layers.svg and the table of crates of docs/ARCHITECTURE.md (needs python3)
 # make examples   runs each example of README.md and docs/ with the program that is built (needs python3)
