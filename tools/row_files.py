@@ -39,7 +39,7 @@ def rows_in(path):
     for number, line in enumerate(path.read_text().splitlines(), 1):
         if line.startswith('# '):
             rows.append(Row(number, line[2:].partition(': ')[0]))
-        elif line.startswith('#') or not rows:
+        elif line.startswith('##') or not rows:
             continue
         elif not line:
             gap += 1
@@ -70,6 +70,8 @@ def check_rows():
             faults += [f'{path}:{row.number}: the name {row.name} stands here {names[row.name]} times'
                        for row in rows if names[row.name] > 1]
             faults += [f'{path}:{row.number}: no name is {row.name}' for row in rows if ' ' in row.name or not row.name]
+            faults += [f'{path}:{call.number}: neither a row, `# NAME`, nor a remark, `## WORDS`'
+                       for row in rows for call in row.calls if call.head.startswith('#')]
         said = (CRATES / crate / 'stdout').read_text()
         if said != f'{count} rows, 0 wrong\n':
             faults.append(f'crates/{crate}/stdout: is to be {count} rows, 0 wrong')

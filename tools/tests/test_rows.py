@@ -67,11 +67,12 @@ class Rows(Scratch):
 
     def test_what_is_wrong_with_files(self):
         self.assertEqual(printed(row_files.check_rows), (0, []))
-        self.write({'crates/rows_some/data/some.rows': ROWS + '# second\nrun c\n', 'crates/rows_some/data/other.rows': ROWS})
-        self.assertEqual(printed(row_files.check_rows), (4, [
+        self.write({'crates/rows_some/data/some.rows': ROWS + '# second\nrun c\n#third\n', 'crates/rows_some/data/other.rows': ROWS})
+        self.assertEqual(printed(row_files.check_rows), (5, [
             'crates/rows_some/data/other.rows: stands not in crates/rows_some/args',
             'crates/rows_some/data/some.rows:12: the name second stands here 2 times',
             'crates/rows_some/data/some.rows:15: the name second stands here 2 times',
+            'crates/rows_some/data/some.rows:17: neither a row, `# NAME`, nor a remark, `## WORDS`',
             'crates/rows_some/stdout: is to be 3 rows, 0 wrong']))
 
 

@@ -18,6 +18,7 @@ const STANDARD_OUTPUT: i32 = 1;
 /// # Errors
 /// Where there is no standard output, or the file can't be made.
 pub(crate) fn redirect(rt: &HostRuntime) -> Result<ChildStdin, Fail> {
+    // The writer of std that is made of a descriptor.
     let before = ChildStdin::from(rt.stdout().as_fd().try_clone_to_owned()?);
     libc::close(STANDARD_OUTPUT);
     let mut options = OpenOptions::new();

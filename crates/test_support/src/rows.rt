@@ -50,7 +50,7 @@ pub fn rows_of(alloc: Global, text: &str) -> Result<Vec<Row<'_>>, Fail> {
         let number = place.wrapping_add(1);
         if let Some(title) = line.strip_prefix("# ") {
             rows.push(row_titled(alloc, number, title))?;
-        } else if !line.starts_with('#') {
+        } else if !line.starts_with("##") {
             take_line(alloc, rows.as_mut_slice(), number, line)?;
         }
     }
