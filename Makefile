@@ -6,8 +6,8 @@
 # make demo       carries out a plan over a network that loses a reply (by rt try where nothing is built)
 # make check      proves each crate that changed since the last commit, or since the revision SINCE, and runs its tests
 # make fmt        lays out the files of all crates
-# make test       the gate: every proof, the wrong bodies, the tests and the stored runs, and then all trials but bench
-# make rows       runs the stored runs without a proof (by rt try where nothing is built)
+# make test       the gate: every proof, the wrong bodies, the tests, the rows, and then all trials but bench
+# make rows       runs the rows without a proof; with CRATE=, FILE=, NAME= some (by rt try where nothing is built)
 # make bench      compares the program with a baseline in plain Rust, times simulations, and draws (needs rustc)
 # make refuse     refuses each growth of memory of the program and of test_memory in turn (needs cc, python3)
 # make faults     gives the program plans with each fault, and wants the line that says where and why (needs python3)
@@ -23,7 +23,7 @@
 # make tls        carries a plan out over TLS between two tunnels, with client certificates (needs openssl, stunnel)
 # make pykmip     probes PyKMIP's engine, and carries a plan out against it (needs python3-pykmip of Debian)
 # make reading    lists the public functions; with FUNCTION=crate::name [CLAUSE=name], what they rest on (needs python3)
-# make reference  writes a page for each crate to out/reference, from the sources (needs python3)
+# make reference  writes a page for each crate to out/reference, and what exercises its calls (needs python3)
 # make man        writes docs/man, from the help texts of the program and OPERATING and PROFILE (needs python3)
 # make layers     draws docs/layers.svg and the table of crates of docs/ARCHITECTURE.md (needs python3)
 # make examples   runs each example of README.md and docs/ with the program that is built (needs python3)
@@ -75,7 +75,7 @@ test:
 	@python3 tools/gate.py
 
 rows:
-	@python3 tools/rows.py $(CRATE)
+	@python3 tools/rows.py $(if $(CRATE),--crate $(CRATE)) $(if $(FILE),--file $(FILE)) $(if $(NAME),--name $(NAME))
 
 bench: $(program)
 	@bench/bench.sh $(program)

@@ -11,6 +11,7 @@ line counts what is wrong, and the exit status is 0 where nothing is. Sockets on
 import fcntl
 import json
 import os
+import pathlib
 import shutil
 import socket
 import subprocess
@@ -34,8 +35,8 @@ PREMISES = ['names are unique', 'names stay used after Destroy', 'a step made tw
             'an active object is not destroyed', 'Locate finds objects by their names',
             'Locate finds destroyed objects', 'Get Attributes tells all six attributes', 'the batch id is echoed']
 
-# What the stored runs of the commands print.
-STORED = os.path.join(os.path.dirname(os.path.realpath(__file__)), '..', 'crates', 'rows_kmipctl', 'stdout')
+# What the rows of the commands want.
+STORED = pathlib.Path(__file__).resolve().parent.parent / 'crates' / 'rows_kmipctl' / 'data'
 HOLDS = 'the promise holds here: each key is made once, and its steps are made once and in order'
 
 
@@ -263,11 +264,11 @@ class Reports:
                   {'making': [], 'name': 'p-1', 'object': '1', 'not_told': None})
 
     def stored(self):
-        """The documents among what the stored runs print."""
-        with open(STORED) as file:
-            lines = [line for line in file if line.startswith('{"')]
+        """The documents among what the rows want."""
+        texts = [path.read_text() for path in sorted(STORED.glob('*.rows'))]
+        lines = [line[4:] for text in texts for line in text.splitlines() if line.startswith('    {"')]
         wrong = [line for line in lines if not is_document(line)]
-        self.compare(f'{len(lines)} documents of stored runs', (len(lines) > 0, wrong), (True, []))
+        self.compare(f'{len(lines)} documents of rows', (len(lines) > 0, wrong), (True, []))
 
     def end(self):
         for server in self.servers:

@@ -1,5 +1,5 @@
 #!/usr/bin/env python3
-"""The lines that the stored run of rows_kmipctl has to print of its long run.
+"""What the row `thousand-keys` of rows_kmipctl has to tell.
 
 A plan of so many keys with names of 64 characters, each to be created, is carried out over a link that
 loses nothing, and each message asks about so many keys: each key is looked for in turn, and then made in
@@ -8,7 +8,7 @@ is kept. `in short` prints how much was written and kept, a checksum of it, and 
 
     tools/long_run.py 1000 3
 
-prints these lines, to be put into crates/rows_kmipctl/stdout. Nothing of the project is read.
+prints these lines, to be put into crates/rows_kmipctl/data/runs.rows. Nothing of the project is read.
 """
 import sys
 

@@ -1,12 +1,12 @@
 #!/usr/bin/env python3
-"""The messages of the rows `request` and `reply` in the stored run of rows_client.
+"""The messages of the calls `request` and `reply` in the rows of rows_client.
 
-A row's name says its bytes: a message that is laid out below, and changes in it. So
+The name in a call says its bytes: a message that is laid out below, and changes in it. So
 
     tools/message_rows.py 'request create, without name'
 
-prints the row with its bytes, to be put into crates/rows_client/stdin. Without a name all rows there
-are compared with their names, which `make documents` does too. Run it at the top of the repository. A change concerns the first item of its tag, and is one of
+prints the call with its bytes, to be put into a file of crates/rows_client/data. Without a name all calls
+there are compared with their names, which `make documents` does too. Run it at the top of the repository. A change concerns the first item of its tag, and is one of
 
     without TAG    TAG twice    TAG is VALUE    TAG under TAG    TAG, VALUE, before TAG
 
@@ -15,11 +15,12 @@ with ` and ` between several. A value is `integer 8`, `enumeration 8` (hexadecim
 
 Source: KMIP 2.1, TTLV Encoding, Message Structure and Tags.
 """
-import pathlib
 import re
 import sys
 
-STDIN = pathlib.Path('crates/rows_client/stdin')
+from row_files import files_of, rows_in
+
+CRATE = 'rows_client'
 
 TAGS = {
     'batch count': 0x42000D, 'option': 0x42000E, 'batch item': 0x42000F, 'algorithm': 0x420028,
@@ -230,14 +231,15 @@ def digits_of(name):
 
 
 def check_messages():
-    """Prints the names of the rows that have other bytes than these say, and returns how many there are."""
+    """Prints the names in calls that have other bytes than these say, and returns how many there are."""
     wrong = 0
-    for row in STDIN.read_text().splitlines():
-        name, _, digits = row.partition(': ')
-        wanted = digits_of(name) if ', ' in name else None
-        if wanted not in (None, digits):
-            print(f'{STDIN}: other bytes than its name says: {name}')
-            wrong += 1
+    for path in files_of(CRATE):
+        for call in [call for row in rows_in(path) for call in row.calls]:
+            name, _, digits = call.head.partition(': ')
+            wanted = digits_of(name) if ', ' in name else None
+            if wanted not in (None, digits):
+                print(f'{path}:{call.number}: other bytes than its name says: {name}')
+                wrong += 1
     return wrong
 
 

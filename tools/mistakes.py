@@ -2,6 +2,7 @@
 import pathlib
 import re
 
+from row_files import files_of, rows_in
 from sources import CRATES, Crate, imports_of
 
 MISTAKES = pathlib.Path('docs/MISTAKES.md')
@@ -23,7 +24,7 @@ class Known:
 
 
 def check_mistakes(repository):
-    """What docs/MISTAKES.md names that is not there: an edit, a test, a stored command, a function or a clause of one."""
+    """What docs/MISTAKES.md names that is not there: an edit, a test, a row, a function or a clause of one."""
     faults, crates, rows = 0, {}, 0
     for number, line in enumerate(MISTAKES.read_text().splitlines(), 1):
         if not line.startswith('|') or line.startswith(('| the mistake |', '|---')):
@@ -69,7 +70,7 @@ def faults_of(crate, functions, tried, refused):
     """What is wrong with a row: how the mistake is tried, and what refuses it."""
     edit = re.fullmatch(r'\w+: `(\w+\.edit)`', tried)
     test = re.fullmatch(r'\w+: the test `(\w+)`', tried)
-    command = re.fullmatch(r'\w+: the stored run of `([^`]+)`', tried)
+    row = re.fullmatch(r'\w+: the row `([^`]+)` of (\w+)', tried)
     if not functions:
         yield f'no crate has the name {crate}'
     elif edit:
@@ -81,11 +82,12 @@ def faults_of(crate, functions, tried, refused):
         pattern = re.compile(r'#\[test\]\n(?:\s*#\[.*\]\n)*\s*fn ' + test.group(1) + r'\b')
         if not any(pattern.search(path.read_text()) for path in (CRATES / crate / 'src').glob('*.rt')):
             yield f'{crate} has no test {test.group(1)}'
-    elif command:
-        if f'$ {command.group(1)}' not in (CRATES / crate / 'stdin').read_text().splitlines():
-            yield f'the stored run of {crate} has no line $ {command.group(1)}'
+    elif row:
+        name, file = row.groups()
+        if not any(name == one.name for path in files_of(crate) if path.stem == file for one in rows_in(path)):
+            yield f'{crate} has no row {name} in {file}'
     else:
-        yield f'neither an edit nor a test nor a stored run: {tried}'
+        yield f'neither an edit nor a test nor a row: {tried}'
 
 
 def faults_of_part(crate, functions, part):

@@ -5,7 +5,8 @@
 
 Run it at the top of the repository (`make reference` does). It writes index.html and a page for each crate into
 the folder, out/reference unless one is named. A page has the public types, traits, functions and methods, with
-their docstrings and their clauses, and then the definitions of specs/, file by file. In clauses and definitions
+their docstrings and their clauses, and the tests and drivers of rows that exercise them (exercised.py); and then
+the definitions of specs/, file by file. In clauses and definitions
 each word that is a definition leads to it; it goes by names, as `make reading` does. The pages need no network
 and no script, and are the same whenever they are made of the same sources.
 """
@@ -16,19 +17,21 @@ import sys
 
 sys.dont_write_bytecode = True
 
+from exercised import Exercised
 from items import items_of, reexports_of, root_docs, says_of
 from markup import anchor, docstring, inline, link, linked, page, reference
 from sources import CRATES, Definition, Repository
 from traits import Spoken, traits_of
 
 FOLDER = 'out/reference'
+NOT_EXERCISED = 'Exercised by no test and no row'
 
 
 class Reference:
     """All crates, with the place of each definition, type and trait."""
 
     def __init__(self, repository):
-        self.repository = repository
+        self.repository, self.exercised = repository, Exercised(repository)
         self.items = {crate: items_of(repository.parts[crate]) for crate in repository.crates}
         self.types = {}
         for crate, items in self.items.items():
@@ -163,6 +166,8 @@ class Page:
         find = self.whole.finder(function.imports)
         for clause in function.clauses:
             self.clause(function, name, clause, find)
+        if says := exercised_by(self.whole.exercised, function):
+            self.add(f'<p class="rests">{html.escape(says)}</p>')
 
     def clause(self, function, name, clause, find):
         kind, own, body, comment = clause
@@ -213,6 +218,16 @@ class Page:
         return self.near(target) if target else None
 
 
+def exercised_by(exercised, function):
+    """Which tests and rows exercise a call; nothing of a law, of a conversion, and of what the tests have in common."""
+    if re.search(r'\)$|laws::\w+$', function.path) or function.path.startswith(('test_', 'rows_')):
+        return ''
+    direct, kinds = exercised.of(function)
+    if direct:
+        return 'Exercised by ' + ', '.join(direct)
+    return f'Exercised through other calls, by {" and ".join(kinds)}' if kinds else NOT_EXERCISED
+
+
 def place(path, line):
     return f'<small>{html.escape(str(path).removeprefix("crates/"))}:{line}</small>'
 
@@ -256,14 +271,21 @@ def spec_files(repository, crate):
 
 
 def index(whole):
-    """The first page: a line for each crate, and the public calls that nothing is said of."""
+    """The first page: a line for each crate, and the public calls that nothing is said of, or that nothing exercises."""
     rows = [f'<tr><td>{link(f"{crate}.html", crate)}</td><td>{inline(says_of(crate))}</td></tr>'
             for crate in whole.repository.crates]
     bare = [function.path for function in whole.repository.functions if not function.docs and not function.clauses]
     lines = ['<h1>Reference</h1>', '<p>The crates, lowest first. Each page is made from the sources.</p>',
              '<table>', *rows, '</table>', '<h2>Public calls with neither a docstring nor a clause</h2>']
-    lines += [f'<p>{link(reference(path.split("::")[0] + ".html", path.split("::", 1)[1]), path)}</p>' for path in bare]
-    return page('Reference', '\n'.join(lines + ['<p>None.</p>'] * (not bare)))
+    lines += [call_link(path) for path in bare]
+    lines += ['<p>None.</p>'] * (not bare) + ['<h2>Public calls that no test and no row exercises</h2>']
+    lacking = [function.path for function in whole.repository.functions if exercised_by(whole.exercised, function) == NOT_EXERCISED]
+    lines += [call_link(path) for path in lacking] + ['<p>None.</p>'] * (not lacking)
+    return page('Reference', '\n'.join(lines))
+
+
+def call_link(path):
+    return f'<p>{link(reference(path.split("::")[0] + ".html", path.split("::", 1)[1]), path)}</p>'
 
 
 def write(folder):

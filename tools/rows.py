@@ -1,12 +1,15 @@
 #!/usr/bin/env python3
-"""The stored runs, without a proof: each program is given its stdin, and has to print its stdout.
+"""The rows, without a proof: the programs carry them out, and say which of them are wrong.
 
-    tools/rows.py [CRATE..]
+    tools/rows.py [--crate NAME] [--file NAME] [--name WORD]
 
-Run it at the top of the repository (`make rows` does). A program that is built is run as it is; else `rt try`
-runs its sources, which takes some minutes. For each program it prints whether the output is what is stored, and
-else the first line that differs, with what was wanted and what came. The exit status is 1 where one differs.
+Run it at the top of the repository (`make rows` does, with CRATE, FILE and NAME): it runs all rows, or those of a
+crate, of a file (`sim` is data/sim.rows), and those whose names begin with a word. A program that is built is run as
+it is; else `rt try` runs its sources, which takes some minutes. A stored run that has no rows, as that of kmipctl, is
+compared with its stdout. For each row that is wrong its file, line and name are printed, what was wanted, and what it
+got. The exit status is 1 where one is wrong, or there is none.
 """
+import argparse
 import pathlib
 import re
 import shutil
@@ -16,63 +19,92 @@ import tempfile
 
 sys.dont_write_bytecode = True
 
-CRATES = pathlib.Path('crates')
+from row_files import CRATES, check_rows, files_of, rows_in
+
 MOST_SECONDS = 1800
-OWN_LINE = re.compile(rb'^(?:checked: ended status=|run=ended status=)', re.M)
+OWN_LINE = re.compile(r'^(?:checked: ended status=|run=ended status=)', re.M)
 
 
 def programs():
     """The crates that have a stored run."""
-    return [path.parent.name for path in sorted(CRATES.glob('*/stdin')) if (path.parent / 'stdout').exists()]
+    return [path.parent.name for path in sorted(CRATES.glob('*/stdout'))]
 
 
-def output_of(crate):
-    """What the program prints for its stdin, and how it was run."""
+def run(crate, words):
+    """What the program prints for its stdin and these words, how it ended, and how it was run."""
     folder, built = CRATES / crate, CRATES / crate / 'out' / crate
     data = sorted((folder / 'data').glob('*'))
-    with open(folder / 'stdin', 'rb') as stdin:
-        if built.exists():
-            with tempfile.TemporaryDirectory() as there:
-                for file in data:
-                    shutil.copy(file, there)
-                done = subprocess.run([built.resolve()], stdin=stdin, stdout=subprocess.PIPE,
-                                      stderr=subprocess.DEVNULL, cwd=there, timeout=MOST_SECONDS)
-            return done.stdout, 'the program that is built'
-        words = ['rt', 'try', '--seconds', str(MOST_SECONDS)]
-        for file in data:
-            words += ['--data', f'{file.name}={file.relative_to(folder)}']
-        done = subprocess.run(words, stdin=stdin, stdout=subprocess.PIPE, stderr=subprocess.DEVNULL, cwd=folder)
-        found = OWN_LINE.search(done.stdout)
-        return done.stdout[:found.start()] if found else done.stdout, 'rt try'
+    given = (folder / 'stdin').read_bytes() if (folder / 'stdin').exists() else b''
+    kept = {'input': given, 'stdout': subprocess.PIPE, 'stderr': subprocess.PIPE, 'timeout': MOST_SECONDS}
+    if built.exists():
+        with tempfile.TemporaryDirectory() as there:
+            for file in data:
+                shutil.copy(file, there)
+            done = subprocess.run([built.resolve(), *words], cwd=there, **kept)
+        return done.stdout.decode('utf-8', 'replace'), done, 'the program that is built'
+    command = ['rt', 'try', '--seconds', str(MOST_SECONDS)]
+    for file in data:
+        command += ['--data', f'{file.name}={file.relative_to(folder)}']
+    done = subprocess.run([*command, *(['--', *words] if words else [])], cwd=folder, **kept)
+    text = done.stdout.decode('utf-8', 'replace')
+    found = OWN_LINE.search(text)
+    return text[:found.start()] if found else text, done, 'rt try'
+
+
+def run_rows(crate, files, name):
+    """Runs the rows of these files, and says whether all are right: prints what the program says."""
+    text, done, how = run(crate, [file.name for file in files] + (['--name', name] if name else []))
+    print(re.sub(r'^(\w+\.rows:)', rf'crates/{crate}/data/\1', text, flags=re.M), end='')
+    if not re.search(r'^\d+ rows, \d+ wrong$', text, re.M):
+        print(done.stderr.decode('utf-8', 'replace')[-600:].strip())
+    print(f'{crate}: {"right" if done.returncode == 0 else "WRONG"}, by {how}', flush=True)
+    return done.returncode == 0
+
+
+def run_stored(crate):
+    """Runs a stored run that has no rows, and says whether it prints what is stored."""
+    wanted = (CRATES / crate / 'stdout').read_text()
+    text, _, how = run(crate, [])
+    place = difference(wanted, text)
+    if place:
+        number, one, other = place
+        print(f'crates/{crate}/stdout:{number}\n  wanted: {one}\n  got:    {other}')
+    print(f'{crate}: {"WRONG" if place else "right"}, by {how}', flush=True)
+    return not place
 
 
 def difference(wanted, got):
     """The first line that differs, from 1: what was wanted there and what came; none where there is no such line."""
     wanted, got = wanted.splitlines(), got.splitlines()
     for number in range(max(len(wanted), len(got))):
-        one, other = (lines[number] if number < len(lines) else None for lines in (wanted, got))
+        one, other = (lines[number] if number < len(lines) else 'the end' for lines in (wanted, got))
         if one != other:
-            return number + 1, shown(one), shown(other)
+            return number + 1, one, other
     return None
 
 
-def shown(line):
-    return 'the end' if line is None else line.decode('utf-8', 'replace')
+def chosen(crate, file, name):
+    """The files of a crate with rows that are asked for."""
+    files = [path for path in files_of(crate) if not file or path.stem == file.removesuffix('.rows')]
+    return [path for path in files if not name or any(row.name.startswith(name) for row in rows_in(path))]
 
 
 def main(words):
-    wrong = 0
-    for crate in words or programs():
-        got, how = output_of(crate)
-        found = difference((CRATES / crate / 'stdout').read_bytes(), got)
-        if found is None:
-            print(f'{crate}: as stored, by {how}', flush=True)
-            continue
-        wrong += 1
-        number, wanted, came = found
-        print(f'{crate}: by {how}, crates/{crate}/stdout:{number}\n  wanted: {wanted}\n  got:    {came}', flush=True)
-    print(f'{wrong} wrong')
-    return 1 if wrong else 0
+    parser = argparse.ArgumentParser(description='Runs the rows without a proof.')
+    for option in '--crate', '--file', '--name':
+        parser.add_argument(option, default='')
+    asked = parser.parse_args(words)
+    right, wrong = 0, check_rows()
+    for crate in [asked.crate] if asked.crate else programs():
+        if files_of(crate):
+            files = chosen(crate, asked.file, asked.name)
+            good = run_rows(crate, files, asked.name) if files else None
+        else:
+            good = None if asked.file or asked.name else run_stored(crate)
+        right, wrong = right + (good is True), wrong + (good is False)
+    if not right + wrong:
+        print('no such row')
+    return 0 if right and not wrong else 1
 
 
 if __name__ == '__main__':

@@ -37,7 +37,17 @@ class Reference(Scratch):
 
     def test_the_index_ends_with_what_nothing_is_said_of(self):
         text = read(self.folder / 'index.html').text.split('Public calls with neither a docstring nor a clause')[1]
+        text = text.split('Public calls that no test')[0]
         self.assertEqual(text.split(), ['low::Carrier::bare', 'low::Load::undocumented'])
+
+    def test_what_exercises_a_call(self):
+        lacking = 'Public calls that no test and no row exercises'
+        self.assertIn('high::send', read(self.folder / 'index.html').text.split(lacking)[1].split())
+        self.write({'crates.txt': CRATES['crates.txt'] + 'test_high: high\n', 'crates/test_high/src/lib.rt': (
+            '//! Tests.\n\nmod tests {\n    #[test]\n    fn sends() {\n        send(&mut carrier, 1);\n    }\n}\n')})
+        printed(reference.main, ['out/reference'])
+        self.assertNotIn('high::send', read(self.folder / 'index.html').text.split(lacking)[1].split())
+        self.assertIn('Exercised by test_high::lib::sends', self.page('high'))
 
     def test_a_clause(self):
         self.assertEqual(self.between('high', '<div class="clause" id="send.safe">', '<details>'), (

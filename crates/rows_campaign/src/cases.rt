@@ -18,7 +18,7 @@ use kmip_runs::Link;
 use kmip_server::ListStore;
 use std::alloc::{AllocError, Global};
 use std::test::Fail;
-use test_support::Transcript;
+use test_support::{Call, Driver};
 
 /// Plans, a client of the first of them, and a link to a server.
 #[derive(Drop)]
@@ -44,28 +44,35 @@ impl<'p> Case<'p> {
     }
 }
 
-/// Cases, and between them random scripts and remarks.
+/// Cases, and random scripts.
 pub struct Cases;
 
-impl Transcript for Cases {
-    fn begins(line: &str) -> bool {
-        line.starts_with("case: ")
+impl Driver for Cases {
+    fn carry_out(rt: &HostRuntime, calls: &[Call<'_>], told: &mut Vec<String>) -> Result<(), Fail> {
+        let alloc = rt.alloc();
+        match calls.split_first() {
+            Some((first, others)) if first.head.starts_with("case: ") => {
+                hold_case(alloc, first.head, others, told)
+            }
+            _ => take_scripts(alloc, calls, told),
+        }
     }
 
-    fn take_line(rt: &HostRuntime, line: &str) -> Result<(), Fail> {
-        let Some(words) = line.strip_prefix("random ") else {
-            rt.println(line)?;
-            return Ok(());
-        };
-        let mut told = String::new(rt.alloc());
-        push_random_told(rt.alloc(), &mut told, words)?;
-        rt.println(format_args!("{line} => {told}"))?;
+    fn pass_over(_rt: &HostRuntime, _calls: &[Call<'_>]) -> Result<(), Fail> {
         Ok(())
     }
+}
 
-    fn take_block(rt: &HostRuntime, head: &str, lines: &str) -> Result<(), Fail> {
-        hold_case(rt, head, lines)
+/// Takes calls of which each is about random scripts.
+fn take_scripts(alloc: Global, calls: &[Call<'_>], told: &mut Vec<String>) -> Result<(), Fail> {
+    for call in calls {
+        let words = call.head.strip_prefix("random ").ok_or("a random script")?;
+        let mut text = String::new(alloc);
+        push_random_told(alloc, &mut text, words)?;
+        text.push('\n')?;
+        told.push(text)?;
     }
+    Ok(())
 }
 
 /// What stands before the first place with these words, and what behind it; or all, and nothing.
@@ -82,13 +89,37 @@ pub fn both_halves<'l>(
     Ok(line.split_once(between).ok_or(wanted)?)
 }
 
-/// Does what the lines of a case say, whose plans have the keys that its first line names.
-fn hold_case(rt: &HostRuntime, head: &str, lines: &str) -> Result<(), Fail> {
-    rt.println(head)?;
+/// Does what the calls of a case say, whose plans have the keys that its first line names. What each tells is
+/// appended, and nothing for the first line.
+fn hold_case(
+    alloc: Global,
+    head: &str,
+    calls: &[Call<'_>],
+    told: &mut Vec<String>,
+) -> Result<(), Fail> {
+    told.push(String::new(alloc))?;
     let (_, words) = halves(head, ": ");
-    let plans = plans_of(rt.alloc(), words)?;
-    take_lines(rt, plans.as_slice(), lines)?;
-    rt.println("end")?;
+    let plans = plans_of(alloc, words)?;
+    let mut case = Case::new(alloc, plans.as_slice())?;
+    for call in calls {
+        let mut text = String::new(alloc);
+        take_turn(alloc, &mut text, &mut case, call.head)?;
+        told.push(text)?;
+    }
+    Ok(())
+}
+
+/// Does what a line says, and writes the lines that are told of it, if any.
+fn take_turn(
+    alloc: Global,
+    text: &mut String,
+    case: &mut Case<'_>,
+    line: &str,
+) -> Result<(), Fail> {
+    turn(alloc, text, case, line)?;
+    if !text.is_empty() {
+        text.push('\n')?;
+    }
     Ok(())
 }
 
@@ -134,28 +165,6 @@ fn push_key(text: &mut String, key: &str) -> Result<(), AllocError> {
     let (name, target) = halves(key, " ");
     write!(text, "[[key]]\nname = \"{name}\"\ntarget = \"{target}\"\n")?;
     text.push_str("algorithm = \"AES\"\nlength = 256\nusage = [\"encrypt\", \"decrypt\"]\n")
-}
-
-/// Takes the lines of a case.
-fn take_lines(rt: &HostRuntime, plans: &[Plan], lines: &str) -> Result<(), Fail> {
-    let mut case = Case::new(rt.alloc(), plans)?;
-    for line in lines.lines() {
-        if line.starts_with('#') {
-            rt.println(line)?;
-        } else {
-            take_line(rt, &mut case, line)?;
-        }
-    }
-    Ok(())
-}
-
-/// Prints a line with what is told of it, if anything.
-fn take_line(rt: &HostRuntime, case: &mut Case<'_>, line: &str) -> Result<(), Fail> {
-    let mut told = String::new(rt.alloc());
-    turn(rt.alloc(), &mut told, case, line)?;
-    let between = if told.is_empty() { "" } else { " => " };
-    rt.println(format_args!("{line}{between}{told}"))?;
-    Ok(())
 }
 
 /// Does what a line says, and writes what is told of it.

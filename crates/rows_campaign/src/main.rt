@@ -1,14 +1,13 @@
-//! Stored runs of runs and campaigns over links in memory, also over links that fail. Standard input
-//! has one case after the other, and lines of random scripts. What is printed is what came of each
-//! line.
+//! Rows of runs and campaigns over links in memory, also over links that fail. Some have random scripts.
+//! Arguments are the rows' files, and `--name WORD` for the rows alone whose names begin so (`run_rows`
+//! of test_support).
 //!
-//! A line of standard input is one of
+//! A call is one of
 //!
-//!     # WORDS                     a remark
 //!     case: NAME TARGET, ..       a plan of these keys, AES with 256 bits to encrypt and decrypt, and further
 //!                                 plans, each behind ` | `; an empty server, a link to it that loses nothing,
 //!                                 and a client of the first plan that knows nothing. What is done with them
-//!                                 is on the lines behind, up to `end`
+//!                                 is said by the calls behind it in its row
 //!     random SEED TIMES KEYS MOST: TEXT    a random script for each of so many plans of so many keys, with at
 //!                                 most so many in a message: how many scripts, runs and saves these were, and
 //!                                 whether all is as it has to be: at the end each key is at its target, with
@@ -23,7 +22,7 @@
 //!                                 the first ones of so many pairs, of which those are taken where the second
 //!                                 plan prolongs the first
 //!
-//! A line of a case is one of
+//! A call of a case is one of
 //!
 //!     script: TEXT                a link to an empty server follows this script, in which `/` stands for
 //!                                 a line feed
@@ -66,9 +65,11 @@ mod scripts;
 mod telling;
 
 use crate::cases::Cases;
+use std::io;
+use std::process::ExitCode;
 use std::test::Fail;
-use test_support::replay;
+use test_support::run_rows;
 
-fn main(rt: HostRuntime) -> Result<(), Fail> {
-    replay::<Cases>(&rt)
+fn main(rt: HostRuntime) -> Result<ExitCode, Fail> {
+    run_rows::<Cases>(&rt, &mut io::writer(&rt))
 }

@@ -1,32 +1,37 @@
 //! What comes of a message whose bytes are changed, one at a time.
 
 use kmip_messages::{read_reply, read_request};
-use std::alloc::Global;
+use std::alloc::{AllocError, Global};
 use std::test::Fail;
 
-/// Prints, place by place, the bytes there with which a message is still read as a request or a reply.
-pub fn print_taken(rt: &HostRuntime, bytes: &mut [u8]) -> Result<(), Fail> {
-    print_told(rt, bytes, |changed| {
-        Ok(String::from_str(rt.alloc(), kind_of(rt.alloc(), changed))?)
+/// Writes, place by place, the bytes there with which a message is still read as a request or a reply.
+pub fn push_taken(alloc: Global, text: &mut String, bytes: &mut [u8]) -> Result<(), Fail> {
+    push_changes(alloc, text, bytes, |changed| {
+        Ok(String::from_str(alloc, kind_of(alloc, changed))?)
     })
 }
 
-/// Prints, place by place, what is told of a message with each byte in turn changed to each other one, which
+/// Writes, place by place, what is told of a message with each byte in turn changed to each other one, which
 /// has its own again in the end.
-pub fn print_told<F>(rt: &HostRuntime, bytes: &mut [u8], tell: F) -> Result<(), Fail>
+pub fn push_changes<F>(
+    alloc: Global,
+    text: &mut String,
+    bytes: &mut [u8],
+    tell: F,
+) -> Result<(), Fail>
 where
     F: Fn(&[u8]) -> Result<String, Fail>,
     requires { F.IsAlwaysCallable tell }
 {
     for place in 0..bytes.len() {
         let own = bytes[place];
-        let mut tolds = Vec::new(rt.alloc());
+        let mut tolds = Vec::new(alloc);
         for value in 0..=255 {
             bytes[place] = value;
             tolds.push(tell(bytes)?)?;
         }
         bytes[place] = own;
-        print_ranges(rt, place, tolds.as_slice())?;
+        push_ranges(text, place, tolds.as_slice())?;
     }
     Ok(())
 }
@@ -49,29 +54,29 @@ fn is_request(alloc: Global, bytes: &[u8]) -> bool {
     }
 }
 
-/// Prints what is told where a byte at a place has which values, one range of them after the other.
-pub fn print_ranges(rt: &HostRuntime, place: usize, tolds: &[String]) -> Result<(), Fail> {
+/// Writes what is told where a byte at a place has which values, a line for each range of them.
+fn push_ranges(text: &mut String, place: usize, tolds: &[String]) -> Result<(), AllocError> {
     let mut first: usize = 0;
     for (value, told) in tolds.iter().enumerate() {
         let after = value.wrapping_add(1);
         if tolds.get(after) != Some(told) {
-            print_range(rt, place, first, value, told.as_str())?;
+            push_range(text, place, first, value, told.as_str())?;
             first = after;
         }
     }
     Ok(())
 }
 
-/// Prints what is told where a byte at a place has one of a range of values; nothing where nothing is told.
-fn print_range(
-    rt: &HostRuntime,
+/// Writes what is told where a byte at a place has one of a range of values; nothing where nothing is told.
+fn push_range(
+    text: &mut String,
     place: usize,
     first: usize,
     last: usize,
     told: &str,
-) -> Result<(), Fail> {
-    if !told.is_empty() {
-        rt.println(format_args!("    {place}: {first:02x} to {last:02x}: {told}"))?;
+) -> Result<(), AllocError> {
+    if told.is_empty() {
+        return Ok(());
     }
-    Ok(())
+    writeln!(text, "{place}: {first:02x} to {last:02x}: {told}")
 }

@@ -1,18 +1,17 @@
-//! Stored runs of messages that are read and written, and of talks with a client. They are of what
-//! stands below the commands. Standard input has one thing to be done after the other, and what is
-//! printed is what came of each.
+//! Rows of messages that are read and written, and of talks with a client. They are of what stands below
+//! the commands. Arguments are the rows' files, and `--name WORD` for the rows alone whose names begin so
+//! (`run_rows` of test_support).
 //!
-//! A line of standard input is one of
+//! A call is one of
 //!
-//!     # WORDS                  a remark
 //!     request NAME: HEX        the bytes are read as a request
 //!     reply NAME: HEX          they are read as a reply
 //!     again NAME: HEX          they are read as a request or a reply, and written again
 //!     taken NAME: HEX          which changes of one byte of a request or a reply are still read
 //!     client TARGET: NAMES     a talk with a client of a plan of these keys, AES with 256 bits to
-//!                              encrypt and decrypt; it is on the lines behind, up to a line `end`
+//!                              encrypt and decrypt; the calls behind it in its row are of this talk
 //!
-//! A line of a talk is one of
+//! A call of a talk is one of
 //!
 //!     first NAME: HEX          what a new client hears first: the client is made anew
 //!     ask MOST                 the client asks, in a message of at most so many questions
@@ -41,9 +40,11 @@ mod telling;
 mod trying;
 
 use crate::rows::Rows;
+use std::io;
+use std::process::ExitCode;
 use std::test::Fail;
-use test_support::replay;
+use test_support::run_rows;
 
-fn main(rt: HostRuntime) -> Result<(), Fail> {
-    replay::<Rows>(&rt)
+fn main(rt: HostRuntime) -> Result<ExitCode, Fail> {
+    run_rows::<Rows>(&rt, &mut io::writer(&rt))
 }

@@ -4,12 +4,13 @@ ghost use Rattle.kmip_messages.specs.Members.{may_have};
 
 use crate::rows::halves;
 use crate::telling::{push_asked, push_heard, push_known};
-use crate::trying::{begin, learn, push_fronts, push_kept, push_told_by_new};
+use crate::trying::{begin, push_fronts, push_kept, push_learnt, push_told_by_new};
 use kmip_client::Client;
 use kmip_plan::{Plan, read_plan};
 use kmip_progress::{Progress, suits};
 use std::alloc::{AllocError, Global};
 use std::test::Fail;
+use test_support::Call;
 
 /// A client that is talked with.
 #[derive(Drop)]
@@ -32,12 +33,22 @@ impl<'p> Talk<'p> {
     }
 }
 
-/// Talks with a client of the keys that the first line names.
-pub fn hold_talk(rt: &HostRuntime, line: &str, lines: &str) -> Result<(), Fail> {
-    rt.println(line)?;
-    let plan = plan_of(rt.alloc(), line)?;
-    talk_about(rt, &plan, lines)?;
-    rt.println("end")?;
+/// Talks with a client of the keys that the first line names, as the calls behind it say. What each tells is
+/// appended, and nothing for the first line.
+pub fn hold_talk(
+    alloc: Global,
+    line: &str,
+    calls: &[Call<'_>],
+    told: &mut Vec<String>,
+) -> Result<(), Fail> {
+    told.push(String::new(alloc))?;
+    let plan = plan_of(alloc, line)?;
+    let mut talk = Talk::new(alloc, &plan)?;
+    for call in calls {
+        let mut text = String::new(alloc);
+        take_turn(alloc, &mut text, &mut talk, call.head)?;
+        told.push(text)?;
+    }
     Ok(())
 }
 
@@ -59,38 +70,29 @@ fn plan_text(alloc: Global, names: &str, target: &str) -> Result<String, AllocEr
     Ok(text)
 }
 
-/// Takes each line of a talk, and prints it with what was told, and without its bytes.
-fn talk_about(rt: &HostRuntime, plan: &Plan, lines: &str) -> Result<(), Fail> {
-    let mut talk = Talk::new(rt.alloc(), plan)?;
-    for line in lines.lines() {
-        if line.starts_with('#') {
-            rt.println(line)?;
-        } else {
-            take_turn(rt, &mut talk, line)?;
-        }
-    }
-    Ok(())
-}
-
-/// Does what a line says, and prints it with what is told of it.
-fn take_turn(rt: &HostRuntime, talk: &mut Talk<'_>, line: &str) -> Result<(), Fail> {
+/// Does what a line says, and writes the lines that are told of it, if any.
+fn take_turn(
+    alloc: Global,
+    text: &mut String,
+    talk: &mut Talk<'_>,
+    line: &str,
+) -> Result<(), Fail> {
     let (head, given) = halves(line, ": ");
-    let mut told = String::new(rt.alloc());
-    turn(rt, &mut told, talk, head, given)?;
-    let between = if told.is_empty() { "" } else { ": " };
-    rt.println(format_args!("{head}{between}{told}"))?;
+    turn(alloc, text, talk, head, given)?;
+    if !text.is_empty() && !text.ends_with("\n") {
+        text.push('\n')?;
+    }
     Ok(())
 }
 
 /// Does what a line says, and writes what is told of it, if anything.
 fn turn(
-    rt: &HostRuntime,
+    alloc: Global,
     text: &mut String,
     talk: &mut Talk<'_>,
     head: &str,
     given: &str,
 ) -> Result<(), Fail> {
-    let alloc = rt.alloc();
     let (word, words) = halves(head, " ");
     match word {
         "ask" => ask(alloc, text, &mut talk.client, words, given),
@@ -101,19 +103,18 @@ fn turn(
         "known" => push_known_of(alloc, text, &talk.client, words),
         "saved" => push_saved(alloc, text, &talk.client),
         "resume" => resume(alloc, talk, given),
-        _ => turn_with_bytes(rt, text, talk, word, given),
+        _ => turn_with_bytes(alloc, text, talk, word, given),
     }
 }
 
 /// The same of a line that has bytes.
 fn turn_with_bytes(
-    rt: &HostRuntime,
+    alloc: Global,
     text: &mut String,
     talk: &mut Talk<'_>,
     word: &str,
     digits: &str,
 ) -> Result<(), Fail> {
-    let alloc = rt.alloc();
     let mut bytes = hex::decode(alloc, digits)?;
     match word {
         "first" => begin(alloc, talk, digits),
@@ -121,7 +122,7 @@ fn turn_with_bytes(
         "new" => push_told_by_new(alloc, text, talk, bytes.as_slice()),
         "fronts" => push_fronts(alloc, text, talk, bytes.as_slice()),
         "kept" => push_kept(alloc, text, talk, bytes.as_mut_slice()),
-        "learnt" => learn(rt, talk, bytes.as_mut_slice()),
+        "learnt" => push_learnt(alloc, text, talk, bytes.as_mut_slice()),
         _ => Err(Fail::new("no line of a talk")),
     }
 }

@@ -1,7 +1,7 @@
 //! What new clients say to a message, or to one that is cut or changed.
 ghost use Rattle.std.specs.Prelude.{◌≡◌, ◌<◌, length};
 
-use crate::changes::print_told;
+use crate::changes::push_changes;
 use crate::talks::Talk;
 use crate::telling::{push_heard, push_standing};
 use kmip_client::Client;
@@ -78,10 +78,15 @@ fn says_otherwise(
     Ok(is_other)
 }
 
-/// Prints what is learnt of a message with each byte in turn changed to each other one: where a new client
+/// Writes what is learnt of a message with each byte in turn changed to each other one: where a new client
 /// takes it, what it says to it, what it then knows, and what it asks.
-pub fn learn(rt: &HostRuntime, talk: &Talk<'_>, bytes: &mut [u8]) -> Result<(), Fail> {
-    print_told(rt, bytes, |changed| learnt(rt.alloc(), talk, changed))
+pub fn push_learnt(
+    alloc: Global,
+    text: &mut String,
+    talk: &Talk<'_>,
+    bytes: &mut [u8],
+) -> Result<(), Fail> {
+    push_changes(alloc, text, bytes, |changed| learnt(alloc, talk, changed))
 }
 
 /// What a new client learns of a message, and how it then stands; nothing where the message is refused.

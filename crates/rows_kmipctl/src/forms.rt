@@ -1,4 +1,4 @@
-//! A block whose command is carried out in each of its forms over the same input.
+//! A call whose command is carried out in each of its forms over the same input.
 
 use crate::commands::{Call, Command, command_of};
 use crate::readers::PieceReader;
@@ -7,7 +7,7 @@ use crate::typed::Typed;
 use crate::ways::Way;
 use crate::writers::NotingWriter;
 use kmip_message_commands::{ExitStatus, answer_stream, answer_stream_bytes};
-use std::alloc::Global;
+use std::alloc::{AllocError, Global};
 use std::str::from_utf8;
 use std::test::Fail;
 
@@ -19,9 +19,10 @@ struct Case<'a> {
     way: &'a Way<'a>,
 }
 
-/// Carries out the command of this line over the lines of its block, in this way.
-pub(crate) fn take_input(
+/// Carries out a command over the lines of its call, in this way, and writes what it tells.
+pub(crate) fn push_forms(
     rt: &HostRuntime,
+    text: &mut String,
     typed: &Typed,
     way: &str,
     lines: &str,
@@ -29,38 +30,38 @@ pub(crate) fn take_input(
     let way = Way::of(way)?;
     let (lines, given) = lines.split_once("gives\n").unwrap_or((lines, ""));
     let given = text_of(rt.alloc(), given)?;
-    let text = text_of(rt.alloc(), lines)?;
-    let input = way.input_of(text.as_str());
+    let lines = text_of(rt.alloc(), lines)?;
+    let input = way.input_of(lines.as_str());
     let command = command_of(rt, typed, input)?;
     let case = Case {
         command: &command,
         input,
         way: &way,
     };
-    tell_forms(rt, &case, given.as_str())
+    push_each(rt.alloc(), text, &case, given.as_str())
 }
 
-/// Prints what the command tells as the program calls it, and what it tells in another form only where that is
+/// Writes what the command tells as the program calls it, and what it tells in another form only where that is
 /// something else.
-fn tell_forms(rt: &HostRuntime, case: &Case<'_>, given: &str) -> Result<(), Fail> {
+fn push_each(alloc: Global, text: &mut String, case: &Case<'_>, given: &str) -> Result<(), Fail> {
     let way = case.way;
     if way.is_in_memory {
-        let told = told(rt.alloc(), case, Call::Memory, "0")?;
-        return print_told(rt, told.as_str(), given);
+        let told = told(alloc, case, Call::Memory, "0")?;
+        return Ok(push_told(text, told.as_str(), given)?);
     }
     let (piece_len, others) = way.pieces.split_once(" and ").unwrap_or((way.pieces, ""));
-    let told = told(rt.alloc(), case, Call::Program, piece_len)?;
-    print_told(rt, told.as_str(), given)?;
+    let told = told(alloc, case, Call::Program, piece_len)?;
+    push_told(text, told.as_str(), given)?;
     if way.tells_outcome {
-        tell_outcome(rt, case.input)?;
+        push_outcome(alloc, text, case.input)?;
     }
     if way.is_cut {
-        return compare_cuts(rt, case, told.as_str());
+        return compare_cuts(alloc, text, case, told.as_str());
     }
     if !others.is_empty() {
-        compare(rt, case, Call::Program, others, told.as_str())?;
+        compare(alloc, text, case, Call::Program, others, told.as_str())?;
     }
-    compare_forms(rt, case, told.as_str())
+    compare_forms(alloc, text, case, told.as_str())
 }
 
 /// What the command tells by this call: what was written, where there was room for all, and how it ended.
@@ -101,76 +102,92 @@ fn end_told(
     Ok(text)
 }
 
-/// Prints what was told; of what it is given that this begins with, no more than that it does.
-fn print_told(rt: &HostRuntime, told: &str, given: &str) -> Result<(), Fail> {
+/// Writes what was told; of what it is given that this begins with, no more than that it does.
+fn push_told(text: &mut String, told: &str, given: &str) -> Result<(), AllocError> {
     let Some(rest) = told.strip_prefix(given) else {
-        rt.println("something else")?;
-        rt.print(told)?;
-        return Ok(());
+        text.push_str("something else\n")?;
+        return text.push_str(told);
     };
     if !given.is_empty() {
-        rt.println("all of that, and then")?;
+        text.push_str("all of that, and then\n")?;
     }
-    rt.print(rest)?;
-    Ok(())
+    text.push_str(rest)
 }
 
-/// Prints what becomes of the stream that the lines are pieces of.
-fn tell_outcome(rt: &HostRuntime, lines: &str) -> Result<(), Fail> {
+/// Writes what becomes of the stream that the lines are pieces of.
+fn push_outcome(alloc: Global, text: &mut String, lines: &str) -> Result<(), Fail> {
     let mut reader = lines.as_bytes();
-    let mut written = Vec::new(rt.alloc());
-    let outcome = answer_stream(rt.alloc(), &mut reader, &mut written)?;
-    let outcome = format!(in rt.alloc(); "{outcome:?}")?;
-    rt.println(outcome.as_str())?;
-    let in_memory = answer_stream_bytes(rt.alloc(), lines.as_bytes(), &mut written)?;
-    let in_memory = format!(in rt.alloc(); "{in_memory:?}")?;
+    let mut written = Vec::new(alloc);
+    let outcome = answer_stream(alloc, &mut reader, &mut written)?;
+    let outcome = format!(in alloc; "{outcome:?}")?;
+    writeln!(text, "{outcome}")?;
+    let in_memory = answer_stream_bytes(alloc, lines.as_bytes(), &mut written)?;
+    let in_memory = format!(in alloc; "{in_memory:?}")?;
     if in_memory != outcome {
-        rt.println(format_args!("but in memory {in_memory}"))?;
+        writeln!(text, "but in memory {in_memory}")?;
     }
     Ok(())
 }
 
 /// Carries the command out with its line cut into two, behind each of the bytes that its digits spell, and
 /// before the first.
-fn compare_cuts(rt: &HostRuntime, case: &Case<'_>, wanted: &str) -> Result<(), Fail> {
+fn compare_cuts(
+    alloc: Global,
+    text: &mut String,
+    case: &Case<'_>,
+    wanted: &str,
+) -> Result<(), Fail> {
     let digits = case.input.strip_suffix("\n").unwrap_or(case.input);
     for place in 0..=digits.len() / 2 {
         let (first, second) = digits.split_at_checked(2 * place).unwrap_or(("", ""));
-        let lines = format!(in rt.alloc(); "{first}\n{second}\n")?;
+        let lines = format!(in alloc; "{first}\n{second}\n")?;
         let cut = Case {
             command: case.command,
             input: lines.as_str(),
             way: case.way,
         };
-        compare_forms(rt, &cut, wanted)?;
+        compare_forms(alloc, text, &cut, wanted)?;
     }
     Ok(())
 }
 
 /// Carries the command out over a reader and a writer, and in memory where that may tell the same.
-fn compare_forms(rt: &HostRuntime, case: &Case<'_>, wanted: &str) -> Result<(), Fail> {
-    compare(rt, case, Call::ReaderAndWriter, case.way.pieces, wanted)?;
+fn compare_forms(
+    alloc: Global,
+    text: &mut String,
+    case: &Case<'_>,
+    wanted: &str,
+) -> Result<(), Fail> {
+    compare(
+        alloc,
+        text,
+        case,
+        Call::ReaderAndWriter,
+        case.way.pieces,
+        wanted,
+    )?;
     if case.way.is_whole() {
-        compare(rt, case, Call::Memory, "0", wanted)?;
+        compare(alloc, text, case, Call::Memory, "0", wanted)?;
     }
     Ok(())
 }
 
-/// Carries the command out by this call with pieces of each length, and prints what it tells where that is
+/// Carries the command out by this call with pieces of each length, and writes what it tells where that is
 /// something else.
 fn compare(
-    rt: &HostRuntime,
+    alloc: Global,
+    text: &mut String,
     case: &Case<'_>,
     call: Call,
     piece_lens: &str,
     wanted: &str,
 ) -> Result<(), Fail> {
     for piece_len in piece_lens.split(" and ") {
-        let told = told(rt.alloc(), case, call, piece_len)?;
+        let told = told(alloc, case, call, piece_len)?;
         if told.as_str() != wanted {
             let input = case.input;
-            rt.println(format_args!("but {call:?} {piece_len}, of {input:?}"))?;
-            rt.print(told.as_str())?;
+            writeln!(text, "but {call:?} {piece_len}, of {input:?}")?;
+            text.push_str(told.as_str())?;
         }
     }
     Ok(())

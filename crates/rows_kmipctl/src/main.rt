@@ -1,26 +1,26 @@
-//! `kmipctl` once more, for its stored runs. Standard input has one command after the other. What is
-//! printed are these commands, what each writes, and its exit status; or what a command asks for.
-//! Commands over links in memory are lines too, of which `rows_links` tells.
+//! `kmipctl` once more, for its rows. A row has commands, with what each writes and its exit status; or with
+//! what it asks for. Commands over links in memory are calls too, of which `rows_links` tells. Arguments
+//! are the rows' files, and `--name WORD` for the rows alone whose names begin so (`run_rows` of
+//! test_support). The files of all other rows are written all the same.
 //!
-//! A line of standard input is one of
+//! A call is one of
 //!
-//!     # WORDS              a remark
-//!     file NAME            the lines behind it, up to a line `end`, are the file
+//!     file NAME            its further lines are the file
 //!     $ kmipctl WORDS      a command line, in which `%20` is a space of a word; variables may stand before
 //!                          it as `NAME=VALUE`, of which the value `%FF` is no UTF-8
 //!     taken kmipctl WORDS  a command line, in which `PORT` is a port that is taken meanwhile
 //!     serve kmipctl WORDS  the command `serve`: what it writes, with `PORT` in the place of its port
 //!     ? kmipctl WORDS      the same, of which no more is done than to say what it asks for
-//!     < kmipctl WORDS      the same of `answer`, `show`, `check`, `list` and `sim`, whose input are the lines
-//!                          behind it, up to a line `end`, and a file `-` too. It is carried out as the
-//!                          program does it, over a reader and a writer, and in memory: what the first
-//!                          tells is printed, and what another tells only where that is something else
+//!     < kmipctl WORDS      the same of `answer`, `show`, `check`, `list` and `sim`, whose input are the
+//!                          further lines, and a file `-` too. It is carried out as the program does it,
+//!                          over a reader and a writer, and in memory: it tells what the first tells, and
+//!                          what another tells only where that is something else
 //!     < kmipctl WORDS | WAY, ..    the same, carried out in this way
-//!     exchanges            the lines behind it, up to a line `end`, are a question and replies to it in
-//!                          hexadecimal: what is told of each exchange
+//!     exchanges            its further lines are a question and replies to it in hexadecimal: what is told
+//!                          of each exchange
 //!     probe WORDS          a probe over a link in memory
-//!     runs of PLAN         runs over such a link: the lines behind it, up to a line `end`, say which
-//!     look of PLAN         a look over such a link: the lines behind it, up to a line `end`, say what is there
+//!     runs of PLAN         runs over such a link: the calls behind it in its row say which
+//!     look of PLAN         a look over such a link: its further lines say what is there
 //!
 //! The way in which a command is carried out is told by
 //!
@@ -44,21 +44,24 @@
 //!                                 which is printed whether it is
 #![tactic(auto)]
 
+mod calls;
 mod commands;
 mod forms;
+mod printed;
 mod readers;
 mod repeating;
 mod serving;
-mod transcript;
 mod typed;
 mod ways;
 mod wording;
 mod writers;
 
-use crate::transcript::Commands;
+use crate::calls::Commands;
+use crate::printed::redirect;
+use std::process::ExitCode;
 use std::test::Fail;
-use test_support::replay;
+use test_support::run_rows;
 
-fn main(rt: HostRuntime) -> Result<(), Fail> {
-    replay::<Commands>(&rt)
+fn main(rt: HostRuntime) -> Result<ExitCode, Fail> {
+    run_rows::<Commands>(&rt, &mut redirect(&rt)?)
 }

@@ -1,6 +1,7 @@
 //! A command line as it is typed, with the variables that are set for it alone.
 
 use kmip_command_line::{Environment, Variable};
+use std::alloc::Global;
 use std::test::Fail;
 
 /// A command line, and its environment.
@@ -14,15 +15,15 @@ pub(crate) struct Typed {
 impl Typed {
     /// What a line says: variables as `NAME=VALUE`, and then the words. `%20` in one is a space, and the
     /// value `%FF` is no UTF-8.
-    pub(crate) fn of(rt: &HostRuntime, line: &str) -> Result<Typed, Fail> {
+    pub(crate) fn of(alloc: Global, line: &str) -> Result<Typed, Fail> {
         let mut typed = Typed {
-            words: Vec::new(rt.alloc()),
+            words: Vec::new(alloc),
             environment: Environment::empty(),
         };
         for word in line.split(' ') {
-            let word = word.replace(rt.alloc(), "%20", " ")?;
+            let word = word.replace(alloc, "%20", " ")?;
             match word.as_str().split_once('=') {
-                Some((name, value)) if typed.words.is_empty() => typed.set(rt, name, value)?,
+                Some((name, value)) if typed.words.is_empty() => typed.set(alloc, name, value)?,
                 Some(_) | None => typed.words.push(word)?,
             }
         }
@@ -30,8 +31,8 @@ impl Typed {
     }
 
     /// Sets the variable of this name.
-    fn set(&mut self, rt: &HostRuntime, name: &str, value: &str) -> Result<(), Fail> {
-        let variable = variable_of(rt, value)?;
+    fn set(&mut self, alloc: Global, name: &str, value: &str) -> Result<(), Fail> {
+        let variable = variable_of(alloc, value)?;
         match name {
             "KMIPCTL_CONNECT" => self.environment.connect = variable,
             "KMIPCTL_SOCKET" => self.environment.socket = variable,
@@ -44,9 +45,9 @@ impl Typed {
 }
 
 /// What a variable with this value says.
-fn variable_of(rt: &HostRuntime, value: &str) -> Result<Variable, Fail> {
+fn variable_of(alloc: Global, value: &str) -> Result<Variable, Fail> {
     if value == "%FF" {
         return Ok(Variable::NoText);
     }
-    Ok(Variable::of(String::from_str(rt.alloc(), value)?))
+    Ok(Variable::of(String::from_str(alloc, value)?))
 }

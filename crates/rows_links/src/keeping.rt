@@ -5,7 +5,7 @@ ghost use Rattle.kmip_messages.specs.Members.{may_have};
 use crate::probing::script_link;
 use crate::settings::{Settings, batch_of};
 use crate::shelf::Shelf;
-use crate::short::{Tally, print_short};
+use crate::short::{Tally, push_short};
 use crate::watching::{Count, Patient, Stopped};
 use kmip_client::Client;
 use kmip_message_commands::ExitStatus;
@@ -14,11 +14,13 @@ use kmip_plan_commands::{Report, RunInput, Spent, begin, progress_line, run_run}
 use kmip_runs::{Keeper, Observed, Pace, SaveFault, Stop, carry_out, next_wait};
 use kmip_scripted::Scripted;
 use kmip_server::ListStore;
-use std::alloc::Global;
+use std::alloc::{AllocError, Global};
 use std::cell::Cell;
 use std::fs;
-use std::io::{self, BufWriter, Write};
+use std::io::Write;
+use std::str::from_utf8;
 use std::test::Fail;
+use test_support::Call;
 
 /// A link to a server in memory that follows a script, and tells who counts.
 type Watched = Observed<Scripted<ListStore>, Count>;
@@ -62,17 +64,21 @@ struct Order<'o> {
     saved: Option<&'o str>,
 }
 
-/// Does what the lines of a block `runs of` say, whose first line names a plan, and what its link does.
+/// Does what calls behind a line `runs of` say, which names a plan and what its link does. What each tells is
+/// appended, and nothing for that line.
 ///
 /// # Errors
-/// Where a line can't be read, a file of its plans is none, there is no memory, or printing fails.
-pub fn hold_runs(rt: &HostRuntime, head: &str, lines: &str) -> Result<(), Fail> {
-    rt.println(head)?;
+/// Where a line can't be read, a file of its plans is none, or there is no memory.
+pub fn hold_runs(
+    rt: &HostRuntime,
+    head: &str,
+    calls: &[Call<'_>],
+    told: &mut Vec<String>,
+) -> Result<(), Fail> {
+    told.push(String::new(rt.alloc()))?;
     let heading = heading_of(head)?;
     let plan = plan_in(rt, heading.plan)?;
-    take_lines(rt, &heading, &plan, lines)?;
-    rt.println("end")?;
-    Ok(())
+    take_calls(rt, &heading, &plan, calls, told)
 }
 
 /// The plan in a file.
@@ -94,12 +100,13 @@ fn heading_of(head: &str) -> Result<Heading<'_>, Fail> {
     })
 }
 
-/// A client that knows nothing of the plan, and a link, for these lines.
-fn take_lines(
+/// A client that knows nothing of the plan, and a link, for these calls.
+fn take_calls(
     rt: &HostRuntime,
     heading: &Heading<'_>,
     plan: &Plan,
-    lines: &str,
+    calls: &[Call<'_>],
+    told: &mut Vec<String>,
 ) -> Result<(), Fail> {
     let clock = Stopped {
         slept: Cell::new(0),
@@ -113,13 +120,21 @@ fn take_lines(
         link,
         patience: Patient::new(Pace::new(&clock, heading.wait, heading.give_up)),
     };
-    take_turns(rt, &mut case, lines)
+    take_turns(rt, &mut case, calls, told)
 }
 
-/// Does what each of the lines says.
-fn take_turns(rt: &HostRuntime, case: &mut Case<'_>, lines: &str) -> Result<(), Fail> {
-    for line in lines.lines() {
-        take_turn(rt, case, line)?;
+/// Does what each of the calls says; `/` stands for a line feed in it.
+fn take_turns(
+    rt: &HostRuntime,
+    case: &mut Case<'_>,
+    calls: &[Call<'_>],
+    told: &mut Vec<String>,
+) -> Result<(), Fail> {
+    for call in calls {
+        let line = call.head.replace(rt.alloc(), "/", "\n")?;
+        let mut text = String::new(rt.alloc());
+        turn(rt, &mut text, case, line.as_str())?;
+        told.push(text)?;
     }
     Ok(())
 }
@@ -136,25 +151,17 @@ fn link_of(alloc: Global, heading: &Heading<'_>) -> Result<Watched, Fail> {
     Ok(Observed::new(link, count))
 }
 
-/// Prints a line, and does what it says; `/` stands for a line feed in it.
-fn take_turn(rt: &HostRuntime, case: &mut Case<'_>, line: &str) -> Result<(), Fail> {
-    rt.println(line)?;
-    let line = line.replace(rt.alloc(), "/", "\n")?;
-    turn(rt, case, line.as_str())
-}
-
-/// Does what a line says, whose text is as it is now.
-fn turn(rt: &HostRuntime, case: &mut Case<'_>, line: &str) -> Result<(), Fail> {
-    let (head, text) = parts_of(line);
+/// Does what a line says, and writes what is told of it.
+fn turn(rt: &HostRuntime, text: &mut String, case: &mut Case<'_>, line: &str) -> Result<(), Fail> {
+    let (head, saved) = parts_of(line);
     let (word, words) = head.split_once(' ').unwrap_or((head, ""));
     match word {
-        "#" => Ok(()),
-        "run" => run(rt, case, words, text),
-        "carry" => carry(rt, case, words),
-        "standing" => standing(rt, case, words, text),
-        "waits" => print_waits(rt, words.parse()?),
-        "told" => print_told(rt, case),
-        "patience" => print_patience(rt, &case.patience),
+        "run" => run(rt, text, case, words, saved),
+        "carry" => carry(rt.alloc(), text, case, words),
+        "standing" => standing(rt.alloc(), text, case, words, saved),
+        "waits" => Ok(push_waits(text, words.parse()?)?),
+        "told" => Ok(push_told(text, case)?),
+        "patience" => Ok(push_patience(text, &case.patience)?),
         _ => Err(Fail::new("no line of runs")),
     }
 }
@@ -170,6 +177,7 @@ fn parts_of(line: &str) -> (&str, Option<&str>) {
 /// The command `run` over the link, from the text of a saved progress or from nothing.
 fn run(
     rt: &HostRuntime,
+    text: &mut String,
     case: &mut Case<'_>,
     words: &str,
     saved: Option<&str>,
@@ -184,39 +192,63 @@ fn run(
         saved,
     };
     if settings.is_short {
-        return run_in_short(rt, &order, case);
+        return run_in_short(rt.alloc(), text, &order, case);
     }
     let mut shelf = Shelf::new(rt.alloc(), settings.room);
     let status = match settings.writer {
-        Some(size) => {
-            let mut room = vec![in rt.alloc(); 0u8; size]?;
-            run_with(
-                rt.alloc(),
-                &order,
-                case,
-                &mut shelf,
-                &mut room.as_mut_slice(),
-            )
-        }
-        None => {
-            let mut writer = BufWriter::new(rt.alloc(), io::writer(rt))?;
-            run_with(rt.alloc(), &order, case, &mut shelf, &mut writer)
-        }
+        Some(size) => run_with_room(rt.alloc(), &order, case, &mut shelf, size)?,
+        None => run_told(rt.alloc(), text, &order, case, &mut shelf)?,
     };
-    print_status(rt, status)?;
-    shelf.print(rt)
+    push_status(text, status)?;
+    shelf.push(rt.alloc(), text)
 }
 
-/// Runs `run`, and prints how much it writes and keeps, with the ends of that.
-fn run_in_short(rt: &HostRuntime, order: &Order<'_>, case: &mut Case<'_>) -> Result<(), Fail>
+/// Runs `run` with a writer that has room for so many bytes, of which nothing is told.
+fn run_with_room(
+    alloc: Global,
+    order: &Order<'_>,
+    case: &mut Case<'_>,
+    shelf: &mut Shelf,
+    size: usize,
+) -> Result<ExitStatus, Fail>
     requires { IsTrue (may_have order.now.batch) }
 {
-    let mut tally = Tally::new(rt.alloc());
-    let mut written = Vec::new(rt.alloc());
-    let status = run_with(rt.alloc(), order, case, &mut tally, &mut written);
-    print_short(rt, "written", written.as_slice())?;
-    print_status(rt, status)?;
-    tally.print(rt)
+    let mut room = vec![in alloc; 0u8; size]?;
+    let mut writer = room.as_mut_slice();
+    Ok(run_with(alloc, order, case, shelf, &mut writer))
+}
+
+/// Runs `run`, and writes what it writes.
+fn run_told(
+    alloc: Global,
+    text: &mut String,
+    order: &Order<'_>,
+    case: &mut Case<'_>,
+    shelf: &mut Shelf,
+) -> Result<ExitStatus, Fail>
+    requires { IsTrue (may_have order.now.batch) }
+{
+    let mut written = Vec::new(alloc);
+    let status = run_with(alloc, order, case, shelf, &mut written);
+    text.push_str(from_utf8(written.as_slice())?)?;
+    Ok(status)
+}
+
+/// Runs `run`, and writes how much it writes and keeps, with the ends of that.
+fn run_in_short(
+    alloc: Global,
+    text: &mut String,
+    order: &Order<'_>,
+    case: &mut Case<'_>,
+) -> Result<(), Fail>
+    requires { IsTrue (may_have order.now.batch) }
+{
+    let mut tally = Tally::new(alloc);
+    let mut written = Vec::new(alloc);
+    let status = run_with(alloc, order, case, &mut tally, &mut written);
+    push_short(text, "written", written.as_slice())?;
+    push_status(text, status)?;
+    tally.push(text)
 }
 
 /// Runs `run` over the link of the case, with this keeper and this writer.
@@ -240,50 +272,51 @@ fn run_with<K: Keeper, W: Write>(
     run_run(alloc, plan, &input, saved, link, keeper, patience, writer)
 }
 
-/// Prints how a command ended.
-fn print_status(rt: &HostRuntime, status: ExitStatus) -> io::Result<()> {
-    rt.println(format_args!("exit status {}, {status:?}", status.code()))
+/// Writes how a command ended.
+fn push_status(text: &mut String, status: ExitStatus) -> Result<(), AllocError> {
+    writeln!(text, "exit status {}, {status:?}", status.code())
 }
 
 /// The client goes on over the link.
-fn carry(rt: &HostRuntime, case: &mut Case<'_>, words: &str) -> Result<(), Fail> {
+fn carry(alloc: Global, text: &mut String, case: &mut Case<'_>, words: &str) -> Result<(), Fail> {
     let settings = Settings::of(words)?;
-    let mut shelf = Shelf::new(rt.alloc(), settings.room);
+    let mut shelf = Shelf::new(alloc, settings.room);
     let (carried, made) = carry_out(
-        rt.alloc(),
+        alloc,
         &mut case.client,
         &mut case.link,
         &mut shelf,
         &mut case.patience,
         settings.limit,
     );
-    print_carried(rt, carried, made)?;
-    shelf.print(rt)
+    push_carried(text, carried, made)?;
+    shelf.push(alloc, text)
 }
 
-fn print_carried(
-    rt: &HostRuntime,
+fn push_carried(
+    text: &mut String,
     carried: Result<Stop, SaveFault>,
     made: usize,
-) -> io::Result<()> {
+) -> Result<(), AllocError> {
     match carried {
-        Ok(stop) => rt.println(format_args!("stop {} {made}", stop.name())),
-        Err(fault) => rt.println(format_args!("not kept {fault:?} {made}")),
+        Ok(stop) => writeln!(text, "stop {} {made}", stop.name()),
+        Err(fault) => writeln!(text, "not kept {fault:?} {made}"),
     }
 }
 
 /// The line that says how far a run is that began with a text and has spent so much: exchanges, lost
 /// ones, refused questions and seconds.
 fn standing(
-    rt: &HostRuntime,
+    alloc: Global,
+    text: &mut String,
     case: &Case<'_>,
     words: &str,
     saved: Option<&str>,
 ) -> Result<(), Fail> {
     let spent = spent_of(words)?;
-    match begin(rt.alloc(), case.client.plan(), saved) {
-        Ok(client) => rt.println(&progress_line(rt.alloc(), &client, spent)?)?,
-        Err(fault) => rt.println(format_args!("refused {} {}", fault.number(), fault.name()))?,
+    match begin(alloc, case.client.plan(), saved) {
+        Ok(client) => writeln!(text, "{}", progress_line(alloc, &client, spent)?)?,
+        Err(fault) => writeln!(text, "refused {} {}", fault.number(), fault.name())?,
     }
     Ok(())
 }
@@ -301,43 +334,34 @@ fn spent_of(words: &str) -> Result<Spent, Fail> {
     })
 }
 
-/// The waits after nine exchanges by which a run did not get on, and the one after it did, from this first
-/// wait.
-fn print_waits(rt: &HostRuntime, first: u64) -> Result<(), Fail> {
+/// Writes the waits after nine exchanges by which a run did not get on, and the one after it did, from this
+/// first wait.
+fn push_waits(text: &mut String, first: u64) -> Result<(), AllocError> {
     let mut wait = 0;
     for _ in 0..9 {
         wait = next_wait(wait, first, false);
-        rt.print(format_args!("{wait} "))?;
+        write!(text, "{wait} ")?;
     }
     let wait = next_wait(wait, first, true);
-    rt.println(format_args!("and then {wait}"))?;
-    Ok(())
+    writeln!(text, "and then {wait}")
 }
 
-/// How many messages were sent, what was told of them, and for how long it was slept.
-fn print_told(rt: &HostRuntime, case: &Case<'_>) -> Result<(), Fail> {
-    print_count(rt, sent_over(case.link.link()), case.link.observer())?;
-    rt.println(format_args!(
-        "slept {} ms, to wait {} ms",
-        case.clock.slept.get(),
-        case.patience.pace().wait()
-    ))?;
-    Ok(())
+/// Writes how many messages were sent, what was told of them, and for how long it was slept.
+fn push_told(text: &mut String, case: &Case<'_>) -> Result<(), AllocError> {
+    push_count(text, sent_over(case.link.link()), case.link.observer())?;
+    let (slept, wait) = (case.clock.slept.get(), case.patience.pace().wait());
+    writeln!(text, "slept {slept} ms, to wait {wait} ms")
 }
 
-/// By how many exchanges the runs got on, of how many, and whether patience gave up.
-fn print_patience(rt: &HostRuntime, patience: &Patient<'_>) -> Result<(), Fail> {
+/// Writes by how many exchanges the runs got on, of how many, and whether patience gave up.
+fn push_patience(text: &mut String, patience: &Patient<'_>) -> Result<(), AllocError> {
     let end = if patience.pace().has_given_up() {
         "gave up"
     } else {
         "did not give up"
     };
-    rt.println(format_args!(
-        "got on by {} of {} exchanges, {end}",
-        patience.got_on(),
-        patience.exchanges()
-    ))?;
-    Ok(())
+    let (got_on, exchanges) = (patience.got_on(), patience.exchanges());
+    writeln!(text, "got on by {got_on} of {exchanges} exchanges, {end}")
 }
 
 /// How many messages were sent.
@@ -345,11 +369,12 @@ fn sent_over(link: &Scripted<ListStore>) -> usize {
     link.requests().len()
 }
 
-/// Prints how many messages were sent, and what was told of them.
-fn print_count(rt: &HostRuntime, sent: usize, count: &Count) -> io::Result<()> {
-    rt.print(format_args!("messages {sent}, replies {}, ", count.replies))?;
-    rt.print(format_args!(
+/// Writes how many messages were sent, and what was told of them.
+fn push_count(text: &mut String, sent: usize, count: &Count) -> Result<(), AllocError> {
+    write!(text, "messages {sent}, replies {}, ", count.replies)?;
+    write!(
+        text,
         "losses {}, faults {}, ends {}; ",
         count.losses, count.faults, count.ends
-    ))
+    )
 }

@@ -1,8 +1,8 @@
-//! The stored runs of the commands `run`, `probe` and `look` over links in memory. rows_kmipctl carries them
+//! Calls of the commands `run`, `probe` and `look` over links in memory. rows_kmipctl carries them
 //! out. The links lead to a server that loses nothing or follows a script, to servers that break a
-//! rule, and to peers that are none. What comes of each is printed.
+//! rule, and to peers that are none. What comes of each call is what it tells.
 //!
-//! A line of a transcript is a remark, which is passed over, or one of
+//! A call is one of
 //!
 //!     probe once SCRIPT    a probe of an empty server, over a link that follows this script, in which `/`
 //!                          stands for a line feed; and how many objects the server has then
@@ -16,22 +16,21 @@
 //!     probe answered HEX   a probe of a peer that answers each question by these bytes
 //!     probe lacking NUMBER a probe of an empty server, over a link that has memory for so many exchanges
 //!     runs of PLAN         a client of the plan in this file, and a link to an empty server, which loses
-//!                          nothing: what is done with them is on the lines behind, up to a line `end`.
+//!                          nothing: what is done with them is said by the calls behind it in its row.
 //!                          Behind it may stand ` over WORDS`, the script that the link follows, with `/`
 //!                          between its words, and ` waiting NUMBER`, for how many milliseconds it waits
 //!                          first behind an exchange without a reply, by a clock that stands still
 //!
 //!     look of PLAN         the keys of the plan in this file are looked at, over a link to a peer that
-//!                          answers as the lines behind say, up to a line `end`. Behind it may stand
+//!                          answers as the further lines of the call say. Behind it may stand
 //!                          ` about NUMBER`, how many keys a message asks about at most, else 1, and
 //!                          ` again NUMBER`, how often it is asked again, else 10. A line has a name, the
 //!                          identifiers that are found, with commas between them, or `-`, and what is
 //!                          told: five numbers (type, algorithm, length, usage mask, state; `-` for one
 //!                          that is not told), `silent`, `refused`, `refused NUMBER`, or `rubbish`
 //!
-//! A line of these runs is one of
+//! A call of these runs is one of
 //!
-//!     # WORDS              a remark
 //!     run SETTING, ..      the command `run` over the link: what it writes, its exit status, and each
 //!                          text that it keeps, with `/` in the place of a line feed. Behind it may stand
 //!                          ` from "TEXT"`, the saved progress that it begins with, so written too
@@ -66,5 +65,5 @@ mod short;
 mod watching;
 
 pub use keeping::hold_runs;
-pub use looking::hold_look;
-pub use probing::take_probe;
+pub use looking::push_look;
+pub use probing::push_probe;

@@ -7,9 +7,10 @@ use crate::settings::batch_of;
 use kmip_look::Pause;
 use kmip_look_command::{look_bytes, run_look};
 use kmip_plan::{Plan, read_plan};
+use std::alloc::Global;
+use std::fs;
 use std::str::from_utf8;
 use std::test::Fail;
-use std::{fs, io};
 
 /// What the ids of a look's questions begin with, behind their operations.
 const MARK: &[u8] = b"a mark..";
@@ -38,25 +39,29 @@ impl Pause for Times {
     }
 }
 
-/// Looks as the first line of a block says, at a peer that answers as its other lines say. Prints what is
-/// written over a writer, and what is written in memory only where that is something else.
+/// Looks as these words say, behind `look of`, at a peer that answers as the lines say. Writes what is
+/// written over a writer, and says where something else is written in memory.
 ///
 /// # Errors
-/// Where a line can't be read, the file of the plan is none, there is no memory, or printing fails.
-pub fn hold_look(rt: &HostRuntime, head: &str, lines: &str) -> Result<(), Fail> {
-    rt.println(head)?;
-    let words = head.strip_prefix("look of ").unwrap_or(head);
+/// Where a line can't be read, the file of the plan is none, or there is no memory.
+pub fn push_look(
+    rt: &HostRuntime,
+    text: &mut String,
+    words: &str,
+    lines: &str,
+) -> Result<(), Fail> {
     let (words, times) = words.split_once(" again ").unwrap_or((words, "10"));
     let (path, batch) = words.split_once(" about ").unwrap_or((words, "1"));
-    let text = fs::read_to_string(rt, path)?;
-    let plan = read_plan(rt.alloc(), text.as_str())?;
+    let plan = fs::read_to_string(rt, path)?;
+    let plan = read_plan(rt.alloc(), plan.as_str())?;
     let batch = batch_of(batch.parse()?)?;
-    look_over(rt, &plan, batch, times.parse()?, lines)
+    look_over(rt.alloc(), text, &plan, batch, times.parse()?, lines)
 }
 
 /// Looks at the keys of a plan, about so many in a message.
 fn look_over(
-    rt: &HostRuntime,
+    alloc: Global,
+    text: &mut String,
     plan: &Plan,
     batch: usize,
     times: usize,
@@ -64,11 +69,11 @@ fn look_over(
 ) -> Result<(), Fail>
     requires { IsTrue (may_have batch) }
 {
-    let mut board = Board::of(rt.alloc(), lines)?;
+    let mut board = Board::of(alloc, lines)?;
     let mut pause = Times::new(times);
-    let mut written = Vec::new(rt.alloc());
+    let mut written = Vec::new(alloc);
     let status = run_look(
-        rt.alloc(),
+        alloc,
         plan,
         &mut board,
         MARK,
@@ -76,19 +81,20 @@ fn look_over(
         &mut pause,
         &mut written,
     );
-    rt.print(from_utf8(written.as_slice())?)?;
-    rt.println(format_args!(
-        "exit status {}, messages {}, waits {}",
-        status.code(),
-        board.messages(),
-        pause.asked
-    ))?;
-    look_in_memory(rt, plan, batch, times, lines, written.as_slice())
+    text.push_str(from_utf8(written.as_slice())?)?;
+    let (messages, waits) = (board.messages(), pause.asked);
+    writeln!(
+        text,
+        "exit status {}, messages {messages}, waits {waits}",
+        status.code()
+    )?;
+    look_in_memory(alloc, text, plan, batch, times, lines, written.as_slice())
 }
 
 /// Looks once more in memory, and tells where that appends something else.
 fn look_in_memory(
-    rt: &HostRuntime,
+    alloc: Global,
+    text: &mut String,
     plan: &Plan,
     batch: usize,
     times: usize,
@@ -97,11 +103,11 @@ fn look_in_memory(
 ) -> Result<(), Fail>
     requires { IsTrue (may_have batch) }
 {
-    let mut board = Board::of(rt.alloc(), lines)?;
+    let mut board = Board::of(alloc, lines)?;
     let mut pause = Times::new(times);
-    let mut output = Vec::new(rt.alloc());
+    let mut output = Vec::new(alloc);
     look_bytes(
-        rt.alloc(),
+        alloc,
         plan,
         &mut board,
         MARK,
@@ -110,8 +116,7 @@ fn look_in_memory(
         &mut output,
     )?;
     if output.as_slice() != written {
-        rt.println("in memory something else is appended")?;
+        text.push_str("in memory something else is appended\n")?;
     }
-    rt.println("end")?;
     Ok(())
 }

@@ -9,43 +9,40 @@ use kmip_protocol::Link;
 use kmip_scripted::{Scripted, read_script};
 use kmip_server::{ListStore, Records, Server};
 use std::alloc::Global;
-use std::io;
+use std::str::from_utf8;
 use std::test::Fail;
 
-/// Carries out the probe of a line, if that is one.
+/// Carries out the probe of these words, and writes what it writes and how it ends.
 ///
 /// # Errors
-/// Where the line begins as a probe and is none, there is no memory, or printing fails.
-pub fn take_probe(rt: &HostRuntime, line: &str) -> Result<(), Fail> {
-    let Some(words) = line.strip_prefix("probe ") else {
-        return Ok(());
-    };
+/// Where the words say no probe, or there is no memory.
+pub fn push_probe(alloc: Global, text: &mut String, words: &str) -> Result<(), Fail> {
     let (word, words) = words.split_once(' ').unwrap_or((words, ""));
     match word {
-        "once" => probe_server(rt, words, 1),
-        "twice" => probe_server(rt, words, 2),
+        "once" => probe_server(alloc, text, words, 1),
+        "twice" => probe_server(alloc, text, words, 2),
         "breach" => {
-            let server = Breaking::of(rt.alloc(), words)?;
-            print_probe(rt, &mut Peer::Breaking(server))
+            let server = Breaking::of(alloc, words)?;
+            push_probed(alloc, text, &mut Peer::Breaking(server))
         }
-        "repeats" => print_probe(rt, &mut Peer::Repeating(Repeating::of(words)?)),
-        "answered" => print_probe(rt, &mut Peer::Saying(hex::decode(rt.alloc(), words)?)),
+        "repeats" => push_probed(alloc, text, &mut Peer::Repeating(Repeating::of(words)?)),
+        "answered" => push_probed(alloc, text, &mut Peer::Saying(hex::decode(alloc, words)?)),
         "lacking" => {
-            let link = script_link(rt.alloc(), "")?;
-            print_probe(rt, &mut Lacking::of(link, words)?)
+            let link = script_link(alloc, "")?;
+            push_probed(alloc, text, &mut Lacking::of(link, words)?)
         }
         _ => Err(Fail::new("no probe")),
     }
 }
 
 /// Some probes over one link, which follows the script, and how many objects the server has behind them.
-fn probe_server(rt: &HostRuntime, script: &str, times: u32) -> Result<(), Fail> {
-    let mut link = script_link(rt.alloc(), script)?;
+fn probe_server(alloc: Global, text: &mut String, script: &str, times: u32) -> Result<(), Fail> {
+    let mut link = script_link(alloc, script)?;
     for _ in 0..times {
-        print_probe(rt, &mut link)?;
+        push_probed(alloc, text, &mut link)?;
     }
     let count = link.server().records().count();
-    rt.println(format_args!("objects: {count}"))?;
+    writeln!(text, "objects: {count}")?;
     Ok(())
 }
 
@@ -57,9 +54,11 @@ pub(crate) fn script_link(alloc: Global, script: &str) -> Result<Scripted<ListSt
     Ok(Scripted::new(alloc, server, script))
 }
 
-/// Prints what a probe over the link writes, and its exit status.
-fn print_probe<L: Link>(rt: &HostRuntime, link: &mut L) -> Result<(), Fail> {
-    let status = run_probe(rt.alloc(), "probe", &PlainText, link, &mut io::writer(rt));
-    rt.println(format_args!("exit status {}", status.code()))?;
+/// Writes what a probe over the link writes, and its exit status.
+fn push_probed<L: Link>(alloc: Global, text: &mut String, link: &mut L) -> Result<(), Fail> {
+    let mut written = Vec::new(alloc);
+    let status = run_probe(alloc, "probe", &PlainText, link, &mut written);
+    text.push_str(from_utf8(written.as_slice())?)?;
+    writeln!(text, "exit status {}", status.code())?;
     Ok(())
 }

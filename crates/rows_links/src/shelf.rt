@@ -32,11 +32,11 @@ impl Shelf {
         }
     }
 
-    /// Prints each text that was kept, with `/` in the place of a line feed.
-    pub(crate) fn print(&self, rt: &HostRuntime) -> Result<(), Fail> {
-        for text in &self.texts {
-            let line = line_of(rt.alloc(), text)?;
-            rt.println(format_args!("kept {line}"))?;
+    /// Writes each text that was kept, with `/` in the place of a line feed.
+    pub(crate) fn push(&self, alloc: Global, text: &mut String) -> Result<(), Fail> {
+        for kept in &self.texts {
+            let line = line_of(alloc, kept)?;
+            writeln!(text, "kept {line}")?;
         }
         Ok(())
     }

@@ -1,8 +1,7 @@
 //! How much a run wrote and kept, and the ends of that, where the whole is long.
 
 use kmip_runs::{Keeper, SaveFault};
-use std::alloc::Global;
-use std::io;
+use std::alloc::{AllocError, Global};
 use std::str::from_utf8;
 use std::test::Fail;
 
@@ -24,10 +23,10 @@ impl Tally {
         }
     }
 
-    /// Prints how many texts were given, and of the last one what `print_short` prints.
-    pub(crate) fn print(&self, rt: &HostRuntime) -> Result<(), Fail> {
-        rt.println(format_args!("kept {} texts of {} bytes", self.texts, self.bytes))?;
-        print_short(rt, "last text", self.last.as_slice())
+    /// Writes how many texts were given, and of the last one what `push_short` writes.
+    pub(crate) fn push(&self, text: &mut String) -> Result<(), Fail> {
+        writeln!(text, "kept {} texts of {} bytes", self.texts, self.bytes)?;
+        push_short(text, "last text", self.last.as_slice())
     }
 }
 
@@ -52,22 +51,21 @@ impl Keeper for Tally {
     }
 }
 
-/// Prints how many lines and bytes a text has, its checksum, and its last two lines.
-pub(crate) fn print_short(rt: &HostRuntime, name: &str, text: &[u8]) -> Result<(), Fail> {
-    let lines = from_utf8(text)?.lines().count();
-    let sum = checksum(text);
-    rt.println(format_args!(
-        "{name}: {lines} lines, {} bytes, checksum {sum}",
-        text.len()
-    ))?;
-    print_ends(rt, from_utf8(text)?, lines)?;
+/// Writes how many lines and bytes there are, a checksum of them, and the last two lines.
+pub(crate) fn push_short(text: &mut String, name: &str, bytes: &[u8]) -> Result<(), Fail> {
+    let lines = from_utf8(bytes)?;
+    let count = lines.lines().count();
+    let sum = checksum(bytes);
+    let size = bytes.len();
+    writeln!(text, "{name}: {count} lines, {size} bytes, checksum {sum}")?;
+    push_ends(text, lines, count)?;
     Ok(())
 }
 
-/// Prints the last two of so many lines.
-fn print_ends(rt: &HostRuntime, text: &str, count: usize) -> io::Result<()> {
-    for line in text.lines().skip(count.saturating_sub(2)) {
-        rt.println(line)?;
+/// Writes the last two of so many lines.
+fn push_ends(text: &mut String, lines: &str, count: usize) -> Result<(), AllocError> {
+    for line in lines.lines().skip(count.saturating_sub(2)) {
+        writeln!(text, "{line}")?;
     }
     Ok(())
 }
