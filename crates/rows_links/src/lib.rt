@@ -7,6 +7,7 @@
 //!     probe once SCRIPT    a probe of an empty server, over a link that follows this script, in which `/`
 //!                          stands for a line feed; and how many objects the server has then
 //!     probe twice SCRIPT   the same, of two probes over this link
+//!     probe bytes SCRIPT   a probe in memory over this link: what is appended, and whether it is refused
 //!     probe breach BREACH  a probe of a server that keeps all rules but one (`breaking.rt` says which)
 //!     probe repeats ID     a probe of a peer that answers each question by a Locate's reply: no object
 //!                          until two questions were asked, and then one and the same. Its id is that of

@@ -4,7 +4,7 @@ use crate::breaking::Breaking;
 use crate::lacking::Lacking;
 use crate::peer::Peer;
 use crate::repeating_peer::Repeating;
-use kmip_probe_command::{PlainText, run_probe};
+use kmip_probe_command::{PlainText, probe_bytes, run_probe};
 use kmip_protocol::Link;
 use kmip_scripted::{Scripted, read_script};
 use kmip_server::{ListStore, Records, Server};
@@ -21,6 +21,7 @@ pub fn push_probe(alloc: Global, text: &mut String, words: &str) -> Result<(), F
     match word {
         "once" => probe_server(alloc, text, words, 1),
         "twice" => probe_server(alloc, text, words, 2),
+        "bytes" => probe_in_memory(alloc, text, words),
         "breach" => {
             let server = Breaking::of(alloc, words)?;
             push_probed(alloc, text, &mut Peer::Breaking(server))
@@ -43,6 +44,17 @@ fn probe_server(alloc: Global, text: &mut String, script: &str, times: u32) -> R
     }
     let count = link.server().records().count();
     writeln!(text, "objects: {count}")?;
+    Ok(())
+}
+
+/// A probe in memory over a link that follows the script: what is appended, and whether a premise is not seen
+/// to be kept.
+fn probe_in_memory(alloc: Global, text: &mut String, script: &str) -> Result<(), Fail> {
+    let mut link = script_link(alloc, script)?;
+    let mut written = Vec::new(alloc);
+    let is_refused = probe_bytes(alloc, "probe", &PlainText, &mut link, &mut written)?;
+    text.push_str(from_utf8(written.as_slice())?)?;
+    writeln!(text, "refused: {is_refused}")?;
     Ok(())
 }
 

@@ -158,6 +158,20 @@ fn assert_examples(rt: &impl Abort, alloc: Global, texts: &[&str]) -> Result<(),
     Ok(())
 }
 
+/// A Date-Time tells its seconds, and no other item does.
+fn assert_date_times(rt: &impl Abort, alloc: Global) -> Result<(), AllocError> {
+    for place in 0..EXAMPLES.len() {
+        let wanted = if place == 8 {
+            Some(1_205_495_800)
+        } else {
+            None
+        };
+        let item = example(alloc, place)?;
+        assert_true(rt, item.as_date_time() == wanted, "a date-time");
+    }
+    Ok(())
+}
+
 /// This many Structures, each within the one before it.
 fn nested(alloc: Global, levels: u32) -> Result<Vec<u8>, AllocError> {
     let mut bytes = Vec::new(alloc);
@@ -236,6 +250,7 @@ fn assert_levels_fit(rt: &impl Abort, alloc: Global) -> Result<(), AllocError> {
 #[test]
 fn writes_each_type_within_the_limits(rt: HostRuntime) -> Result<(), Fail> {
     assert_examples(&rt, rt.alloc(), &EXAMPLES)?;
+    assert_date_times(&rt, rt.alloc())?;
     assert_levels(&rt, rt.alloc())?;
     assert_lengths(&rt, rt.alloc())?;
     assert_all_fitting(&rt, rt.alloc())?;

@@ -65,6 +65,8 @@ fn check_way(rt: &impl Abort, alloc: Global, words: &str, wanted: &str) -> Resul
     let text = way_and_bound(alloc, &plan)?;
     assert_text(rt, text.as_str(), wanted, words);
     assert_true(rt, plan.key(1).is_none(), words);
+    assert_true(rt, plan.key_named("k1").is_some(), words);
+    assert_true(rt, plan.key_named("k2").is_none(), words);
     Ok(())
 }
 
