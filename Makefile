@@ -17,6 +17,7 @@
 # make origin     runs it on progress files that were kept against other servers, or for other keys (needs python3)
 # make causes     runs it where files, sockets and standard streams fail, and compares what it tells (needs python3)
 # make reports    reads what each command prints with --json by another reader (needs python3)
+# make completions  lets bash, zsh and fish complete command lines by its scripts (needs python3; zsh, fish if there)
 # make installed  installs it into a scratch folder, and carries out a timer's day there (needs python3)
 # make tls        carries a plan out over TLS between two tunnels, with client certificates (needs openssl, stunnel)
 # make pykmip     probes PyKMIP's engine, and carries a plan out against it (needs python3-pykmip of Debian)
@@ -35,7 +36,7 @@ DESTDIR =
 growths := crates/test_memory/out/test_memory
 sources := crates.txt $(shell find crates -name out -prune -o \( -name '*.rt' -o -name '*.antt' \) -print)
 
-.PHONY: all install uninstall dist deb demo check test rows bench refuse faults hostile storm peers troubles origin causes reports installed tls pykmip reading reference man layers examples documents tools help
+.PHONY: all install uninstall dist deb demo check test rows bench refuse faults hostile storm peers troubles origin causes reports completions installed tls pykmip reading reference man layers examples documents tools help
 
 all: $(program)
 
@@ -101,6 +102,9 @@ causes: $(program)
 
 reports: $(program)
 	@python3 bench/reports.py $(program) out/reports
+
+completions: $(program)
+	@python3 bench/completions.py $(program) out/completions
 
 installed: $(program)
 	@bench/install.sh $(program) out/installed

@@ -248,6 +248,7 @@ class Causes:
         commands = [
             ('answer',), ('answer', '--stream'), ('show',), ('show', '--canon'), CHECK, CHECK_AFTER, SIM, SIM_THEN,
             (*RUN, '--progress', 'p'), PROBE, SERVE, ('--help',), ('run', '--help'), ('--version',),
+            ('completions', 'zsh'),
         ]
         for words in commands:
             self.on_full(words)

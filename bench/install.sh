@@ -86,11 +86,18 @@ status 1"
     look 'all can read it' "$(find "$root" ! -perm -044)" ''
     look 'nothing else was written' "$(ls "$root" "$root/usr")" "$(printf '%s:\nusr\n\n%s/usr:\nlocal' "$root" "$root")"
     look 'the program is the one that was built' "$(cmp "$program" "$place/bin/kmipctl" 2>&1)" ''
-    look 'its version' "$("$place/bin/kmipctl" --version)" "$(python3 tools/package.py made-of | head -1)"
+    look 'the scripts of the shells are what the program prints' \
+        "$(cd "$place/share" && head -qn 3 bash-completion/completions/kmipctl zsh/site-functions/_kmipctl fish/vendor_completions.d/kmipctl.fish |
+            sed -n 's/.*made by `\(.*\)`.*/\1/p')" \
+        "$(printf 'kmipctl completions %s\n' bash zsh fish)"
+    for shell in bash zsh fish; do
+        look "all of that of $shell" "$("$place/bin/kmipctl" completions "$shell" | diff -q - "$(find "$place/share/$shell"* -type f)")" ''
+    done
+    look 'its version' "$("$place/bin/kmipctl" --version)" "$(python3 tools/package.py made-of | sed -n '1p;3p')"
 }
 
 look_at_pages() {
-    look 'the help is what the man pages are made of' "$(python3 tools/man_pages.py "$place/bin/kmipctl")" '9 commands, 0 wrong'
+    look 'the help is what the man pages are made of' "$(python3 tools/man_pages.py "$place/bin/kmipctl")" '10 commands, 0 wrong'
     look 'a page for each command' \
         "$("$place/bin/kmipctl" --help | sed -n '/^Commands:/,/^$/s/^  \([a-z]*\) .*/\1/p' | grep -v help | sort)" \
         "$(cd "$place/share/man/man1" && find . -name 'kmipctl-*' | sed 's/.*kmipctl-\(.*\)\.1/\1/' | sort)"
@@ -206,6 +213,7 @@ look_at_packages() {
     fi
     dpkg-deb -R "$(make -s deb program="$program")" "$work/package"
     look 'the sums of the package' "$(cd "$work/package" && md5sum --quiet -c DEBIAN/md5sums 2>&1)" ''
+    look 'its script of zsh' "$(cmp "$work/package/usr/share/zsh/vendor-completions/_kmipctl" "$place/share/zsh/site-functions/_kmipctl" 2>&1)" ''
     look 'its program' "$("$work/package/usr/bin/kmipctl" --version)" "$("$place/bin/kmipctl" --version)"
 }
 

@@ -474,6 +474,7 @@ def commands_of(tools):
         Command(tools, ["answer", "--stream"], life),
         Command(tools, ["show"], life),
         Command(tools, ["show", "--canon"], life),
+        Command(tools, ["completions", "zsh"]),
         Command(tools, ["check", "--plan", plan], shown="check"),
         Command(tools, ["check", "--plan", "-"], plan, shown="check --plan -"),
         Command(tools, ["check", "--plan", next_year, "--after", plan], shown="check --after"),

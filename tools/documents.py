@@ -14,6 +14,7 @@ from plan_schema import check_plan_schema
 from prose import check_prose, documents
 from sources import CRATES
 from uses import check_uses
+from versions import check_versions
 from ways import check_ways
 
 NAME = re.compile(r'`((?:\w+::)*[A-Za-z]+(?:_\w+|[a-z0-9][A-Z]\w*))`')
@@ -23,7 +24,7 @@ def check(repository):
     """Prints what does not fit, and returns the exit status: 1 where there is something."""
     faults = check_comments(repository) + check_headline(repository) + check_own_numbers() + check_layers()
     faults += check_links() + check_names() + check_messages() + check_mistakes(repository) + check_ways() + check_prose()
-    faults += check_uses(repository) + check_plan_schema() + check_man_pages()
+    faults += check_uses(repository) + check_plan_schema() + check_man_pages() + check_versions()
     print(f'{faults} places to look at' if faults else 'nothing to look at')
     return 1 if faults else 0
 

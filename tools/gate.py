@@ -31,6 +31,7 @@ TRIALS = [
     ('faults', ['python3', 'bench/plan_faults.py', PROGRAM, 'out/faults'], []),
     ('causes', ['python3', 'bench/causes.py', PROGRAM, 'out/causes'], []),
     ('reports', ['python3', 'bench/reports.py', PROGRAM, 'out/reports'], []),
+    ('completions', ['python3', 'bench/completions.py', PROGRAM, 'out/completions'], []),
     ('installed', ['bench/install.sh', PROGRAM, 'out/installed'], [['make']]),
     ('hostile', ['bench/hostile.sh', PROGRAM], []),
     ('tls', ['examples/tls/tls.sh', PROGRAM], [['openssl'], ['stunnel4', 'stunnel']]),

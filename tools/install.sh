@@ -8,6 +8,8 @@
 #
 #     PREFIX/bin/kmipctl                   the program
 #     PREFIX/share/man/man1, man5          the man pages of docs/man
+#     PREFIX/share/bash-completion, share/zsh, share/fish
+#                                          the scripts by which shells complete command lines: the program prints them
 #     PREFIX/lib/systemd/system            the services and timers of examples/systemd, with the folder of PREFIX
 #     PREFIX/lib/sysusers.d/kmipctl.conf   the user that they run as
 #     PREFIX/share/doc/kmipctl             the documents and examples, and INSTALLED: a list of all these files
@@ -26,9 +28,21 @@ stop() {
 
 # Each function has a shell of its own, so that it changes no variable and no folder of another.
 
-# Prints what is copied: the mode, the file, and its place below PREFIX.
+# Has the program $1 print the scripts of the shells into the folder $2.
+scripts() (
+    for shell in bash zsh fish; do
+        if ! "$1" completions $shell > "$2/$shell"; then
+            stop "$1 prints no script for $shell: does it run on this machine, and is it of this version?"
+        fi
+    done
+)
+
+# Prints what is copied: the mode, the file, and its place below PREFIX. The scripts of the shells are in $2.
 files() (
     echo "755 $1 bin/kmipctl"
+    echo "644 $2/bash share/bash-completion/completions/kmipctl"
+    echo "644 $2/zsh share/zsh/site-functions/_kmipctl"
+    echo "644 $2/fish share/fish/vendor_completions.d/kmipctl.fish"
     cd "$top"
     for page in docs/man/*.[15]; do
         echo "644 $top/$page share/man/man${page##*.}/${page##*/}"
@@ -87,13 +101,16 @@ case $command:$# in
         if ! [ -x "$program" ] || ! [ -f "$program" ]; then
             stop "there is no program $2: run make first, as a user that is not root; installing builds nothing"
         fi
-        case "$program$top" in
-            *[[:space:]]*) stop "the path of the program or of the repository has a space: $program, $top" ;;
+        made=$(mktemp -d)
+        trap 'rm -rf "$made"' EXIT
+        case "$program$top$made" in
+            *[[:space:]]*) stop "the path of the program, the repository or TMPDIR has a space: $program, $top, $made" ;;
         esac
+        scripts "$program" "$made"
         if [ -f "$place/$list" ]; then take_away "$place"; fi
-        files "$program" | copy "$place" "${3%/}"
+        files "$program" "$made" | copy "$place" "${3%/}"
         {
-            files "$program" | sed 's/^[^ ]* [^ ]* //'
+            files "$program" "$made" | sed 's/^[^ ]* [^ ]* //'
             echo "$list"
         } > "$place/$list"
         chmod 644 "$place/$list"

@@ -5,10 +5,10 @@
     tools/man_pages.py PROGRAM     compares what the sources say with the help that the program prints
 
 It runs at the top of the repository. The pages of section 1 come from the texts of kmip_command_line: help.rt,
-command_option.rt and subcommand.rt. kmip-plan(5) has what the help of `check` says of a plan, what OPERATING says of
-changes and of the progress file, and examples/plan.toml. `make documents` compares docs/man with these. In a text
-an indented line stays as it is, and the lines of a paragraph are filled. The last line of a comparison is
-`N commands, M wrong`.
+command_option.rt, subcommand.rt and shells.rt. kmip-plan(5) has what the help of `check` says of a plan, what
+OPERATING says of changes and of the progress file, and examples/plan.toml. `make documents` compares docs/man with
+these. In a text an indented line stays as it is, and the lines of a paragraph are filled. The last line of a
+comparison is `N commands, M wrong`.
 """
 import pathlib
 import re
@@ -20,12 +20,13 @@ sys.dont_write_bytecode = True
 from sources import CRATES
 
 SOURCES = CRATES / 'kmip_command_line/src'
-FILES = 'help.rt', 'command_option.rt', 'subcommand.rt'
+FILES = 'help.rt', 'command_option.rt', 'subcommand.rt', 'shells.rt'
 PAGES = pathlib.Path('docs/man')
 OPERATING, EXAMPLE = pathlib.Path('docs/OPERATING.md'), pathlib.Path('examples/plan.toml')
 TEXT = re.compile(r'const (\w+): &str =\s*"((?:[^"\\]|\\.)*)";', re.S)
 OPTION = re.compile(r'const (\w+): CommandOption = CommandOption\(\s*"([\w-]+)",\s*(.+?),\s*'
                     r'(Fine|Wrong|WrongUnlessSaid\(Setting::\w+\)|Means\("[^"]*"\)),\s*(\w+),?\s*\);', re.S)
+WORDS = re.compile(r'const (\w+): \[&str; \d+\] = \[(.*?)\];', re.S)
 OPTIONS = re.compile(r'const (\w+_OPTIONS): \[CommandOption; (\d+)\] = \[(.*?)\];', re.S)
 COMMAND = re.compile(r'Subcommand = Subcommand \{\s*name: "(\w+)",\s*about: (\w+),\s*long_about: (\w+),'
                      r'\s*options: &(\w+),\s*asks_a_server: (true|false),', re.S)
@@ -45,10 +46,12 @@ def unquoted(text):
 class Option:
     """An option of a command: its word, the name of its value, what it means that it is absent, and its help."""
 
-    def __init__(self, word, value, absent, help):
+    def __init__(self, word, value, absent, help, words={}):
         self.word, self.help = word, help
-        named = re.match(r'(?:Text|Number)\("(\w+)"', value)
+        named = re.match(r'(?:Text|Path|Number|Word)\("(\w+)"', value)
         self.value = named[1] if named else None
+        # Of a word that stands by itself: the list of those that it may be.
+        self.words = words.get(value[len('Word('):-1].split('&')[1]) if value.startswith('Word') else None
         self.others = re.findall(r'"([\w-]+)"', value) if not named else []
         self.is_alone, self.needs_other = value == 'FlagAlone', value.startswith('FlagWith')
         self.is_needed = absent.startswith('Wrong')
@@ -56,11 +59,14 @@ class Option:
 
     def usage(self):
         """The option as a usage has it."""
+        if self.words:
+            return f'<{self.value}>'
         return f'--{self.word}' + (f' <{self.value}>' if self.value else '')
 
     def printed(self):
         """The option as `--help` has it."""
-        said = f'      {self.usage()}\n          {self.help}'
+        said = f'{"  " if self.words else "      "}{self.usage()}\n          {self.help}'
+        said += f'\n          \n          [possible values: {", ".join(self.words)}]' if self.words else ''
         return said + (f'\n          \n          [default: {self.default}]' if self.default else '')
 
     def beside(self):
@@ -83,24 +89,28 @@ class Command:
         """What stands after the command in its usage."""
         needed = [option.usage() for option in self.options if self.is_needed(option)]
         servers = [option.usage() for option in self.options if self.asks_a_server and option.word in SERVERS]
-        return ' '.join(['[OPTIONS]', *needed] + ([f'<{"|".join(servers)}>'] if servers else []))
+        has_options = any(not option.words for option in self.options)
+        return ' '.join(['[OPTIONS]'] * has_options + needed + ([f'<{"|".join(servers)}>'] if servers else []))
 
     def help(self, called):
         """What `--help` prints, where the program is called so."""
-        parts = [self.text, f'Usage: {called} {self.name} {self.usage()}', 'Options:']
-        options = [option.printed() for option in self.options]
+        parts = [self.text, f'Usage: {called} {self.name} {self.usage()}']
+        words = [option.printed() for option in self.options if option.words]
+        parts += ['Arguments:\n' + '\n\n'.join(words)] if words else []
+        options = [option.printed() for option in self.options if not option.words]
         options.append(f'  {HELP}\n          ' + "Print help (see a summary with '-h')")
-        return '\n\n'.join(parts) + '\n' + '\n\n'.join(options) + '\n'
+        return '\n\n'.join(parts) + '\n\nOptions:\n' + '\n\n'.join(options) + '\n'
 
 
 class Texts:
     """The texts and the commands of the command line."""
 
     def __init__(self):
-        help, options, commands = [(SOURCES / name).read_text() for name in FILES]
+        help, options, commands, shells = [(SOURCES / name).read_text() for name in FILES]
+        lists = {name: re.findall(r'"(\w+)"', words) for name, words in WORDS.findall(shells)}
         self.texts = {name: unquoted(text) for name, text in TEXT.findall(help)}
         self.version = VERSION.search(commands)[1]
-        made = {name: Option(word, ' '.join(value.split()), absent, self.texts[text])
+        made = {name: Option(word, ' '.join(value.split()), absent, self.texts[text], lists)
                 for name, word, value, absent, text in OPTION.findall(options)}
         lists = {name: self.listed(name, count, words, made) for name, count, words in OPTIONS.findall(options)}
         found = {name: Command(name, self.texts[about], self.texts[text], lists[of], asks == 'true')
@@ -220,6 +230,7 @@ def typed(usage):
 def option_lines(option):
     """An option with its help, for a page."""
     said = [escaped(option.help), *([escaped(option.beside())] if option.beside() else [])]
+    said += [f'One of {escaped(", ".join(option.words))}.'] if option.words else []
     said += [rf'The default is \fB{escaped(option.default)}\fR.'] if option.default else []
     said[0] += '' if len(said) == 1 or said[0].endswith(']') else '.'
     return ['.TP', typed(option.usage()), *said]

@@ -106,7 +106,7 @@ def judge(program):
         raise SystemExit(f'there is no program {program}: run make first; packing builds nothing')
     words = [os.path.realpath(program), '--version']
     said = subprocess.run(words, capture_output=True, text=True, stdin=subprocess.DEVNULL).stdout.strip()
-    if said != f'kmipctl {version()}':
+    if said != f'kmipctl {version()}\ntoolchain: {toolchain()}':
         raise SystemExit(f'{program} says "{said}", and the sources are of version {version()}: run make first')
 
 
@@ -167,6 +167,8 @@ def debian_folder(program, folder):
     for page in sorted((folder / 'usr/share/man').rglob('*.[15]')):
         page.with_name(page.name + '.gz').write_bytes(gzip.compress(page.read_bytes(), mtime=0))
         page.unlink()
+    # Debian's zsh looks there, and not in the folder that zsh itself names.
+    (folder / 'usr/share/zsh/site-functions').rename(folder / 'usr/share/zsh/vendor-completions')
     names = files_in(folder)
     size = sum((folder / name).stat().st_size for name in names)
     control = folder / 'DEBIAN'

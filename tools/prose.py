@@ -21,8 +21,8 @@ MOST_WORDS, MOST_CHARACTERS = 35, 600
 # The most that a document may have: bytes, and lines where they are limited.
 SIZES = {
     'README.md': (10_000, 170),
-    'CHANGELOG.md': (3_000, None),
-    'CONTRIBUTING.md': (12_000, None),
+    'CHANGELOG.md': (4_000, None),
+    'CONTRIBUTING.md': (13_000, None),
     'SECURITY.md': (1_000, None),
     'docs/ARCHITECTURE.md': (10_000, None),
     'docs/AUTOMATION.md': (6_000, None),
@@ -35,7 +35,7 @@ SIZES = {
     'docs/PROOF-GUIDE.md': (18_000, None),
     'docs/PROOF.md': (12_700, None),
     'docs/SERVERS.md': (3_000, None),
-    'docs/TESTING.md': (8_000, None),
+    'docs/TESTING.md': (8_400, None),
 }
 
 # What is over the limits and is only reported, with the reason. Who rewrites a document takes its line away.

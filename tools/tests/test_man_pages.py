@@ -13,6 +13,7 @@ TOP = TOOLS.parent
 LINE = Option('limit', 'Number("N", 0, MOST_COUNT)', 'Means("10")', 'How many')
 PLAN = Option('plan', 'Text("PATH")', 'WrongUnlessSaid(Setting::Plan)', 'The file')
 SOCKET = Option('socket', 'Text("PATH")', 'Fine', 'The socket')
+SHELL = Option('shell', 'Word("SHELL", &SHELLS)', 'Wrong', 'Which one', {'SHELLS': ['a', 'b']})
 LOOPBACK = Option('loopback', 'FlagWith("progress")', 'Fine', 'A new server')
 
 
@@ -65,10 +66,28 @@ Options:
           Print help (see a summary with '-h')
 ''')
 
+    def test_a_word_that_stands_by_itself(self):
+        command = Command('other', 'Does', 'It does.', [SHELL], False)
+        self.assertEqual(command.help('kmipctl'), '''It does.
+
+Usage: kmipctl other <SHELL>
+
+Arguments:
+  <SHELL>
+          Which one
+          
+          [possible values: a, b]
+
+Options:
+  -h, --help
+          Print help (see a summary with '-h')
+''')
+
     def test_an_option(self):
         self.assertEqual(man_pages.option_lines(LINE), ['.TP', r'\fB\-\-limit\fR \fIN\fR', 'How many.', r'The default is \fB10\fR.'])
         self.assertEqual(man_pages.option_lines(LOOPBACK)[2:], ['A new server.', r'\fB\-\-progress\fR has to be beside it.'])
         self.assertEqual(Option('json', 'FlagUnless(&["trace", "diagram"])', 'Fine', '').beside(), 'Not beside `--trace`, `--diagram`.')
+        self.assertEqual(man_pages.option_lines(SHELL), ['.TP', r'\fISHELL\fR', 'Which one.', 'One of a, b.'])
         self.assertEqual(Option('schema', 'FlagAlone', 'Fine', '').beside(), 'No other option may be beside it.')
 
 
@@ -95,7 +114,7 @@ class Pages(Scratch):
         source = (self.top / man_pages.SOURCES / 'command_option.rt').read_text()
         self.assertEqual(len(man_pages.OPTION.findall(source)), source.count('CommandOption = CommandOption('))
         commands = [command.name for command in man_pages.Texts().commands]
-        self.assertEqual(commands[:2] + commands[-1:], ['check', 'sim', 'show'])
+        self.assertEqual(commands[:2] + commands[-1:], ['check', 'sim', 'completions'])
 
     def test_an_option_that_is_not_read(self):
         source = man_pages.SOURCES / 'command_option.rt'
@@ -107,7 +126,7 @@ class Pages(Scratch):
         self.write({'program': f'#!{sys.executable}\nprint("help")\n'})
         os.chmod('program', 0o755)
         status, lines = printed(man_pages.compare, './program')
-        self.assertEqual((status, lines[-1]), (1, '9 commands, 9 wrong'))
+        self.assertEqual((status, lines[-1]), (1, '10 commands, 10 wrong'))
 
 
 if __name__ == '__main__':

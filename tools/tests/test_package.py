@@ -34,7 +34,8 @@ class Packages(Scratch):
             package.libc_of('other')
 
     def test_a_program_of_another_version(self):
-        self.write({str(package.SOURCE): '\nconst VERSION: &str = "1.2.3";\n', 'program': '#!/bin/sh\necho kmipctl 1.2.2\n'})
+        self.write({'README.md': '| needs | the Rattle toolchain (`a-kit logic 7`), `make` |\n',
+                    str(package.SOURCE): '\nconst VERSION: &str = "1.2.3";\n', 'program': '#!/bin/sh\necho kmipctl 1.2.2\n'})
         for program, why in ('none', 'there is no program none'), ('program', 'program says "kmipctl 1.2.2"'):
             with self.assertRaises(SystemExit) as stopped:
                 package.judge(program)

@@ -12,6 +12,7 @@ use crate::look_options::LookOptions;
 use crate::probe_options::ProbeOptions;
 use crate::run_options::RunOptions;
 use crate::serve_options::ServeOptions;
+use crate::shell::Shell;
 use kmip_message_commands::Form;
 use std::alloc::{AllocError, Global};
 
@@ -66,6 +67,8 @@ pub enum Choice {
     Serve(ServeOptions),
     /// Print the schema of plans.
     PlanSchema,
+    /// Print the script by which this shell completes command lines.
+    Completions(Shell),
 }
 
 impl Choice {
@@ -86,7 +89,8 @@ impl Choice {
             | Choice::AnswerStream
             | Choice::Show(_)
             | Choice::Serve(_)
-            | Choice::PlanSchema => Format::Text,
+            | Choice::PlanSchema
+            | Choice::Completions(_) => Format::Text,
         }
     }
 }

@@ -13,6 +13,7 @@ mod probe_options;
 mod report;
 mod run_options;
 mod serve_options;
+mod shell;
 mod trust;
 
 pub use choice::{Choice, answer_of, check_of, detail_of, form_of, simulation_of};
@@ -25,4 +26,5 @@ pub use probe_options::ProbeOptions;
 pub use report::Report;
 pub use run_options::RunOptions;
 pub use serve_options::ServeOptions;
+pub use shell::Shell;
 pub use trust::Trust;

@@ -5,12 +5,14 @@ use crate::environment::Environment;
 use crate::help::{
     AFRESH, AFTER, BATCH, BELIEVE, CANON, CONNECT, CONNECTIONS, DIAGRAM, GIVE_UP, IDENTIFIERS,
     JSON, JSON_SCHEMA, LIMIT, LOCK_WAIT, LOOK_GIVE_UP, LOOPBACK, METRICS, NAME_PREFIX, NOW, PLAN,
-    PORT, PROGRESS, SCRIPT, SERVE_TIMEOUT, SOCKET, STREAM, THEN, TIMEOUT, TRACE, VERBOSE, WAIT,
+    PORT, PROGRESS, SCRIPT, SERVE_TIMEOUT, SHELL, SOCKET, STREAM, THEN, TIMEOUT, TRACE, VERBOSE,
+    WAIT,
 };
 use crate::setting::Setting;
+use crate::shells::SHELLS;
 use crate::value::Value;
 use Absent::{Fine, Means, Wrong, WrongUnlessSaid};
-use Value::{Flag, FlagAlone, FlagUnless, FlagWith, Number, Text};
+use Value::{Flag, FlagAlone, FlagUnless, FlagWith, Number, Path, Text, Word};
 use clap::builder::ValueParser;
 use clap::{Arg, ArgAction};
 use kmip_batch_items::standard::MOST_QUESTIONS;
@@ -37,22 +39,48 @@ const LATEST: u64 = 9_223_372_036_854_775_807;
 #[derive(Clone, Copy)]
 pub(crate) struct CommandOption(&'static str, Value, Absent, &'static str);
 
+impl CommandOption {
+    /// Its word without the two dashes.
+    pub(crate) fn word(&self) -> &'static str {
+        self.0
+    }
+
+    /// What stands after it.
+    pub(crate) fn value(&self) -> Value {
+        self.1
+    }
+
+    /// Whether it says of this other option that both may not be there at once.
+    pub(crate) fn is_unless(&self, other: &str) -> bool {
+        match self.1 {
+            FlagUnless(others) => has_word(others, other),
+            FlagAlone => true,
+            Flag | FlagWith(_) | Text(_) | Path(_) | Number(_, _, _) | Word(_, _) => false,
+        }
+    }
+
+    /// Its help.
+    pub(crate) fn help(&self) -> &'static str {
+        self.3
+    }
+}
+
 const STREAM_OPTION: CommandOption = CommandOption("stream", Flag, Fine, STREAM);
 
 const CANON_OPTION: CommandOption = CommandOption("canon", Flag, Fine, CANON);
 
 const PLAN_OPTION: CommandOption = CommandOption(
     "plan",
-    Text("PATH"),
+    Path("PATH"),
     WrongUnlessSaid(Setting::Plan),
     PLAN,
 );
 
-const AFTER_OPTION: CommandOption = CommandOption("after", Text("PATH"), Fine, AFTER);
+const AFTER_OPTION: CommandOption = CommandOption("after", Path("PATH"), Fine, AFTER);
 
-const THEN_OPTION: CommandOption = CommandOption("then", Text("PATH"), Fine, THEN);
+const THEN_OPTION: CommandOption = CommandOption("then", Path("PATH"), Fine, THEN);
 
-const SCRIPT_OPTION: CommandOption = CommandOption("script", Text("PATH"), Wrong, SCRIPT);
+const SCRIPT_OPTION: CommandOption = CommandOption("script", Path("PATH"), Wrong, SCRIPT);
 
 const TRACE_OPTION: CommandOption = CommandOption("trace", Flag, Fine, TRACE);
 
@@ -65,7 +93,7 @@ const DIAGRAM_OPTION: CommandOption = CommandOption(
 
 const PROGRESS_OPTION: CommandOption = CommandOption(
     "progress",
-    Text("PATH"),
+    Path("PATH"),
     WrongUnlessSaid(Setting::Progress),
     PROGRESS,
 );
@@ -76,7 +104,7 @@ const AFRESH_OPTION: CommandOption = CommandOption("afresh", Flag, Fine, AFRESH)
 
 const CONNECT_OPTION: CommandOption = CommandOption("connect", Text("ADDRESS"), Fine, CONNECT);
 
-const SOCKET_OPTION: CommandOption = CommandOption("socket", Text("PATH"), Fine, SOCKET);
+const SOCKET_OPTION: CommandOption = CommandOption("socket", Path("PATH"), Fine, SOCKET);
 
 const LOOPBACK_OPTION: CommandOption = CommandOption("loopback", Flag, Fine, LOOPBACK);
 
@@ -133,7 +161,7 @@ const VERBOSE_OPTION: CommandOption = CommandOption("verbose", Flag, Fine, VERBO
 
 const IDENTIFIERS_OPTION: CommandOption = CommandOption("identifiers", Flag, Fine, IDENTIFIERS);
 
-const METRICS_OPTION: CommandOption = CommandOption("metrics", Text("FILE"), Fine, METRICS);
+const METRICS_OPTION: CommandOption = CommandOption("metrics", Path("FILE"), Fine, METRICS);
 
 const JSON_OPTION: CommandOption = CommandOption("json", Flag, Fine, JSON);
 
@@ -187,6 +215,8 @@ const SERVE_TIMEOUT_OPTION: CommandOption = CommandOption(
     Means("60"),
     SERVE_TIMEOUT,
 );
+
+const SHELL_WORD: CommandOption = CommandOption("shell", Word("SHELL", &SHELLS), Wrong, SHELL);
 
 pub(crate) const ANSWER_OPTIONS: [CommandOption; 1] = [STREAM_OPTION];
 
@@ -268,6 +298,13 @@ pub(crate) const SERVE_OPTIONS: [CommandOption; 5] = [
     VERBOSE_OPTION,
 ];
 
+pub(crate) const COMPLETIONS_OPTIONS: [CommandOption; 1] = [SHELL_WORD];
+
+/// Whether a word is one of these.
+pub(crate) fn has_word(words: &[&str], word: &str) -> bool {
+    words.iter().any(|other| *other == word)
+}
+
 /// The option, for the parser of command lines. It has to be there unless the environment has its value.
 pub(crate) fn arg_of<'a>(
     alloc: Global,
@@ -275,8 +312,9 @@ pub(crate) fn arg_of<'a>(
     environment: &Environment,
 ) -> Result<Arg<'a>, AllocError> {
     let CommandOption(name, value, absent, help) = *option;
-    let arg = with_value(Arg::new(alloc, name).long(name).help(help), value)?;
-    Ok(with_absent(arg, absent, environment))
+    let arg = Arg::new(alloc, name).help(help);
+    let arg = if value.is_word() { arg } else { arg.long(name) };
+    Ok(with_absent(with_value(arg, value)?, absent, environment))
 }
 
 /// The option with what it means that it is absent.
@@ -296,7 +334,8 @@ fn with_value<'a>(arg: Arg<'a>, value: Value) -> Result<Arg<'a>, AllocError> {
         FlagUnless(others) => arg.action(ArgAction::SetTrue).conflicts_with_all(others),
         FlagAlone => Ok(arg.action(ArgAction::SetTrue).exclusive(true)),
         FlagWith(other) => arg.action(ArgAction::SetTrue).requires_arg(other),
-        Text(name) => Ok(arg.value_name(name)),
+        Text(name) | Path(name) => Ok(arg.value_name(name)),
+        Word(name, words) => Ok(arg.value_name(name).value_parser(ValueParser::Names(words))),
         Number(name, least, most) => Ok(
             arg.value_name(name)
                 .value_parser(ValueParser::unsigned(least, most)),

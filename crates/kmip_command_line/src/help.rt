@@ -375,6 +375,23 @@ prints `cannot listen`.
 With --verbose standard error has a line for each message that is answered:
   Create k1: created as 1";
 
+pub(crate) const COMPLETIONS: &str = "Prints a script by which a shell completes command lines";
+
+pub(crate) const COMPLETIONS_LONG: &str = "\
+Prints the script by which a shell completes the command lines of kmipctl: commands, their options, and
+the values of those options that take a file or one of a few words. `make install` and the packages put
+it where the shell looks. Else, for the shell that is open now:
+  source <(kmipctl completions bash)
+  source <(kmipctl completions zsh)          after compinit
+  kmipctl completions fish | source
+For each shell that is opened later, by one of:
+  kmipctl completions bash > ~/.local/share/bash-completion/completions/kmipctl
+  kmipctl completions zsh > FOLDER/_kmipctl              where fpath has FOLDER
+  kmipctl completions fish > ~/.config/fish/completions/kmipctl.fish
+The first of them needs the package bash-completion.";
+
+pub(crate) const SHELL: &str = "The shell that the script is for";
+
 pub(crate) const PROGRESS: &str = "The file in which what is known is kept [env: KMIPCTL_PROGRESS]";
 
 pub(crate) const BELIEVE: &str =

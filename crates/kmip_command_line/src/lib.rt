@@ -8,22 +8,28 @@ ghost use Rattle.clap.specs.Words.{kind_of};
 ghost use Rattle.kmip_command_line.specs.Statuses.{status_of};
 
 mod absent;
+mod bash;
 mod command_option;
+mod completing;
 mod environment;
+mod fish;
 mod given;
 mod help;
 mod local;
 mod looking;
 mod network;
 mod setting;
+mod shells;
 mod subcommand;
 mod unchosen;
 mod value;
 mod variable;
 mod wrong_value;
+mod zsh;
 
 use clap::error::ErrorKind;
 use clap::{ArgMatches, Error};
+pub use completing::completions;
 pub use environment::{
     CONNECT_VARIABLE, Environment, PLAN_VARIABLE, PROGRESS_VARIABLE, SOCKET_VARIABLE,
 };
@@ -33,6 +39,7 @@ use kmip_message_commands::{CommandFault, ExitStatus};
 use local::{check_choice, list_choice, sim_choice};
 use looking::look_choice;
 use network::{probe_choice, run_choice, serve_options};
+use shells::shell_named;
 use std::alloc::{AllocError, Global};
 use subcommand::{program, wrong_value};
 use unchosen::Unchosen;
@@ -105,7 +112,16 @@ fn choice_of(alloc: Global, command: &str, given: Given<'_, '_>) -> Result<Choic
         "look" => look_choice(alloc, given),
         "serve" => Ok(Choice::Serve(serve_options(given))),
         "answer" => Ok(answer_of(given.flag("stream"))),
+        "completions" => completions_choice(given),
         _unknown => Err(Unchosen::UnknownCommand),
+    }
+}
+
+/// What `completions` is to do, by its words. The parser of the words lets no other shell through.
+fn completions_choice(given: Given<'_, '_>) -> Result<Choice, Unchosen> {
+    match shell_named(given.options.get_str("shell").unwrap_or("")) {
+        Some(shell) => Ok(Choice::Completions(shell)),
+        None => Err(Unchosen::UnknownCommand),
     }
 }
 

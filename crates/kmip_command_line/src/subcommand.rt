@@ -1,13 +1,14 @@
 //! The commands, for the parser of command lines.
 
 use crate::command_option::{
-    ANSWER_OPTIONS, CHECK_OPTIONS, CommandOption, LIST_OPTIONS, LOOK_OPTIONS, PROBE_OPTIONS,
-    RUN_OPTIONS, SERVE_OPTIONS, SHOW_OPTIONS, SIM_OPTIONS, arg_of,
+    ANSWER_OPTIONS, CHECK_OPTIONS, COMPLETIONS_OPTIONS, CommandOption, LIST_OPTIONS, LOOK_OPTIONS,
+    PROBE_OPTIONS, RUN_OPTIONS, SERVE_OPTIONS, SHOW_OPTIONS, SIM_OPTIONS, arg_of, has_word,
 };
 use crate::environment::Environment;
 use crate::help::{
-    ABOUT, AFTER_HELP, ANSWER, ANSWER_LONG, CHECK, CHECK_LONG, LIST, LIST_LONG, LOOK, LOOK_LONG,
-    PROBE, PROBE_LONG, RUN, RUN_LONG, SERVE, SERVE_LONG, SHOW, SHOW_LONG, SIM, SIM_LONG,
+    ABOUT, AFTER_HELP, ANSWER, ANSWER_LONG, CHECK, CHECK_LONG, COMPLETIONS, COMPLETIONS_LONG, LIST,
+    LIST_LONG, LOOK, LOOK_LONG, PROBE, PROBE_LONG, RUN, RUN_LONG, SERVE, SERVE_LONG, SHOW,
+    SHOW_LONG, SIM, SIM_LONG,
 };
 use crate::wrong_value::WrongValue;
 use clap::error::ErrorKind;
@@ -17,14 +18,24 @@ use std::alloc::{AllocError, Global};
 /// The number of this version.
 const VERSION: &str = "0.2.0";
 
+/// The same, and the toolchain that proves and builds it.
+const LONG_VERSION: &str = "0.2.0
+toolchain: rattle-kit-13f logic dac8208d650f15bf";
+
+/// The options of which one says where the server is.
+const SERVERS: [&str; 3] = ["connect", "socket", "loopback"];
+
+/// The options of which one may say which progress a run begins with.
+const TRUSTS: [&str; 2] = ["believe", "afresh"];
+
 /// A command of the program.
 #[derive(Clone, Copy)]
-struct Subcommand {
-    name: &'static str,
+pub(crate) struct Subcommand {
+    pub(crate) name: &'static str,
     /// Its help in a line, and in full.
-    about: &'static str,
+    pub(crate) about: &'static str,
     long_about: &'static str,
-    options: &'static [CommandOption],
+    pub(crate) options: &'static [CommandOption],
     /// Whether one of three options has to say where the server is.
     asks_a_server: bool,
     /// Whether one of two options may say which progress it begins with.
@@ -112,8 +123,17 @@ const SERVE_COMMAND: Subcommand = Subcommand {
     keeps_progress: false,
 };
 
+const COMPLETIONS_COMMAND: Subcommand = Subcommand {
+    name: "completions",
+    about: COMPLETIONS,
+    long_about: COMPLETIONS_LONG,
+    options: &COMPLETIONS_OPTIONS,
+    asks_a_server: false,
+    keeps_progress: false,
+};
+
 /// The commands, in the order in which a person needs them.
-const COMMANDS: [Subcommand; 9] = [
+pub(crate) const COMMANDS: [Subcommand; 10] = [
     CHECK_COMMAND,
     SIM_COMMAND,
     PROBE_COMMAND,
@@ -123,7 +143,24 @@ const COMMANDS: [Subcommand; 9] = [
     SERVE_COMMAND,
     ANSWER_COMMAND,
     SHOW_COMMAND,
+    COMPLETIONS_COMMAND,
 ];
+
+impl Subcommand {
+    /// Whether two options may not be there at once.
+    pub(crate) fn excludes(&self, one: &CommandOption, other: &CommandOption) -> bool {
+        let (word, another) = (one.word(), other.word());
+        self.asks_a_server && has_both(&SERVERS, word, another)
+            || self.keeps_progress && has_both(&TRUSTS, word, another)
+            || one.is_unless(another)
+            || other.is_unless(word)
+    }
+}
+
+/// Whether two words are among these.
+fn has_both(words: &[&str], one: &str, other: &str) -> bool {
+    has_word(words, one) && has_word(words, other)
+}
 
 /// The program with its commands. An option that a command needs has to be there unless the environment
 /// has its value.
@@ -133,6 +170,7 @@ pub(crate) fn program<'a>(
 ) -> Result<Command<'a>, AllocError> {
     let program = Command::new(alloc, "kmipctl")
         .version(VERSION)
+        .long_version(LONG_VERSION)
         .about(ABOUT)
         .after_help(AFTER_HELP);
     with_commands(alloc, program, environment)

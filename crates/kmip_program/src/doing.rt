@@ -3,7 +3,8 @@
 use crate::checking::{push_checked, push_checked_after};
 use crate::plan_schema::PLAN_SCHEMA;
 use crate::simulating::simulate_in_json;
-use kmip_choices::{Choice, Detail, Format};
+use kmip_choices::{Choice, Detail, Format, Shell};
+use kmip_command_line::completions;
 use kmip_explaining::{tell_prolonging, tell_refusal};
 use kmip_message_commands::{ExitStatus, Form, run_answer, run_answer_stream, run_show};
 use kmip_network::{
@@ -52,12 +53,20 @@ pub(crate) fn execute(rt: &HostRuntime, choice: Choice) -> Result<ExitStatus, Tr
         Choice::Look(options) => look_at_server(rt, &options),
         Choice::Serve(options) => Ok(serve(rt, &options, &mut io::writer(rt))?),
         Choice::PlanSchema => print_schema(rt),
+        Choice::Completions(shell) => print_completions(rt, shell),
     }
 }
 
 /// The command `check --json-schema`: the schema of plans to standard output.
 fn print_schema(rt: &HostRuntime) -> Result<ExitStatus, Trouble> {
     rt.print(PLAN_SCHEMA)?;
+    Ok(ExitStatus::Done)
+}
+
+/// The command `completions`: the script for this shell to standard output.
+fn print_completions(rt: &HostRuntime, shell: Shell) -> Result<ExitStatus, Trouble> {
+    let script = completions(rt.alloc(), shell)?;
+    rt.print(script.as_str())?;
     Ok(ExitStatus::Done)
 }
 
