@@ -14,6 +14,7 @@
 # make hostile    gives the program lines of ten megabytes, under limits of memory
 # make storm      carries 200 plans, by up to four runs at once, over a network that loses and cuts; kills, looks, probes (needs rustc)
 # make peers      runs it against peers that answer nothing, rubbish or too late (needs python3)
+# make turns      lets several clients at once talk to it, some of which stall, close or read nothing (needs python3)
 # make troubles   runs it against servers that give trouble, and compares what it tells of that (needs python3)
 # make origin     runs it on progress files that were kept against other servers, or for other keys (needs python3)
 # make causes     runs it where files, sockets and standard streams fail, and compares what it tells (needs python3)
@@ -37,7 +38,7 @@ DESTDIR =
 growths := crates/test_memory/out/test_memory
 sources := crates.txt $(shell find crates -name out -prune -o \( -name '*.rt' -o -name '*.antt' \) -print)
 
-.PHONY: all install uninstall dist deb demo check fmt test rows bench refuse faults hostile storm peers troubles origin causes reports completions installed tls pykmip reading reference man layers examples documents tools help
+.PHONY: all install uninstall dist deb demo check fmt test rows bench refuse faults hostile storm peers turns troubles origin causes reports completions installed tls pykmip reading reference man layers examples documents tools help
 
 all: $(program)
 
@@ -94,6 +95,9 @@ storm: $(program)
 
 peers: $(program)
 	@python3 bench/peers.py $(program) out/peers
+
+turns: $(program)
+	@python3 bench/turns.py $(program)
 
 troubles: $(program)
 	@python3 bench/troubles.py $(program) out/troubles

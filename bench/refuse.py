@@ -314,8 +314,9 @@ def without_times(errors):
 class Serving(Command):
     """The command `serve`, with one connection over which some messages are sent."""
 
-    def __init__(self, tools, messages):
-        super().__init__(tools, ["serve", "--port", 0, "--connections", 1], shown="serve")
+    def __init__(self, tools, messages, *more):
+        words = ["serve", "--port", 0, "--connections", 1, *more]
+        super().__init__(tools, words, shown=" ".join(["serve", *map(str, more)]))
         self.messages = messages
 
     def run(self, refusal):
@@ -490,6 +491,7 @@ def commands_of(tools):
         Command(tools, ["look", "--plan", plan, "--loopback"], shown="look --loopback", status=1),
         Command(tools, probe, shown="probe --loopback"),
         Serving(tools, messages),
+        Serving(tools, messages, "--at-once", 2),
         Command(tools, ["check", "--plan", plan, "--json"], shown="check --json"),
         Command(tools, ["check", "--plan", next_year, "--after", plan, "--json"], shown="check --after --json"),
         sim("--json", active, loses, ["--json"]),

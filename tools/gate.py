@@ -26,6 +26,7 @@ COUNTS = re.compile(r'^(\d+) passed, (\d+) failed')
 TRIALS = [
     ('refuse', ['python3', 'bench/refuse.py', PROGRAM, GROWTHS, 'out/refuse'], [['cc']]),
     ('peers', ['python3', 'bench/peers.py', PROGRAM, 'out/peers'], []),
+    ('turns', ['python3', 'bench/turns.py', PROGRAM], []),
     ('troubles', ['python3', 'bench/troubles.py', PROGRAM, 'out/troubles'], []),
     ('origin', ['python3', 'bench/origin.py', PROGRAM, 'out/origin'], []),
     ('faults', ['python3', 'bench/plan_faults.py', PROGRAM, 'out/faults'], []),

@@ -3,10 +3,10 @@
 use crate::absent::Absent;
 use crate::environment::Environment;
 use crate::help::{
-    AFRESH, AFTER, BATCH, BELIEVE, CANON, CONNECT, CONNECTIONS, DIAGRAM, GIVE_UP, IDENTIFIERS,
-    JSON, JSON_SCHEMA, LIMIT, LOCK_WAIT, LOOK_GIVE_UP, LOOPBACK, METRICS, NAME_PREFIX, NOW, PLAN,
-    PORT, PROGRESS, SCRIPT, SERVE_TIMEOUT, SHELL, SOCKET, STREAM, THEN, TIMEOUT, TRACE, VERBOSE,
-    WAIT,
+    AFRESH, AFTER, AT_ONCE, BATCH, BELIEVE, CANON, CONNECT, CONNECTIONS, DIAGRAM, GIVE_UP,
+    IDENTIFIERS, JSON, JSON_SCHEMA, LIMIT, LOCK_WAIT, LOOK_GIVE_UP, LOOPBACK, METRICS, NAME_PREFIX,
+    NOW, PLAN, PORT, PROGRESS, SCRIPT, SERVE_TIMEOUT, SHELL, SOCKET, STREAM, THEN, TIMEOUT, TRACE,
+    VERBOSE, WAIT,
 };
 use crate::setting::Setting;
 use crate::shells::SHELLS;
@@ -20,6 +20,9 @@ use std::alloc::{AllocError, Global};
 
 /// The largest number of exchanges and of connections (own).
 pub(crate) const MOST_COUNT: u64 = 4_294_967_295;
+
+/// The most connections that are answered in turn at once (own).
+const MOST_AT_ONCE: u64 = 64;
 
 /// The longest time that an exchange may be given, in seconds (own).
 pub(crate) const MOST_SECONDS: u64 = 3_600;
@@ -202,6 +205,13 @@ const CONNECTIONS_OPTION: CommandOption = CommandOption(
     CONNECTIONS,
 );
 
+const AT_ONCE_OPTION: CommandOption = CommandOption(
+    "at-once",
+    Number("N", 1, MOST_AT_ONCE),
+    Means("1"),
+    AT_ONCE,
+);
+
 const NOW_OPTION: CommandOption = CommandOption(
     "now",
     Number("SECONDS", 0, LATEST),
@@ -290,9 +300,10 @@ pub(crate) const LOOK_OPTIONS: [CommandOption; 9] = [
     JSON_OPTION,
 ];
 
-pub(crate) const SERVE_OPTIONS: [CommandOption; 5] = [
+pub(crate) const SERVE_OPTIONS: [CommandOption; 6] = [
     PORT_OPTION,
     CONNECTIONS_OPTION,
+    AT_ONCE_OPTION,
     NOW_OPTION,
     SERVE_TIMEOUT_OPTION,
     VERBOSE_OPTION,

@@ -70,19 +70,29 @@ pub(crate) enum Candidates {
 impl Display for Candidates {
     fn fmt<W: fmt::Write>(&self, f: &mut Formatter<W>) -> fmt::Result {
         match *self {
-            Candidates::Words(words) => {
-                for (place, word) in words.iter().enumerate() {
-                    f.write_str(if place == 0 { "" } else { " " })?;
-                    f.write_str(word)?;
-                }
-            }
-            Candidates::Numbers(least, most) => {
-                for number in least..=most {
-                    f.write_str(if number == least { "" } else { " " })?;
-                    write!(f, "{number}")?;
-                }
-            }
+            Candidates::Words(words) => write_words(words, f),
+            Candidates::Numbers(least, most) => write_numbers(least, most, f),
         }
-        Ok(())
     }
+}
+
+/// Writes words, with a space between two.
+fn write_words<W: fmt::Write>(words: &[&str], f: &mut Formatter<W>) -> fmt::Result {
+    let mut gap = "";
+    for word in words {
+        f.write_str(gap)?;
+        f.write_str(word)?;
+        gap = " ";
+    }
+    Ok(())
+}
+
+/// Writes the numbers from the first to the second, with a space between two.
+fn write_numbers<W: fmt::Write>(least: u64, most: u64, f: &mut Formatter<W>) -> fmt::Result {
+    let mut gap = "";
+    for number in least..=most {
+        write!(f, "{gap}{number}")?;
+        gap = " ";
+    }
+    Ok(())
 }

@@ -372,6 +372,9 @@ answers them all. It starts with no object, and has room for 10,000. A connectio
 ends, breaks the framing of messages, or waits longer than the timeout. A port that cannot be had
 prints `cannot listen`.
 
+With --at-once N up to N connections are open at once. Their messages are answered one by one, in the
+order in which they are whole. A client that is slow holds up no other one.
+
 With --verbose standard error has a line for each message that is answered:
   Create k1: created as 1";
 
@@ -438,6 +441,8 @@ pub(crate) const JSON_SCHEMA: &str = "Print a JSON Schema of plans for editors, 
 pub(crate) const PORT: &str = "The port, 1 to 65535; 0 for one that the system picks";
 
 pub(crate) const CONNECTIONS: &str = "How many connections are served, 0 to 4294967295";
+
+pub(crate) const AT_ONCE: &str = "How many connections are open at once, 1 to 64";
 
 pub(crate) const NOW: &str =
     "The time that the replies give, in seconds since the start of 1970: 0 to 9223372036854775807";

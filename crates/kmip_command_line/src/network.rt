@@ -120,6 +120,7 @@ pub(crate) fn serve_options(given: Given<'_, '_>) -> ServeOptions {
     ServeOptions {
         port: given.options.get_one::<u16>("port").unwrap_or(0),
         connections: given.number("connections", 0),
+        at_once: given.number("at-once", 1),
         now: given.options.get_one::<i64>("now").unwrap_or(0),
         timeout: given.number("timeout", MOST_SECONDS),
         is_verbose: given.flag("verbose"),

@@ -4,26 +4,27 @@ use crate::causes::tell_why;
 use crate::hearing::Hearing;
 use crate::overheard::Overheard;
 use crate::saying::Saying;
+use crate::serving_at_once::{Crowd, Halt};
 use kmip_choices::ServeOptions;
 use kmip_message_commands::{CommandFault, ExitStatus};
 use kmip_server::{IndexedStore, Server};
 use kmip_store::{MOST_ROOM, SEED};
 use kmip_transport::{StreamEnd, serve_stream};
 use std::fmt::Display;
-use std::io::{self, Error, Read, Write};
+use std::io::{self, Error, ErrorKind, Read, Write};
 use std::net::{Ipv4Addr, Net, OpenListener, OpenStream, SocketAddr, SocketAddrV4};
 use std::time::Duration;
 
 /// The most failures in turn to accept a connection (own).
-const MOST_FAILURES: u32 = 100;
+pub(crate) const MOST_FAILURES: u32 = 100;
 
 /// A server with no object.
 pub(crate) fn new_server(rt: &HostRuntime) -> Server<IndexedStore> {
     Server::new(IndexedStore::new(rt.alloc(), SEED, MOST_ROOM))
 }
 
-/// The command `serve`: connections one after the other, as many as are asked for. One that could
-/// not be accepted does not count. Each line is sent on once it is written.
+/// The command `serve`: connections one after the other, or several at once, as many as are asked for. One
+/// that could not be accepted does not count. Each line is sent on once it is written.
 ///
 /// # Errors
 /// Where there is no memory, or the writer takes nothing; all else is written.
@@ -33,14 +34,62 @@ pub fn serve<W: Write>(
     writer: &mut W,
 ) -> io::Result<ExitStatus> {
     let address = SocketAddr::V4(SocketAddrV4::new(Ipv4Addr::LOCALHOST, options.port));
+    if options.at_once > 1 {
+        return serve_crowd(rt, options, address, writer);
+    }
     match listening(rt, address) {
         Ok((listener, port)) => serve_connections(rt, options, &listener, port, writer),
-        Err(error) => {
-            tell_why(rt, address, error);
-            write_line(writer, "cannot listen")?;
-            Ok(ExitStatus::Refused)
-        }
+        Err(error) => told_no_port(rt, address, error, writer),
     }
+}
+
+/// Serves several connections at once, each step by step and all in turn.
+fn serve_crowd<W: Write>(
+    rt: &HostRuntime,
+    options: &ServeOptions,
+    address: SocketAddr,
+    writer: &mut W,
+) -> io::Result<ExitStatus> {
+    let (mut crowd, port) = match gathered(rt, options, address) {
+        Ok(gathered) => gathered,
+        Err(error) if error.kind() == ErrorKind::OutOfMemory => return Err(error),
+        Err(error) => return told_no_port(rt, address, error, writer),
+    };
+    write_line(writer, format_args!("listening {port}"))?;
+    match crowd.serve() {
+        Ok(()) => Ok(ExitStatus::Done),
+        Err(Halt::NoMemory) => told_want(writer),
+        Err(Halt::NoConnection(error)) => told_failures(rt, port, error, writer),
+    }
+}
+
+/// What listens at this address for several connections at once, and the port that it has.
+fn gathered<'a>(
+    rt: &'a HostRuntime,
+    options: &'a ServeOptions,
+    address: SocketAddr,
+) -> io::Result<(Crowd<'a>, u16)> {
+    let crowd = Crowd::new(rt, options, address)?;
+    let port = crowd.port()?;
+    Ok((crowd, port))
+}
+
+/// Tells that no port is to be had, and on standard error why.
+fn told_no_port<W: Write>(
+    rt: &HostRuntime,
+    address: SocketAddr,
+    error: Error,
+    writer: &mut W,
+) -> io::Result<ExitStatus> {
+    tell_why(rt, address, error);
+    write_line(writer, "cannot listen")?;
+    Ok(ExitStatus::Refused)
+}
+
+/// Tells that there is no memory.
+fn told_want<W: Write>(writer: &mut W) -> io::Result<ExitStatus> {
+    write_line(writer, CommandFault::NoMemory.text())?;
+    Ok(ExitStatus::Failed(CommandFault::NoMemory))
 }
 
 /// Serves the connections of what listens at this port.
@@ -60,8 +109,7 @@ fn serve_connections<W: Write>(
         };
         let ended = serve_connection(rt, options, &mut server, stream);
         if matches!(ended, StreamEnd::NoMemory) {
-            write_line(writer, CommandFault::NoMemory.text())?;
-            return Ok(ExitStatus::Failed(CommandFault::NoMemory));
+            return told_want(writer);
         }
     }
     Ok(ExitStatus::Done)

@@ -1,3 +1,4 @@
 pub mod PieceLemmas
 pub mod ServingLemmas
 pub mod BytesLemmas
+pub mod ConversationLemmas

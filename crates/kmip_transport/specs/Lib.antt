@@ -4,7 +4,11 @@
 pub mod Receiving
 -- what a server does to a stream of messages, and how the stream ends
 pub mod Serving
+-- what a server does to a connection that it answers step by step
+pub mod Conversations
 -- what is seen of a link over streams, and what happens to it
 pub mod Links
 -- private: what only the clauses of private functions cite
 pub mod Private
+-- private: what only the clauses of private functions of a conversation cite
+pub mod PrivateConversations

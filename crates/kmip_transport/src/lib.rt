@@ -11,6 +11,7 @@
 //! clause: the tests of test_transport see it.
 #![tactic(auto)]
 
+mod conversation;
 mod dial;
 mod gathered;
 mod in_memory;
@@ -27,6 +28,7 @@ mod tcp;
 mod timed;
 mod unix;
 
+pub use conversation::Conversation;
 pub use dial::Dial;
 pub use kmip_protocol::{Link, LinkFault};
 pub use loopback::Loopback;

@@ -93,7 +93,7 @@ pub(crate) fn receive<R: Source>(
 }
 
 /// The message that waits, where one does.
-fn hand_over(alloc: Global, framer: &mut Framer) -> Result<Option<Vec<u8>>, LinkFault>
+pub(crate) fn hand_over(alloc: Global, framer: &mut Framer) -> Result<Option<Vec<u8>>, LinkFault>
     ensures { IsHandedOver (λ message. message.items) result framer.old framer.new }
 {
     let _held = framer.pending();
@@ -106,7 +106,7 @@ fn hand_over(alloc: Global, framer: &mut Framer) -> Result<Option<Vec<u8>>, Link
 
 /// Reads once, at most what the framer lacks, and says whether the stream goes on. A head that is no
 /// message's stays in the framer.
-fn take_piece<R: Source>(reader: &mut R, framer: &mut Framer) -> Result<bool, LinkFault>
+pub(crate) fn take_piece<R: Source>(reader: &mut R, framer: &mut Framer) -> Result<bool, LinkFault>
     requires lawful { fault_in framer.old ≡ None }
     requires begun { BeginsWithNoMessage framer.old }
     ensures { ReadsOnce R.IsSure result framer.old framer.new
@@ -143,7 +143,7 @@ fn read_into<R: Source>(
 }
 
 /// A read that was interrupted is tried again: the stream goes on.
-fn after_failure(error: &Error) -> Result<bool, LinkFault>
+pub(crate) fn after_failure(error: &Error) -> Result<bool, LinkFault>
     ensures interrupted { error_kind error.now ≡ ErrorKind.Interrupted → IsOk result }
     ensures goes_on { IfOk result (λ goes_on. goes_on ≡ true) }
     ensures refused { IfErr result (λ fault. fault ≡ LinkFault.Io) }

@@ -8,6 +8,7 @@ use kmip_progress::Progress;
 use kmip_runs::{Stop, drive};
 use kmip_server::{Records, Server};
 use kmip_store::ListStore;
+use kmip_ttlv::Text;
 use std::alloc::Global;
 use std::test::Fail;
 
@@ -22,11 +23,9 @@ struct Member<'p> {
 #[derive(Drop)]
 pub(crate) struct Company<'p> {
     members: Vec<Member<'p>>,
-    server: Server<ListStore>,
-    /// A request that is under way.
-    late: Option<Vec<u8>>,
-    /// What any client saved last.
-    saved: Option<Progress>,
+    line: Line,
+    /// The text of what any client saved last.
+    saved: Option<Text>,
 }
 
 impl<'p> Company<'p> {
@@ -39,8 +38,11 @@ impl<'p> Company<'p> {
         }
         Ok(Company {
             members,
-            server: Server::new(ListStore::new(alloc, [0; 32], 100)),
-            late: None,
+            line: Line {
+                server: Server::new(ListStore::new(alloc, [0; 32], 100)),
+                late: None,
+                event: Event::Served,
+            },
             saved: None,
         })
     }
@@ -70,25 +72,16 @@ impl<'p> Company<'p> {
         let Some(member) = self.members.get_mut(place) else {
             return Err(Fail::new("there is no such client"));
         };
-        let mut line = Line {
-            server: &mut self.server,
-            late: &mut self.late,
-            event,
-        };
-        let (stop, _) = drive(alloc, &mut member.client, &mut line, 1);
+        self.line.event = event;
+        let (stop, _) = drive(alloc, &mut member.client, &mut self.line, 1);
         if stop == Stop::NoMemory {
             return Err(Fail::new("there is no memory"));
         }
         match event {
             Event::Killed => member.client = Client::fresh(alloc, member.plan)?,
-            Event::Restarted => {
-                member.client = match &self.saved {
-                    Some(saved) => Client::resume(alloc, member.plan, saved)?,
-                    None => Client::fresh(alloc, member.plan)?,
-                }
-            }
+            Event::Restarted => member.client = restarted(alloc, member.plan, &self.saved)?,
             Event::Served | Event::RequestLost | Event::ReplyLost | Event::Delayed => {
-                self.saved = Some(member.client.progress(alloc)?);
+                self.saved = Some(text_of(alloc, &member.client)?);
             }
         }
         Ok(())
@@ -107,12 +100,12 @@ impl<'p> Company<'p> {
 
     /// How many objects there are.
     pub(crate) fn count(&self) -> usize {
-        self.server.records().count()
+        self.line.server.records().count()
     }
 
     /// How many objects of a name there are that stand so.
     pub(crate) fn count_of(&self, name: &str, state: KeyState) -> usize {
-        let records = self.server.records();
+        let records = self.line.server.records();
         let mut found = 0usize;
         for place in 0..records.count() {
             let Some(row) = records.at(place) else {
@@ -124,4 +117,19 @@ impl<'p> Company<'p> {
         }
         found
     }
+}
+
+/// The text of what a client knows.
+fn text_of(alloc: Global, client: &Client<'_>) -> Result<Text, Fail> {
+    let progress = client.progress(alloc)?;
+    Ok(progress.write_text(alloc, client.plan())?)
+}
+
+/// A client that begins from a saved text, or from nothing where there is none.
+fn restarted<'p>(alloc: Global, plan: &'p Plan, saved: &Option<Text>) -> Result<Client<'p>, Fail> {
+    let Some(text) = saved else {
+        return Ok(Client::fresh(alloc, plan)?);
+    };
+    let progress = Progress::read_text(alloc, plan, text.as_str())?;
+    Ok(Client::resume(alloc, plan, &progress)?)
 }

@@ -1,4 +1,4 @@
-//! A link of one client to a server that others use too.
+//! A link of several clients to one server.
 use crate::event::Event;
 use kmip_protocol::{Link, LinkFault};
 use kmip_server::Server;
@@ -6,47 +6,45 @@ use kmip_store::ListStore;
 use kmip_ttlv::NoMemory;
 use std::alloc::Global;
 
-/// A link of one client to a server that others use too, for one exchange.
+/// A link to a server, which several clients use in turn.
 #[derive(Drop)]
-pub(crate) struct Line<'a> {
-    pub(crate) server: &'a mut Server<ListStore>,
+pub(crate) struct Line {
+    pub(crate) server: Server<ListStore>,
     /// A request that is under way, from whichever client.
-    pub(crate) late: &'a mut Option<Vec<u8>>,
-    /// What becomes of the exchange.
+    pub(crate) late: Option<Vec<u8>>,
+    /// What becomes of the next exchange.
     pub(crate) event: Event,
 }
 
-impl<'a> Line<'a> {
-    /// The server's reply to a message.
-    fn reply(&mut self, alloc: Global, message: &[u8]) -> Result<Vec<u8>, LinkFault> {
-        match self.server.handle(alloc, message, 0) {
-            Ok(reply) => Ok(reply),
-            Err(NoMemory) => Err(LinkFault::NoMemory),
-        }
-    }
-
+impl Line {
     /// Serves the request that is under way, if one is. Its reply is lost.
-    fn serve_late(&mut self, alloc: Global) -> Result<(), LinkFault> {
+    fn serve_late(&mut self, alloc: Global) -> Result<(), NoMemory> {
         if let Some(message) = self.late.take() {
-            self.reply(alloc, message.as_slice())?;
+            self.server.handle(alloc, message.as_slice(), 0)?;
         }
         Ok(())
     }
 
-    /// Keeps the request for later.
-    fn delay(&mut self, alloc: Global, request: &[u8]) -> Result<(), LinkFault> {
-        match request.to_vec(alloc) {
-            Ok(copy) => {
-                *self.late = Some(copy);
-                Ok(())
+    /// The reply to a request that comes to its client, where one does.
+    fn answer(&mut self, alloc: Global, request: &[u8]) -> Result<Option<Vec<u8>>, NoMemory> {
+        self.serve_late(alloc)?;
+        match self.event {
+            Event::Served => Ok(Some(self.server.handle(alloc, request, 0)?)),
+            Event::ReplyLost | Event::Killed | Event::Restarted => {
+                self.server.handle(alloc, request, 0)?;
+                Ok(None)
             }
-            Err(_) => Err(LinkFault::NoMemory),
+            Event::RequestLost => Ok(None),
+            Event::Delayed => {
+                self.late = Some(request.to_vec(alloc)?);
+                Ok(None)
+            }
         }
     }
 }
 
 /// Nothing is claimed of it: others use the names.
-impl<'a> Link for Line<'a> {
+impl Link for Line {
     ghost use Rattle.std.specs.Prelude.{⊤};
     ghost use Rattle.kmip_protocol.specs.Private.{unclaimed};
 
@@ -55,18 +53,9 @@ impl<'a> Link for Line<'a> {
     ghost follows = { λ line next. ⊤ };
 
     fn exchange(&mut self, alloc: Global, request: &[u8]) -> Result<Option<Vec<u8>>, LinkFault> {
-        self.serve_late(alloc)?;
-        match self.event {
-            Event::Served => Ok(Some(self.reply(alloc, request)?)),
-            Event::ReplyLost | Event::Killed | Event::Restarted => {
-                self.reply(alloc, request)?;
-                Ok(None)
-            }
-            Event::RequestLost => Ok(None),
-            Event::Delayed => {
-                self.delay(alloc, request)?;
-                Ok(None)
-            }
+        match self.answer(alloc, request) {
+            Ok(answer) => Ok(answer),
+            Err(NoMemory) => Err(LinkFault::NoMemory),
         }
     }
 

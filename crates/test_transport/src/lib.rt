@@ -10,6 +10,8 @@ mod asserting;
 #[cfg(test)]
 mod carrying;
 #[cfg(test)]
+mod conversing;
+#[cfg(test)]
 mod cut_replies;
 #[cfg(test)]
 mod cut_requests;

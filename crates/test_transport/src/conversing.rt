@@ -1,0 +1,72 @@
+//! Connections that a server answers step by step, in turn.
+
+use crate::asserting::{assert_bytes, assert_number};
+use crate::serving::new_server;
+use crate::streams::ByteReader;
+use kmip_server::{Records, Server};
+use kmip_store::ListStore;
+use kmip_transport::Conversation;
+use std::alloc::Global;
+use std::test::Fail;
+use test_support::{CREATE_K1, CREATE_K1_REPLY, LOCATE_K1, LOCATE_K1_NONE};
+
+/// A connection, what comes over it, and what is written to it.
+#[derive(Drop)]
+struct Talking<'a> {
+    conversation: Conversation,
+    reader: ByteReader<'a>,
+    output: Vec<u8>,
+}
+
+impl<'a> Talking<'a> {
+    fn new(alloc: Global, reader: ByteReader<'a>) -> Result<Self, Fail> {
+        Ok(Talking {
+            conversation: Conversation::new(alloc)?,
+            reader,
+            output: Vec::new(alloc),
+        })
+    }
+
+    /// Takes a step. Says whether the stream goes on.
+    fn step(&mut self, alloc: Global, server: &mut Server<ListStore>) -> Result<bool, Fail> {
+        let stepped = self
+            .conversation
+            .step(server, alloc, 0, &mut self.reader, &mut self.output);
+        match stepped {
+            Ok(goes_on) => Ok(goes_on),
+            Err(_) => Err(Fail::new("a step that fails")),
+        }
+    }
+}
+
+/// Lets two connections take steps in turn until both have ended, and says how many it took.
+fn take_turns(
+    alloc: Global,
+    server: &mut Server<ListStore>,
+    one: &mut Talking<'_>,
+    other: &mut Talking<'_>,
+) -> Result<usize, Fail> {
+    for turn in 0..10_000usize {
+        let goes_on = one.step(alloc, server)?;
+        if !other.step(alloc, server)? && !goes_on {
+            return Ok(turn);
+        }
+    }
+    Err(Fail::new("an end of both"))
+}
+
+#[test]
+fn answers_two_connections_in_turn(rt: HostRuntime) -> Result<(), Fail> {
+    let locate = hex::decode(rt.alloc(), LOCATE_K1)?;
+    let create = hex::decode(rt.alloc(), CREATE_K1)?;
+    let located = hex::decode(rt.alloc(), LOCATE_K1_NONE)?;
+    let created = hex::decode(rt.alloc(), CREATE_K1_REPLY)?;
+    let mut server = new_server(rt.alloc());
+    let mut one = Talking::new(rt.alloc(), ByteReader::ending(create.as_slice()))?;
+    let mut other = Talking::new(rt.alloc(), ByteReader::ending(locate.as_slice()))?;
+    take_turns(rt.alloc(), &mut server, &mut one, &mut other)?;
+    assert_bytes(&rt, one.output.as_slice(), created.as_slice(), "created");
+    assert_bytes(&rt, other.output.as_slice(), located.as_slice(), "none yet");
+    assert_number(&rt, server.records().count(), 1, "an object");
+    Ok(())
+}
