@@ -35,7 +35,7 @@ SIZES = {
     'docs/PROOF-GUIDE.md': (18_000, None),
     'docs/PROOF.md': (12_700, None),
     'docs/SERVERS.md': (3_000, None),
-    'docs/TESTING.md': (9_000, None),
+    'docs/TESTING.md': (9_100, None),
 }
 
 # What is over the limits and is only reported, with the reason. Who rewrites a document takes its line away.
