@@ -89,7 +89,8 @@ fn assert_written(
     item: &Item,
     bytes: &[u8],
 ) -> Result<(), NoMemory> {
-    assert_of(rt, fits(item), change, "what is read fits");
+    // proof: only what fits is written
+    assert!(rt; fits(item), "what is read of {} fits", change.message);
     let mut written = Vec::new(alloc);
     write(item, &mut written)?;
     assert_spelled(rt, alloc, change, written.as_slice(), bytes);
