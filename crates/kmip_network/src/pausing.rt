@@ -19,28 +19,32 @@ impl<'a, T> Pausing<'a, T> {
     }
 }
 
-/// Notes an answer of the stream.
-fn noted(has_to_wait: &Cell<bool>, answer: Result<usize, Error>) -> io::Result<usize> {
-    match answer {
-        Ok(count) => Ok(count),
-        Err(error) => {
-            has_to_wait.set(error.kind() == ErrorKind::WouldBlock);
-            Err(error)
-        }
-    }
+/// Notes whether this failure of a stream is that it would have had to wait.
+fn note(has_to_wait: &Cell<bool>, error: &Error) {
+    has_to_wait.set(error.kind() == ErrorKind::WouldBlock);
 }
 
 impl<'a, T: Read> Read for Pausing<'a, T> {
     fn read(&mut self, buf: &mut [u8]) -> io::Result<usize> {
-        let answer = self.stream.read(buf);
-        noted(self.has_to_wait, answer)
+        match self.stream.read(buf) {
+            Ok(count) => Ok(count),
+            Err(error) => {
+                note(self.has_to_wait, &error);
+                Err(error)
+            }
+        }
     }
 }
 
 impl<'a, T: Write> Write for Pausing<'a, T> {
     fn write(&mut self, buf: &[u8]) -> io::Result<usize> {
-        let answer = self.stream.write(buf);
-        noted(self.has_to_wait, answer)
+        match self.stream.write(buf) {
+            Ok(count) => Ok(count),
+            Err(error) => {
+                note(self.has_to_wait, &error);
+                Err(error)
+            }
+        }
     }
 
     fn flush(&mut self) -> io::Result<()> {
