@@ -242,7 +242,8 @@ fn command_of<'a>(
 
 /// The command, in which at most one of two options says which progress it begins with.
 fn with_trust<'a>(alloc: Global, command: Command<'a>) -> Result<Command<'a>, AllocError> {
-    command.group(ArgGroup::new(alloc, "trust").args(&TRUSTS)?)
+    let trust = ArgGroup::new(alloc, "trust").arg("believe")?.arg("afresh")?;
+    command.group(trust)
 }
 
 /// The command, in which one of three options has to say where the server is, unless the environment
@@ -252,6 +253,14 @@ fn with_server<'a>(
     command: Command<'a>,
     environment: &Environment,
 ) -> Result<Command<'a>, AllocError> {
-    let server = ArgGroup::new(alloc, "server").args(&SERVERS)?;
+    let server = server_group(alloc)?;
     command.group(server.required(!environment.has_server()))
+}
+
+/// The three options that say where the server is, of which one may be there.
+fn server_group<'a>(alloc: Global) -> Result<ArgGroup<'a>, AllocError> {
+    ArgGroup::new(alloc, "server")
+        .arg("connect")?
+        .arg("socket")?
+        .arg("loopback")
 }
