@@ -9,8 +9,8 @@ use crate::cases::{Case, are_prolonged, both_halves, halves, plan_of};
 use crate::faulty::{Failure, Fault, Faulty};
 use crate::scripts::{link_of, script_of};
 use crate::telling::{
-    are_at_targets, push_again, push_asked, push_disturbed, push_ends, push_objects, push_ranges,
-    push_reports,
+    are_at_targets, push_again, push_asked, push_disturbed, push_ends, push_ranges, push_reports,
+    push_states,
 };
 use kmip_client::Client;
 use kmip_plan::Plan;
@@ -230,7 +230,7 @@ fn push_course(
     text.push_str("; ")?;
     push_asked(alloc, text, link)?;
     text.push_str("; ")?;
-    push_objects(text, link)
+    push_states(text, link)
 }
 
 /// Writes what comes of the simulation of a script, with at most so many keys in a message.

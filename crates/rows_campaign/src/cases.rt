@@ -10,7 +10,7 @@ use crate::faulty::Faulty;
 use crate::random::push_random_told;
 use crate::scripts::{link_of, link_with, push_lists, push_words};
 use crate::telling::{
-    push_asked, push_bytes, push_counts, push_known, push_next, push_objects, push_report,
+    push_asked, push_bytes, push_counts, push_known, push_next, push_report, push_states,
 };
 use kmip_client::Client;
 use kmip_plan::{Plan, prolongs, read_plan};
@@ -225,7 +225,7 @@ fn look(
         "asked" => push_asked(alloc, text, link),
         "request" => push_bytes(alloc, text, link.request(words.parse()?)),
         "reply" => push_bytes(alloc, text, link.reply(words.parse()?)),
-        "records" => push_objects(text, link),
+        "records" => push_states(text, link),
         "counts" => push_counts(text, &case.link),
         _ => look_at_script(alloc, text, case.plan, word, words, given),
     }

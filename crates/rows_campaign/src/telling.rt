@@ -131,7 +131,7 @@ pub fn push_bytes(alloc: Global, text: &mut String, message: Option<&[u8]>) -> R
 
 /// Writes the name and the state of each object of the server, in the order in which they were made, and
 /// whether all are as the plan says.
-pub fn push_objects(text: &mut String, link: &Scripted<ListStore>) -> Result<(), Fail> {
+pub fn push_states(text: &mut String, link: &Scripted<ListStore>) -> Result<(), Fail> {
     let records = link.server().records();
     let mut are_planned = true;
     for place in 0..records.count() {
