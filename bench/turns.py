@@ -19,8 +19,8 @@ TOP = os.path.join(os.path.dirname(os.path.realpath(__file__)), '..')
 with open(os.path.join(TOP, 'examples', 'answer-life.hex')) as file:
     MESSAGES = [bytes.fromhex(line) for line in file.read().split()]
 LONGEST = 20
-# More messages than the network holds of a client that reads no reply.
-MANY = 10_000
+# More messages than the network holds of a client that reads no reply: it may keep 4 MB in each direction.
+MANY = 60_000
 
 
 class Server:
@@ -153,7 +153,7 @@ class Turns:
         messages = MESSAGES[:1] * MANY
         sending = threading.Thread(target=deaf.sendall, args=(b''.join(messages),), daemon=True)
         sending.start()
-        time.sleep(1)
+        time.sleep(3)
         self.look('a client that reads nothing can send no more', sending.is_alive(), True)
         said = [asked(other, message) for message in MESSAGES]
         self.look('and the other is answered', said, self.answers(MESSAGES))
