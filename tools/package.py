@@ -11,6 +11,7 @@ MADE-OF, the list of what the program is made of, and SHA256SUMS, for `sha256sum
 are that of the commit, so one commit and one program give one tar. The program has to say the version of the
 sources.
 """
+import email.utils
 import gzip
 import hashlib
 import os
@@ -30,6 +31,16 @@ OUT = pathlib.Path('out')
 LIST = 'share/doc/kmipctl/INSTALLED'
 # What dpkg calls the machines.
 DEBIAN_ARCHITECTURES = {'x86_64': 'amd64'}
+
+CHANGES = '''kmipctl ({version}) unstable; urgency=medium
+
+  * What changed is in CHANGELOG.md, beside this file.
+
+ -- {who}  {day}
+'''
+
+COPYRIGHT = 'The authors of kmipctl hold its copyright. No licence has been chosen yet.\n'
+
 CONTROL = '''Package: kmipctl
 Version: {version}
 Architecture: {architecture}
@@ -160,15 +171,28 @@ def libc_of(program):
     return max((name.decode() for name in named), key=lambda name: tuple(map(int, name.split('.'))))
 
 
+def debian_documents(folder):
+    """Adds the changes, in Debian's form, and the copyright. No licence has been chosen yet: lintian warns of that,
+    and of nothing else."""
+    who = git('log', '-1', '--format=%an <%ae>') or 'not known <root@localhost>'
+    day = email.utils.formatdate(time_of_commit())
+    changes = CHANGES.format(version=version(), who=who, day=day)
+    (folder / 'changelog.gz').write_bytes(gzip.compress(changes.encode(), mtime=0))
+    (folder / 'copyright').write_text(COPYRIGHT)
+
+
 def debian_folder(program, folder):
     """Fills the folder of the package: what is installed, MADE-OF, and what dpkg has to know."""
     staged(program, folder, '/usr')
+    if shutil.which('strip'):
+        subprocess.run(['strip', '--strip-unneeded', str(folder / 'usr/bin/kmipctl')], check=True)
     (folder / 'usr/share/doc/kmipctl/MADE-OF').write_text(made_of())
     for page in sorted((folder / 'usr/share/man').rglob('*.[15]')):
         page.with_name(page.name + '.gz').write_bytes(gzip.compress(page.read_bytes(), mtime=0))
         page.unlink()
     # Debian's zsh looks there, and not in the folder that zsh itself names.
     (folder / 'usr/share/zsh/site-functions').rename(folder / 'usr/share/zsh/vendor-completions')
+    debian_documents(folder / 'usr/share/doc/kmipctl')
     names = files_in(folder)
     size = sum((folder / name).stat().st_size for name in names)
     control = folder / 'DEBIAN'
