@@ -45,6 +45,8 @@
 mod campaign_end;
 mod campaigning;
 mod carrying;
+mod crash;
+mod crashing_run;
 mod driving;
 mod ending;
 mod keeper;
@@ -67,6 +69,8 @@ mod turn_fault;
 pub use campaign_end::CampaignEnd;
 pub use campaigning::campaign;
 pub use carrying::carry_out;
+pub use crash::{Crash, Left};
+pub use crashing_run::CrashingRun;
 pub use driving::drive;
 pub use ending::close_run;
 pub use keeper::Keeper;
