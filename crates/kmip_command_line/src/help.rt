@@ -126,11 +126,19 @@ To end a run:
   save          what is known is saved, and the next run goes on from there
   restart N     the next run starts from the save of number N
   restart none  the next run starts from nothing
+  crash N LEFT  the machine stops, and the next run goes on from what its disk has then
   prolong       with --then alone: what is known is saved, and the runs after it are of the further plan
 A run makes as many exchanges as it has words for them. The last run goes on after its words, over a
 network that loses nothing. It makes as many exchanges as the plan can need then: two more for each key
 than its target has steps. STOP is AllFinished, Limit or Conflict. Where memory runs out, the runs that
 were made are printed, and then `no memory`.
+
+A run that `crash` ends keeps what is known in a file, as `kmipctl run` does. After each exchange it makes
+four calls of its disk: create, write, sync, rename; and one at its end, the sync of the folder. The
+machine stops after call N of the run, from 1. LEFT is which file is left then: `new` is the one that a
+read finds, `old` the one that the last rename replaced, until the folder is synced. `torn` is a text that
+is cut off: no crash leaves it. Where the run makes fewer calls, or no such file can be left, it is told:
+  crash refused: run 2: its disk makes fewer calls, or leaves no such file
 
 With --trace all that happened is printed first. For an exchange: what was asked, the word that it
 followed, and what came back. The reply to another question begins with `answers OPERATION NAME`. For
@@ -169,7 +177,8 @@ and then what was asked: Locate and Create, then GetAttributes and Destroy.
 The plan is checked first, then the further plan, then the script. The first fault is printed alone:
   plan refused: 4 Missing length at key 1   as by `check`
   plan refused: prolongs not                the further plan does not prolong the plan
-  script refused: line 3                    line 0 means that `prolong` stands too often, or is missing";
+  script refused: line 3                    line 0 means that `prolong` stands too often, or is missing,
+                                            or that a `crash` stands beside it";
 
 pub(crate) const PLAN: &str =
     "The file of the plan; - for standard input (a file of that name is ./-) [env: KMIPCTL_PLAN]";

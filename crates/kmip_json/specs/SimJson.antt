@@ -13,7 +13,7 @@ use Rattle.kmip_trace.specs.Questions.{request_text}
 use Rattle.kmip_simulation.specs.SimText.{SimTexts, told_sim}
 use Rattle.kmip_simulation.specs.declared.simulation.Simulation.{Simulation}
 use Rattle.kmip_plan_commands.specs.declared.sim_end.SimEnd.{SimEnd}
-use Rattle.kmip_plan_commands.specs.declared.sim_end.SimEnd.TheVariants.{PlanRefused, ProlongsNot, ScriptRefused, Ran}
+use Rattle.kmip_plan_commands.specs.declared.sim_end.SimEnd.TheVariants.{PlanRefused, ProlongsNot, ScriptRefused, CrashRefused, Ran}
 use Rattle.kmip_json.specs.Documents.{count, document, members, words_of}
 use Rattle.kmip_json.specs.FaultJson.{plan_fault_line}
 
@@ -80,9 +80,17 @@ script_fault_line line = document (members (
     ∷ (codes "line", count line)
     ∷ []))
 
+-- The line of a run of this number whose disk does not allow its crash.
+unfoldable pub crash_fault_line : ℕ → List ℕ
+crash_fault_line number = document (members (
+    (codes "fault", string (codes "crash refused"))
+    ∷ (codes "run", count number)
+    ∷ []))
+
 -- What `sim` says of the end of a simulation: why a plan or the script is refused, or the simulation.
 abbrev pub sim_end_lines : SimEnd → List ℕ
 sim_end_lines (PlanRefused fault) = plan_fault_line fault None
 sim_end_lines ProlongsNot = prolongs_not_line
 sim_end_lines (ScriptRefused line) = script_fault_line line
+sim_end_lines (CrashRefused number) = crash_fault_line number
 sim_end_lines (Ran simulation) = simulation_lines simulation

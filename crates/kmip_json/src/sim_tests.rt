@@ -46,12 +46,13 @@ const TWO_KEYS_LINES: [&str; 9] = [
     r#"{"record":"2","name":"second","state":"Destroyed"}"#,
 ];
 
-const FAULT_LINES: [&str; 5] = [
+const FAULT_LINES: [&str; 6] = [
     r#"{"fault":"plan refused","number":2,"name":"NoKeys","field":null,"key":null,"line":null}"#,
     r#"{"fault":"plan refused","number":5,"name":"Unknown","field":"k\"","key":3,"line":null}"#,
     r#"{"fault":"plan refused","at":null,"why":"it does not prolong the plan before","cause":null}"#,
     r#"{"fault":"script refused","line":2}"#,
     r#"{"fault":"script refused","line":0}"#,
+    r#"{"fault":"crash refused","run":1}"#,
 ];
 
 /// What is given of a script, with at most two keys in a message.
@@ -107,6 +108,8 @@ fn writes_why_nothing_was_simulated(rt: HostRuntime) -> Result<(), Fail> {
     let end = sim_to_end(alloc, ONE_KEY, &input("pass\nlose\n"), None)?;
     push_sim_end(alloc, &end, &mut text)?;
     let end = sim_to_end(alloc, ONE_KEY, &input(LOST_CREATE), Some(ONE_KEY))?;
+    push_sim_end(alloc, &end, &mut text)?;
+    let end = sim_to_end(alloc, ONE_KEY, &input("pass\ncrash 4 torn\n"), None)?;
     push_sim_end(alloc, &end, &mut text)?;
     assert_lines(&rt, alloc, text.as_slice(), &FAULT_LINES)?;
     let end = SimEnd::PlanRefused(PlanFault::NoMemory);

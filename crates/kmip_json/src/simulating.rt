@@ -3,6 +3,7 @@ ghost use Rattle.std.specs.Prelude.{◌≡◌, ◌++◌, IfOk, OnOk, map, string
 ghost use Rattle.std.specs.Str.Lines.{lines};
 ghost use Rattle.kmip_json.specs.SimJson.{
   ask_line,
+  crash_fault_line,
   prolongs_not_line,
   request_word,
   script_fault_line,
@@ -27,7 +28,7 @@ use std::slice;
 
 /// Appends what came of a simulation: a line for each run that has ended, one for each message that
 /// asked something, and one for each object at the end. Where memory ran out in a run, it is the runs
-/// before it alone. Where a plan or the script is refused, it is one line that says why.
+/// before it alone. Where a plan, the script or a crash is refused, it is one line that says why.
 ///
 /// A run has its number from 1, why it stopped, its exchanges, and the lines of its report. A message
 /// has its number among all that were asked, from 1, and the operation and the key of each request. An
@@ -44,6 +45,7 @@ pub fn push_sim_end(alloc: Global, end: &SimEnd, text: &mut Vec<u8>) -> Result<(
         SimEnd::PlanRefused(fault) => push_plan_fault(alloc, fault, None, text),
         SimEnd::ProlongsNot => push_prolongs_not(alloc, text),
         SimEnd::ScriptRefused(line) => push_script_fault(alloc, *line, text),
+        SimEnd::CrashRefused(number) => push_crash_fault(alloc, *number, text),
         SimEnd::Ran(simulation) => push_simulation::<SimDocuments>(alloc, simulation, text),
     }
 }
@@ -68,6 +70,17 @@ fn push_script_fault(alloc: Global, line: usize, text: &mut Vec<u8>) -> Result<(
     let members = [
         Member::text("fault", "script refused"),
         Member::count("line", line as u64),
+    ];
+    push_document(alloc, &members, text)
+}
+
+/// Appends the line of a run of this number whose disk does not allow its crash.
+fn push_crash_fault(alloc: Global, number: usize, text: &mut Vec<u8>) -> Result<(), NoMemory>
+    ensures { OnOk result (text.new.items ≡ text.old.items ++ crash_fault_line number) }
+{
+    let members = [
+        Member::text("fault", "crash refused"),
+        Member::count("run", number as u64),
     ];
     push_document(alloc, &members, text)
 }

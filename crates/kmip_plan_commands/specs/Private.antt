@@ -1,10 +1,10 @@
 -- Private: definitions that only clauses of private functions cite.
 -- Source: own (view): parts of the public definitions of this crate.
-use Rattle.std.specs.Prelude.{◌≡◌, ◌++◌, ◌↔◌, Bool, IfOk, IsTrue, ℕ, List, Result, Ok, Err}
+use Rattle.std.specs.Prelude.{◌≡◌, ◌<◌, ◌++◌, ◌↔◌, Bool, IfOk, IsTrue, ℕ, List, Result, Ok, Err}
 use Rattle.kmip_plan.specs.declared.key.Key.{Key}
 use Rattle.kmip_plan.specs.declared.plan_fault.PlanFault.{PlanFault}
 use Rattle.kmip_scripted.specs.ScriptTexts.{IsScript}
-use Rattle.kmip_scripted.specs.Words.{prolongings}
+use Rattle.kmip_scripted.specs.Words.{crashes, prolongings}
 use Rattle.kmip_scripted.specs.declared.script_fault.ScriptFault.{ScriptFault}
 use Rattle.kmip_scripted.specs.declared.script_fault.ScriptFault.TheVariants.{Line, NoMemory as ScriptNoMemory}
 use Rattle.kmip_scripted.specs.declared.word.Word.{Word}
@@ -12,9 +12,10 @@ use Rattle.kmip_ttlv.specs.declared.no_memory.NoMemory.{NoMemory}
 use Rattle.kmip_plan_commands.specs.Checking.{check_after_text, IsRefusedAfter}
 use Rattle.kmip_plan_commands.specs.SimEnds.{IsRefusedFor}
 
--- What reading a script gives in which `prolong` has to stand so often.
+-- What reading a script gives in which `prolong` has to stand so often, and no `crash` beside it.
 abbrev pub GivesWords : List ℕ → ℕ → Result (List Word) ScriptFault → Type 0
-GivesWords script prolonged (Ok words) = IsScript script words × (prolongings words ≡ prolonged)
+GivesWords script prolonged (Ok words) =
+    IsScript script words × (prolongings words ≡ prolonged) × (0 < prolonged → crashes words ≡ 0)
 GivesWords script prolonged (Err (Line line)) = IsRefusedFor script prolonged line
 GivesWords script prolonged (Err ScriptNoMemory) = Unit {0}
 

@@ -12,7 +12,7 @@ use Rattle.kmip_simulation.specs.Tracing.{trace_text}
 use Rattle.kmip_simulation.specs.declared.simulation.Simulation.{Simulation}
 use Rattle.kmip_plan_commands.specs.Checking.{plan_refusal_text}
 use Rattle.kmip_plan_commands.specs.declared.sim_end.SimEnd.{SimEnd}
-use Rattle.kmip_plan_commands.specs.declared.sim_end.SimEnd.TheVariants.{PlanRefused, ProlongsNot, ScriptRefused, Ran}
+use Rattle.kmip_plan_commands.specs.declared.sim_end.SimEnd.TheVariants.{PlanRefused, ProlongsNot, ScriptRefused, CrashRefused, Ran}
 
 -- The line of a further plan that does not prolong the plan.
 abbrev pub prolongs_not_text : List ℕ
@@ -21,6 +21,11 @@ prolongs_not_text = codes "plan refused: prolongs not\n"
 -- The line of a script that is refused for this line.
 unfoldable pub script_refusal_text : ℕ → List ℕ
 script_refusal_text line = codes "script refused: line " ++ decimal line ++ codes "\n"
+
+-- The line of a run whose disk does not allow its crash.
+unfoldable pub crash_refusal_text : ℕ → List ℕ
+crash_refusal_text number = 
+    codes "crash refused: run " ++ decimal number ++ codes ": its disk makes fewer calls, or leaves no such file\n"
 
 -- What is printed of a simulation in a detail. Where memory ran out in a run, that is how the runs before it
 -- ended, in each detail.
@@ -36,6 +41,7 @@ abbrev pub sim_end_text : Detail → SimEnd → List ℕ
 sim_end_text detail (PlanRefused fault) = plan_refusal_text fault
 sim_end_text detail ProlongsNot = prolongs_not_text
 sim_end_text detail (ScriptRefused line) = script_refusal_text line
+sim_end_text detail (CrashRefused number) = crash_refusal_text number
 sim_end_text detail (Ran simulation) = simulation_text detail simulation.end.fault simulation
 
 -- How a campaign ended: for want of memory, or with whether its last run left a key unfinished.
@@ -52,4 +58,5 @@ abbrev pub sim_outcome : SimEnd → Result Bool NoMemory
 sim_outcome (PlanRefused fault) = Ok true
 sim_outcome ProlongsNot = Ok true
 sim_outcome (ScriptRefused line) = Ok true
+sim_outcome (CrashRefused number) = Ok true
 sim_outcome (Ran simulation) = campaign_outcome simulation.end

@@ -1,21 +1,21 @@
 -- How a simulation ended, and what that has come of: a plan, a further one where there is one, and a script.
 -- Source: own (view).
-use Rattle.std.specs.Prelude.{◌≡◌, ◌≢◌, ◌⊎◌, ℕ, List, [], ◌∷◌, Option, Some, None, Result, Ok, Err}
+use Rattle.std.specs.Prelude.{◌≡◌, ◌≢◌, ◌⊎◌, ◌<◌, ℕ, List, [], ◌∷◌, Option, Some, None, Result, Ok, Err}
 use Rattle.kmip_plan.specs.Prolonging.{Prolongs}
 use Rattle.kmip_plan.specs.declared.plan_fault.PlanFault.{PlanFault}
 use Rattle.kmip_plan.specs.declared.key.Key.{Key}
 use Rattle.kmip_runs.specs.declared.campaign_end.CampaignEnd.{CampaignEnd}
 use Rattle.kmip_scripted.specs.Scenes.{Scene}
 use Rattle.kmip_scripted.specs.ScriptTexts.{FailsAt, IsScript}
-use Rattle.kmip_scripted.specs.Words.{prolongings}
+use Rattle.kmip_scripted.specs.Words.{crashes, prolongings}
 use Rattle.kmip_scripted.specs.declared.word.Word.{Word}
-use Rattle.kmip_simulation.specs.Simulating.{AreSimulated, IsSimulated}
+use Rattle.kmip_simulation.specs.Simulating.{AreSimulated, IsCrashOf, IsSimulated, IsSimulatedWithCrashes}
 use Rattle.kmip_simulation.specs.declared.simulation.Simulation.{Simulation}
 use Rattle.kmip_plan_commands.specs.declared.sim_end.SimEnd.{SimEnd}
-use Rattle.kmip_plan_commands.specs.declared.sim_end.SimEnd.TheVariants.{PlanRefused, ProlongsNot, ScriptRefused, Ran}
+use Rattle.kmip_plan_commands.specs.declared.sim_end.SimEnd.TheVariants.{PlanRefused, ProlongsNot, ScriptRefused, CrashRefused, Ran}
 
--- Each line of the script is a word, but `prolong` stands more or less often than it has to. This is told as of
--- line 0.
+-- Each line of the script is a word, but `prolong` stands more or less often than it has to, or a `crash` beside
+-- it. This is told as of line 0.
 pub record HasOtherCount (script : List ℕ) (prolonged line : ℕ) : Type 0 where
   -- The line is 0.
   pub line_is : line ≡ 0
@@ -23,8 +23,8 @@ pub record HasOtherCount (script : List ℕ) (prolonged line : ℕ) : Type 0 whe
   pub words : List Word
   -- The script has these words.
   pub is_script : IsScript script words
-  -- Another count of them is `prolong`.
-  pub other : prolongings words ≢ prolonged
+  -- Another count of them is `prolong`, or one is `crash` where some have to be `prolong`.
+  pub other : (prolongings words ≢ prolonged) ⊎ ((0 < prolonged) × (0 < crashes words))
 
 -- A script in which `prolong` has to stand so often is refused for this line: the first that is at fault, or 0
 -- for another count.
@@ -41,6 +41,8 @@ pub record IsPlayed (Holds : OfRuns) (script : List ℕ) (prolonged : ℕ) (simu
   pub is_script : IsScript script simulation.words
   -- So many of them are `prolong`.
   pub as_often : prolongings simulation.words ≡ prolonged
+  -- Where some are, none is `crash`.
+  pub no_crash : 0 < prolonged → crashes simulation.words ≡ 0
   -- This holds of the runs that they made.
   pub simulated : Holds simulation.words simulation.end simulation.link
 
@@ -50,9 +52,36 @@ EndsScript Holds script prolonged (ScriptRefused line) = IsRefusedFor script pro
 EndsScript Holds script prolonged (Ran simulation) = IsPlayed Holds script prolonged simulation
 EndsScript Holds script prolonged end = ⊥
 
+-- The runs of some words were made for the keys of a plan, of which each message asks about so many at most: as a
+-- campaign, or as one with crashes where a word is `crash`.
+pub record IsRun (batch : ℕ) (keys : List Key) (words : List Word) (end : CampaignEnd) (link : Scene) : Type 0 where
+  -- No word is `crash`.
+  pub whole : crashes words ≡ 0 → IsSimulated keys batch words end link
+  -- Some word is.
+  pub crashed : 0 < crashes words → IsSimulatedWithCrashes keys batch words end link
+
+-- How these words ended for the keys of a plan: the disk of a run does not allow its crash, or their runs were
+-- made.
+abbrev pub Plays : ℕ → List Key → List Word → SimEnd → Type 0
+Plays batch keys words (CrashRefused number) = IsCrashOf keys words number
+Plays batch keys words (Ran simulation) = (simulation.words ≡ words) × IsRun batch keys words simulation.end simulation.link
+Plays batch keys words end = ⊥
+
+-- The disk of the run of this number does not allow the crash that the script has for it.
+pub record HasRefusedCrash (keys : List Key) (script : List ℕ) (number : ℕ) : Type 0 where
+  -- The words of the script.
+  pub words : List Word
+  -- The script has these words.
+  pub is_script : IsScript script words
+  -- None of them is `prolong`.
+  pub none : prolongings words ≡ 0
+  -- They have a crash for the run of this number.
+  pub crash : IsCrashOf keys words number
+
 -- How a script ended for the keys of a plan, of which each message asks about so many at most.
 abbrev pub EndsPlan : ℕ → List Key → List ℕ → SimEnd → Type 0
-EndsPlan batch keys script end = EndsScript (λ words end link. IsSimulated keys batch words end link) script 0 end
+EndsPlan batch keys script (CrashRefused number) = HasRefusedCrash keys script number
+EndsPlan batch keys script end = EndsScript (IsRun batch keys) script 0 end
 
 -- How a script ended for the keys of a plan and, behind its one `prolong`, for those of a further one: the
 -- further plan does not prolong the plan; or it does, and the script is refused, or was simulated for both.

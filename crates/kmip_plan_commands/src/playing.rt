@@ -2,16 +2,17 @@
 ghost use Rattle.std.specs.Prelude.{◌≡◌, false, None, Ok, Some, IfOk, IsTrue, OnOk, option_map};
 ghost use Rattle.kmip_messages.specs.Members.{may_have};
 ghost use Rattle.kmip_plan.specs.Reading.{plan_read};
+ghost use Rattle.kmip_scripted.specs.Words.{prolongings};
 ghost use Rattle.kmip_plan_commands.specs.Checking.{is_memory};
 ghost use Rattle.kmip_plan_commands.specs.Private.{GivesWords};
-ghost use Rattle.kmip_plan_commands.specs.SimEnds.{EndsPlan, EndsPlans, EndsSim};
+ghost use Rattle.kmip_plan_commands.specs.SimEnds.{EndsPlan, EndsPlans, EndsSim, Plays};
 ghost use Rattle.kmip_plan_commands.specs.declared.sim_end.SimEnd.TheVariants.{PlanRefused};
 
 use crate::sim_end::SimEnd;
 use crate::sim_input::SimInput;
 use kmip_plan::{Plan, PlanFault, prolongs, read_plan};
 use kmip_scripted::{Script, ScriptFault, read_script};
-use kmip_simulation::{simulate, simulate_plans};
+use kmip_simulation::{SimFault, simulate, simulate_plans, simulate_with_crashes};
 use kmip_ttlv::NoMemory;
 use std::alloc::Global;
 
@@ -90,12 +91,29 @@ fn sim_one_to_end(alloc: Global, plan: &Plan, input: &SimInput<'_>) -> Result<Si
     ensures { IfOk result (λ end. EndsPlan input.now.batch plan.now input.now.script.now end) }
 {
     match script_in(alloc, input.script, 0) {
-        Ok(script) => {
-            let simulation = simulate(alloc, plan, script, input.batch)?;
-            Ok(SimEnd::Ran(simulation))
-        }
+        Ok(script) => play(alloc, plan, script, input.batch),
         Err(ScriptFault::Line(line)) => Ok(SimEnd::ScriptRefused(line)),
         Err(ScriptFault::NoMemory) => Err(NoMemory),
+    }
+}
+
+/// How a script that was read ends for a plan: with crashes, where it has some.
+///
+/// # Errors
+/// Those of `sim_to_end`.
+fn play(alloc: Global, plan: &Plan, script: Script, batch: usize) -> Result<SimEnd, NoMemory>
+    requires none { prolongings script ≡ 0 }
+    requires batch { IsTrue (may_have batch) }
+    ensures { IfOk result (λ end. Plays batch plan.now script end) }
+{
+    if script.crashes() == 0 {
+        let simulation = simulate(alloc, plan, script, batch)?;
+        return Ok(SimEnd::Ran(simulation));
+    }
+    match simulate_with_crashes(alloc, plan, script, batch) {
+        Ok(simulation) => Ok(SimEnd::Ran(simulation)),
+        Err(SimFault::CrashRefused(number)) => Ok(SimEnd::CrashRefused(number)),
+        Err(SimFault::NoMemory) => Err(NoMemory),
     }
 }
 
@@ -127,15 +145,18 @@ fn sim_both_to_end(
     }
 }
 
-/// Reads a script in which `prolong` stands so often.
+/// Reads a script in which `prolong` stands so often, and no `crash` beside it.
 ///
 /// # Errors
-/// Those of `read_script`; and `Line(0)`, where it stands more often or less.
+/// Those of `read_script`; and `Line(0)`, where it stands more often or less, or a `crash` beside it.
 fn script_in(alloc: Global, text: &str, count: usize) -> Result<Script, ScriptFault>
     ensures { GivesWords text.now count result }
 {
     let script = read_script(alloc, text)?;
     if script.prolongings() != count {
+        return Err(ScriptFault::Line(0));
+    }
+    if count > 0 && script.crashes() > 0 {
         return Err(ScriptFault::Line(0));
     }
     Ok(script)

@@ -14,8 +14,10 @@ pub enum SimEnd {
     /// The further plan does not prolong the plan.
     ProlongsNot,
     /// The script is refused for the line of this number, from 1. It is 0 where `prolong` stands more or
-    /// less often than it has to.
+    /// less often than it has to, or `crash` beside it.
     ScriptRefused(usize),
+    /// The disk of the run of this number, from 1, does not allow the crash that the script has for it.
+    CrashRefused(usize),
     /// The runs of the script were made. Where memory ran out in one, this has the runs before it.
     Ran(Simulation),
 }
@@ -29,7 +31,8 @@ impl SimEnd {
         ensures { result ≡ sim_outcome self.now }
     {
         match self {
-            SimEnd::PlanRefused(_) | SimEnd::ProlongsNot | SimEnd::ScriptRefused(_) => Ok(true),
+            SimEnd::PlanRefused(_) | SimEnd::ProlongsNot => Ok(true),
+            SimEnd::ScriptRefused(_) | SimEnd::CrashRefused(_) => Ok(true),
             SimEnd::Ran(simulation) => campaign_outcome(simulation),
         }
     }

@@ -2,7 +2,7 @@
 ghost use Rattle.std.specs.Prelude.{◌≡◌, ◌++◌, IfOk, OnOk, string_bytes};
 ghost use Rattle.kmip_simulation.specs.SimText.{sim_text};
 ghost use Rattle.kmip_simulation.specs.Tracing.{trace_text};
-ghost use Rattle.kmip_plan_commands.specs.SimEndText.{prolongs_not_text, script_refusal_text, sim_end_text, simulation_text};
+ghost use Rattle.kmip_plan_commands.specs.SimEndText.{crash_refusal_text, prolongs_not_text, script_refusal_text, sim_end_text, simulation_text};
 
 use crate::push_refusal;
 use crate::sim_end::SimEnd;
@@ -35,6 +35,7 @@ pub fn push_sim_end(
         SimEnd::PlanRefused(fault) => push_refusal(alloc, fault, text),
         SimEnd::ProlongsNot => push_text(PROLONGS_NOT.as_bytes(), text),
         SimEnd::ScriptRefused(line) => push_script_refusal(alloc, *line, text),
+        SimEnd::CrashRefused(number) => push_crash_refusal(alloc, *number, text),
         SimEnd::Ran(simulation) => push_told(alloc, detail, simulation, text),
     }
 }
@@ -53,6 +54,23 @@ fn script_refusal_text(alloc: Global, line: usize) -> Result<String, NoMemory>
     ensures { IfOk result (λ text. string_bytes text ≡ script_refusal_text line) }
 {
     let text = format!(in alloc; "script refused: line {line}\n")?;
+    Ok(text)
+}
+
+/// Appends the line of a run of this number whose disk does not allow its crash.
+fn push_crash_refusal(alloc: Global, number: usize, text: &mut Vec<u8>) -> Result<(), NoMemory>
+    ensures { OnOk result (text.new.items ≡ text.old.items ++ crash_refusal_text number) }
+{
+    let refusal = crash_refusal_text(alloc, number)?;
+    push_text(refusal.as_bytes(), text)
+}
+
+/// The line of a run of this number whose disk does not allow its crash.
+#[tactic(auto, unfolding(crate::specs::SimEndText::crash_refusal_text))]
+fn crash_refusal_text(alloc: Global, number: usize) -> Result<String, NoMemory>
+    ensures { IfOk result (λ text. string_bytes text ≡ crash_refusal_text number) }
+{
+    let text = format!(in alloc; "crash refused: run {number}: its disk makes fewer calls, or leaves no such file\n")?;
     Ok(text)
 }
 

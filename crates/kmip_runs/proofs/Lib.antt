@@ -31,3 +31,4 @@ pub mod WaitLemmas
 pub mod RefusalLemmas
 pub mod PatienceLemmas
 pub mod ForKeepers
+pub mod CrashLemmas

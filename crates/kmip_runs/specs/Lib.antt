@@ -26,6 +26,10 @@ pub mod TurnedRuns
 pub mod Campaigns
 -- what a campaign promises
 pub mod MakesCampaigns
+-- runs of which a crash of the machine may end some
+pub mod Crashes
+-- private: what the parts of such runs keep
+pub mod PrivateCrashes
 -- private: what the parts of a campaign keep
 pub mod PrivateCampaignParts
 -- private: what the parts of a campaign on several plans keep

@@ -128,7 +128,7 @@ fn run_each<L: Link>(
 ///
 /// # Errors
 /// Where there is no memory; what was done is noted.
-fn one_run<'p, L: Link>(
+pub(crate) fn one_run<'p, L: Link>(
     alloc: Global,
     plan: &'p Plan,
     client: &mut Client<'p>,
@@ -160,7 +160,7 @@ fn one_run<'p, L: Link>(
 ///
 /// # Errors
 /// Where there is no memory; the client is then as it was.
-fn begin<'p>(
+pub(crate) fn begin<'p>(
     alloc: Global,
     plan: &'p Plan,
     client: &mut Client<'p>,

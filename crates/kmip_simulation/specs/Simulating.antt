@@ -1,6 +1,6 @@
 -- What holds of a campaign over a link in memory that followed a script, and of all that happened.
 -- Source: own.
-use Rattle.std.specs.Prelude.{◌≡◌, ℕ, ⊤, List, [], length, filter, map, replicate, take, None}
+use Rattle.std.specs.Prelude.{◌≡◌, ◌≤◌, ◌-◌, ℕ, ⊤, List, [], false, length, filter, map, replicate, slice_get, take, None}
 use Rattle.std.specs.List.{All, AllZip}
 use Rattle.kmip_plan.specs.declared.key.Key.{Key}
 use Rattle.kmip_client.specs.Held.{TrueProgress}
@@ -14,11 +14,14 @@ use Rattle.kmip_runs.specs.Ending.{AreEnded}
 use Rattle.kmip_runs.specs.Losing.{AllOutlast}
 use Rattle.kmip_runs.specs.Remembering.{AreKnown, notes_of}
 use Rattle.kmip_runs.specs.Campaigns.{AreInTurn, CalmStart, IsTrueFor, last_plan}
+use Rattle.kmip_runs.specs.Crashes.{CrashesWell, IsCrashing, MakesCrashes}
+use Rattle.kmip_runs.specs.declared.crashes_end.CrashesEnd.{CrashesEnd}
+use Rattle.kmip_runs.specs.declared.crashing_run.CrashingRun.{CrashingRun}
 use Rattle.kmip_runs.specs.declared.campaign_end.CampaignEnd.{CampaignEnd}
 use Rattle.kmip_runs.specs.declared.run.Run.{Run}
 use Rattle.kmip_store.specs.Stock.{empty_stock, most_room}
 use Rattle.kmip_scripted.specs.Following.{Follows}
-use Rattle.kmip_scripted.specs.Runs.{lists_of, runs_of}
+use Rattle.kmip_scripted.specs.Runs.{crashing_runs_of, lists_of, runs_of}
 use Rattle.kmip_scripted.specs.Scenes.{Scene, disturbances_in, past_in, scene_of, seen_in}
 use Rattle.kmip_scripted.specs.Words.{next_words}
 use Rattle.kmip_scripted.specs.declared.word.Word.{Word}
@@ -63,6 +66,25 @@ pub record IsSimulated (keys : List Key) (batch : ℕ) (words : List Word) (end 
   pub mirrored : IsMirrored keys (past_in link)
   pub calm : words ≡ [] → CalmLink keys (seen_in (first_scene words))
   pub carried : IsCarriedOut keys (in_batches batch (runs_of keys words)) end (first_scene words) link
+
+-- the runs, each of which asks about so many keys at once
+abbrev pub crashing_in_batches : ℕ → List CrashingRun → List CrashingRun
+crashing_in_batches batch runs = map (λ (crashing : CrashingRun). record crashing { run = record crashing.run { batch = batch } }) runs
+
+-- The runs of a script were made for a plan, and crashes ended some of them, as it says. All that a campaign with crashes promises over a good
+-- link holds of them. No crash was refused.
+pub record IsSimulatedWithCrashes (keys : List Key) (batch : ℕ) (words : List Word) (end : CampaignEnd) (link : Scene) : Type 0 where
+  pub opening : Opening keys (past_in (first_scene words))
+  pub mirrored : IsMirrored keys (past_in link)
+  pub crashes : CrashesEnd
+  pub end_is : end ≡ crashes.campaign
+  pub allowed : crashes.is_refused ≡ false
+  pub well : CrashesWell (seen_in (first_scene words)) keys crashes (seen_in link)
+  pub made : MakesCrashes (seen_in (first_scene words)) keys (crashing_in_batches batch (crashing_runs_of keys words)) crashes (seen_in link)
+
+-- a crash is to end the run of this number, from 1
+abbrev pub IsCrashOf : List Key → List Word → ℕ → Type 0
+IsCrashOf keys words number = IsCrashing (slice_get (crashing_runs_of keys words) (number - 1)) × (1 ≤ number)
 
 -- After that, a second campaign made these runs for the same plan over the same link.
 pub record IsSimulatedAgain (keys : List Key) (batch : ℕ) (words : List Word) (runs : List Run) (first second : CampaignEnd) (link : Scene) : Type 0 where

@@ -1,5 +1,5 @@
 //! A campaign over a link in memory that follows a script.
-ghost use Rattle.std.specs.Prelude.{◌≡◌, List, length, map, IfOk, IsTrue};
+ghost use Rattle.std.specs.Prelude.{◌≡◌, Err, List, ℕ, length, map, IfOk, IsTrue};
 ghost use Rattle.std.specs.List.{All};
 ghost use Rattle.kmip_messages.specs.Members.{may_have};
 ghost use Rattle.kmip_plan.specs.declared.key.Key.{Key};
@@ -8,12 +8,25 @@ ghost use Rattle.kmip_scripted.specs.Scenes.{past_in};
 ghost use Rattle.kmip_scripted.specs.Words.{prolongings};
 ghost use Rattle.kmip_runs.specs.Campaign.{MayBatch};
 ghost use Rattle.kmip_runs.specs.Campaigns.{AreProlonged};
-ghost use Rattle.kmip_simulation.specs.Simulating.{AreSimulated, IsCarriedOut, IsSimulated, IsSimulatedAgain, first_scene, in_batches};
+ghost use Rattle.kmip_simulation.specs.Simulating.{
+  AreSimulated,
+  IsCarriedOut,
+  IsCrashOf,
+  IsSimulated,
+  IsSimulatedAgain,
+  IsSimulatedWithCrashes,
+  crashing_in_batches,
+  first_scene,
+  in_batches,
+};
+ghost use Rattle.kmip_runs.specs.Crashes.{MayCrash};
+ghost use Rattle.kmip_simulation.specs.declared.sim_fault.SimFault.TheVariants.{CrashRefused};
 ghost use Rattle.kmip_simulation.specs.SimText.{is_last_finished};
 
+use crate::sim_fault::SimFault;
 use kmip_plan::Plan;
 use kmip_protocol::laws::{nothing_done_is_sound, opening_is_mirrored};
-use kmip_runs::{CampaignEnd, Run, campaign, campaigns};
+use kmip_runs::{CampaignEnd, CrashingRun, Run, campaign, campaign_with_crashes, campaigns};
 use kmip_scripted::{Script, Scripted};
 use kmip_server::{IndexedStore, Server};
 use kmip_store::{MOST_ROOM, SEED};
@@ -94,6 +107,47 @@ pub fn simulate_again(
     Ok((first, second))
 }
 
+/// Makes the runs of a script for a plan, as `simulate` does, and crashes of the machine end some of them: a
+/// word `crash` says after which call of its disk, and what is left.
+///
+/// # Errors
+/// `CrashRefused` where the disk of a run does not allow its crash, and `NoMemory` where there is no memory for
+/// the list of the runs, or for the words of the script.
+pub fn simulate_with_crashes(
+    alloc: Global,
+    plan: &Plan,
+    script: Script,
+    batch: usize,
+) -> Result<Simulation, SimFault>
+    // The script has no word `prolong`.
+    requires none { prolongings script ≡ 0 }
+    // A message may ask about so many keys at most: 1 to 8.
+    requires batch { IsTrue (may_have batch) }
+    // The runs of the script were made for the plan. What is said of a campaign with crashes over a good link
+    // holds of them, whatever the script: its premises are met here by proof.
+    ensures simulated { IfOk result (λ s.
+        IsSimulatedWithCrashes plan.now batch script s.end s.link) }
+    // The words that are kept are those of the script.
+    ensures words { IfOk result (λ s. s.words ≡ script) }
+    // A crash is refused only where the script has one for the run of that number.
+    ensures refused { (number : ℕ) → result ≡ Err (CrashRefused number)
+        → IsCrashOf plan.now script number }
+{
+    nothing_done_is_sound();
+    opening_is_mirrored();
+    plan.keys();
+    let runs = script.crashing_runs(alloc, plan)?;
+    let runs = crashing_in_batches(alloc, runs.as_slice(), batch)?;
+    let words = copied(alloc, &script)?;
+    let mut link = new_link(alloc, script);
+    let crashes = campaign_with_crashes(alloc, plan, &mut link, runs.as_slice());
+    if crashes.is_refused {
+        return Err(SimFault::CrashRefused(crashes.campaign.runs.len() + 1));
+    }
+    let end = crashes.campaign;
+    Ok(Simulation { words, end, link })
+}
+
 /// Makes the runs in a campaign over the link.
 fn campaign_over(
     alloc: Global,
@@ -155,6 +209,30 @@ fn in_batches(alloc: Global, runs: &[Run], batch: usize) -> Result<Vec<Run>, NoM
     let mut batched = Vec::with_capacity(alloc, runs.len())?;
     for run in runs {
         batched.push(Run { batch, ..*run })?;
+    }
+    Ok(batched)
+}
+
+/// The runs, each of which asks about so many keys at once, with the crashes that end them.
+///
+/// # Errors
+/// Where there is no memory for them.
+fn crashing_in_batches(
+    alloc: Global,
+    runs: &[CrashingRun],
+    batch: usize,
+) -> Result<Vec<CrashingRun>, NoMemory>
+    requires { IsTrue (may_have batch) }
+    ensures runs { IfOk result (λ v. v.items ≡ crashing_in_batches batch runs.now) }
+    ensures may { IfOk result (λ v. MayCrash v.items) }
+{
+    let mut batched = Vec::with_capacity(alloc, runs.len())?;
+    for crashing in runs {
+        let run = Run {
+            batch,
+            ..crashing.run
+        };
+        batched.push(CrashingRun { run, ..*crashing })?;
     }
     Ok(batched)
 }

@@ -1,0 +1,327 @@
+-- Runs of which a crash may end some: what a crash leaves is true, and takes back nothing of what its run began with.
+use Rattle.std.proofs.Common.{◌≡◌, ◌≢◌, ◌≤◌, ◌<◌, ℕ, zero, suc, List, [], ◌∷◌, ◌++◌, length, map, take, slice_get, None, Option, Some, Ok, Err, Result, OnErr, OnOk, inl, inr, refl, sym, subst, ap, ◌∙◌, ◌⊎◌, ⊎_elim, arith}
+use Rattle.std.specs.List.{All, AllZip}
+use Rattle.std.proofs.lemmas.List.{length-append}
+use Rattle.std.proofs.lemmas.List.Elements.{All-head, All-nil, All-push, All-tail}
+use Rattle.kmip_client.specs.Clients.{ClientState, fresh}
+use Rattle.kmip_client.specs.Held.{Held, TrueProgress}
+use Rattle.kmip_client.specs.Knowledge.{lost_phase}
+use Rattle.kmip_client.specs.Laws.{HeldIsNoConflict}
+use Rattle.kmip_client.specs.Saving.{knowledge_from, known_of, progress, resume}
+use Rattle.kmip_client.specs.Shapes.{IsKept}
+use Rattle.kmip_client.specs.declared.knowledge.Knowledge.{Knowledge}
+use Rattle.kmip_disk.specs.Views.{Content, DiskView}
+use Rattle.kmip_disk.specs.Whole.{IsOneOf}
+use Rattle.kmip_objects.specs.Objects.{Object}
+use Rattle.kmip_plan.specs.Plans.{IsLawful}
+use Rattle.kmip_plan.specs.declared.key.Key.{Key}
+use Rattle.kmip_progress.specs.Reading.{read_text}
+use Rattle.kmip_progress.specs.Suiting.{Suits}
+use Rattle.kmip_progress.specs.Texts.{progress_text}
+use Rattle.kmip_progress.specs.declared.known.Known.{Known}
+use Rattle.kmip_progress.specs.declared.progress_fault.ProgressFault.{ProgressFault}
+use Rattle.kmip_protocol.specs.Past.{Names}
+use Rattle.kmip_protocol.specs.Seen.{Seen}
+use Rattle.kmip_runs.specs.Campaign.{IsEnd}
+use Rattle.kmip_runs.specs.Crashes.{AreMade, Between, IsLeftBy, IsMade, at_first}
+use Rattle.kmip_runs.specs.Driving.{IsBorneOut, IsGood, SomeClash, WentOn}
+use Rattle.kmip_runs.specs.Lasting.{IsReadBack, Leaves}
+use Rattle.kmip_runs.specs.PrivateCampaignParts.{AreSame, CampaignLaws, CampaignStage, HasEnded, HasRun, IsEnding, Noted, RunsOne, Standing, begins_with}
+use Rattle.kmip_runs.specs.PrivateCrashes.{AreCrashing, BeginsWith, CrashStage, CrashesEach, CrashesGood, CrashesOne, HasCome, IsLeftOn, IsStanding, IsUnchanged, StandsOn, between}
+use Rattle.kmip_runs.specs.Remembering.{saved_after, start_knowns}
+use Rattle.kmip_runs.specs.Saved.{AreKept, Moment, Situation, grounds_in, text_at}
+use Rattle.kmip_runs.specs.declared.campaign_end.CampaignEnd.{CampaignEnd}
+use Rattle.kmip_runs.specs.declared.crashes_end.CrashesEnd.{CrashesEnd}
+use Rattle.kmip_runs.specs.declared.crash.Crash.{Crash}
+use Rattle.kmip_runs.specs.declared.crash_fault.CrashFault.{CrashFault}
+use Rattle.kmip_runs.specs.declared.crash_fault.CrashFault.TheVariants.{Refused}
+use Rattle.kmip_runs.specs.declared.left.Left.TheVariants.{Torn}
+use Rattle.kmip_runs.specs.declared.crashing_run.CrashingRun.{CrashingRun}
+use Rattle.kmip_runs.specs.declared.run.Run.{Run}
+use Rattle.kmip_runs.specs.declared.run_end.RunEnd.{RunEnd}
+use Rattle.kmip_runs.specs.declared.save_fault.SaveFault.{SaveFault}
+use Rattle.kmip_runs.specs.declared.stop.Stop.{Stop}
+use Rattle.kmip_runs.specs.declared.stop.Stop.TheVariants as stops
+use Rattle.kmip_ttlv.specs.declared.no_memory.NoMemory.{NoMemory}
+use Rattle.kmip_runs.proofs.CampaignLemmas.{campaigned, good_with, noted_none, opened, stood, true_onward}
+use Rattle.kmip_runs.proofs.OrderLemmas.{one_further}
+use Rattle.kmip_runs.proofs.WentLemmas.{kept_itself, kept_then}
+
+-- ---- what a crash leaves of one run
+
+-- who goes on from what was kept knows as much
+kept_again : (knowns : List Knowledge) → AllZip IsKept knowns (map knowledge_from (map known_of knowns))
+kept_again [] = tt
+kept_again (known ∷ knowns) = (record { identifier_kept = λ uid is. is; done_kept = omega arith }, kept_again knowns)
+
+true_of_held : (objects : List Object) (keys : List Key) (knowns : List Knowledge) → Held objects keys knowns → TrueProgress objects keys (map known_of knowns)
+true_of_held objects [] [] held = tt
+true_of_held objects [] (known ∷ knowns) held = absurd held
+true_of_held objects (key ∷ keys) [] held = absurd held
+true_of_held objects (key ∷ keys) (known ∷ knowns) held = (held.0.holds, true_of_held objects keys knowns held.1)
+
+abbrev read_as : Result (List Known) ProgressFault → Result (List Known) ProgressFault
+read_as r = r
+
+same_saved : (xs ys : List Known) → read_as (Ok xs) ≡ read_as (Ok ys) → xs ≡ ys
+same_saved xs ys e = cc
+
+-- What was left takes back nothing of what its run began with; and it is true where all was good.
+pub record IsFine (keys : List Key) (begun : List Knowledge) (good : Type 0) (objects : List Object) (left : List Known) : Type 0 where
+  pub kept : AllZip IsKept begun (resume keys left).knowns
+  pub true_of : good → TrueProgress objects keys left
+
+-- what is known at a moment is fine, where it takes back nothing and is true
+fine_at : (keys : List Key) (begun knowns : List Knowledge) (good : Type 0) (objects : List Object) (left : List Known) → AllZip IsKept begun knowns
+    → (good → Held objects keys knowns) → left ≡ map known_of knowns → IsFine keys begun good objects left
+fine_at keys begun knowns good objects left kept held is =
+    subst (IsFine keys begun good objects) (sym is)
+    (record {
+      kept = kept_then begun knowns (map knowledge_from (map known_of knowns)) kept (kept_again knowns);
+      true_of = λ all. true_of_held objects keys knowns (held all);
+    })
+
+-- the text of one of these moments
+one_is_fine : (keys : List Key) (begun knowns : List Knowledge) (good : Type 0) (objects : List Object) (moments rest : List Moment) (text : List ℕ) (left : List Known)
+    → AllZip IsKept begun knowns → All (IsReadBack keys) moments → AreKept knowns (moments ++ rest)
+    → (good → All (λ (m : Moment). Held objects keys m.knowns) moments) → read_text keys text ≡ Ok left
+    → IsOneOf (map (text_at keys) moments) (Some text) → IsFine keys begun good objects left
+one_is_fine keys begun knowns good objects [] rest text left kept read grows held said one = absurd one
+one_is_fine keys begun knowns good objects (m ∷ moments) rest text left kept read grows held said (inl is) =
+    let same : text ≡ text_at keys m = cc in
+    fine_at keys begun m.knowns good objects left (kept_then begun knowns m.knowns kept grows.0)
+    (λ all. All-head (λ (m : Moment). Held objects keys m.knowns) m moments (held all))
+    (same_saved left (map known_of m.knowns) (sym said ∙ ap (λ t. read_text keys t) same ∙ All-head (IsReadBack keys) m moments read))
+one_is_fine keys begun knowns good objects (m ∷ moments) rest text left kept read grows held said (inr one) =
+    one_is_fine keys begun m.knowns good objects moments rest text left (kept_then begun knowns m.knowns kept grows.0)
+    (All-tail (IsReadBack keys) m moments read) grows.1 (λ all. All-tail (λ (m : Moment). Held objects keys m.knowns) m moments (held all)) said one
+
+-- none of these texts is no file
+none_is_none : (keys : List Key) (moments : List Moment) {X : Type 0} → IsOneOf (map (text_at keys) moments) None → X
+none_is_none keys [] one = absurd one
+none_is_none keys (m ∷ moments) (inl is) = absurd cc
+none_is_none keys (m ∷ moments) (inr one) = none_is_none keys moments one
+
+-- what a crash leaves after a run is fine
+pub left_is_fine : (keys : List Key) (old new : Situation) (result : Result Stop SaveFault) (made : ℕ) (left : List Known) → old.client.keys ≡ keys
+    → old.keeper.disk.lawful → new.keeper.disk.lawful → BeginsWith old.client old.keeper.disk → Leaves old.client.keys (grounds_in old) old new result made
+    → (IsGood old.client old.link → Held new.link.past.objects old.client.keys old.client.knowns)
+    → IsLeftOn new.keeper.disk keys left → IsFine keys old.client.knowns (IsGood old.client old.link) new.link.past.objects left
+left_is_fine keys old new result made left same rules still begins leaves held is =
+    subst (λ ks. IsFine ks old.client.knowns (IsGood old.client old.link) new.link.past.objects left) same (fine (subst (λ ks. IsLeftOn new.keeper.disk ks left) (sym same) is))
+  where
+    own : List Key
+    own = old.client.keys
+    had : (c : Content) → new.keeper.disk.may_leave c → old.keeper.disk.may_leave c ⊎ IsOneOf (map (text_at own) leaves.moments) c
+    had c may = leaves.any_moment.each c (new.keeper.disk.counts_now still old.keeper.disk.moment c leaves.any_moment.later may)
+    by_text : (text : List ℕ) → read_text own text ≡ Ok left → old.keeper.disk.may_leave (Some text) ⊎ IsOneOf (map (text_at own) leaves.moments) (Some text)
+        → IsFine own old.client.knowns (IsGood old.client old.link) new.link.past.objects left
+    by_text text said (inl may) =
+        let is_first : text ≡ progress_text own (progress old.client) = let e = begins.leaves (Some text) may in cc in
+        fine_at own old.client.knowns old.client.knowns _ new.link.past.objects left (kept_itself old.client.knowns) held
+        (same_saved left (progress old.client) (sym said ∙ ap (λ t. read_text own t) is_first ∙ begins.read_back))
+    by_text text said (inr one) =
+        one_is_fine own old.client.knowns old.client.knowns _ new.link.past.objects leaves.moments _ text left (kept_itself old.client.knowns)
+        leaves.read_back leaves.forgets_nothing leaves.true_of said one
+    no_file : {X : Type 0} → old.keeper.disk.may_leave None ⊎ IsOneOf (map (text_at own) leaves.moments) None → X
+    no_file (inl may) = let e = begins.leaves None may in absurd cc
+    no_file (inr one) = none_is_none own leaves.moments one
+    fine : IsLeftOn new.keeper.disk own left → IsFine own old.client.knowns (IsGood old.client old.link) new.link.past.objects left
+    fine (inl (text, may, said)) = by_text text said (had (Some text) may)
+    fine (inr may) = no_file (had None may)
+
+-- ---- runs in turn
+
+made_push : (keys : List Key) (runs : List CrashingRun) (ends : List RunEnd) (run : CrashingRun) (end : RunEnd) (old mid new : Between)
+    → AreMade keys runs ends old mid → IsMade keys run end mid new → AreMade keys (runs ++ run ∷ []) (ends ++ end ∷ []) old new
+made_push keys [] [] run end old mid new same made = (new, subst (λ b. IsMade keys run end b new) same made, refl)
+made_push keys [] (e ∷ ends) run end old mid new made one = absurd made
+made_push keys (r ∷ runs) [] run end old mid new made one = absurd made
+made_push keys (r ∷ runs) (e ∷ ends) run end old mid new (next, first, rest) one = (next, first, made_push keys runs ends run end next mid new rest one)
+
+-- one more run was made
+pub made_more : (keys : List Key) (runs : List CrashingRun) (place : ℕ) (run : CrashingRun) (old new : List RunEnd) (end : RunEnd) (first mid last : Between)
+    → slice_get runs place ≡ Some run → AreMade keys (take place runs) old first mid → new ≡ old ++ end ∷ [] → IsMade keys run end mid last
+    → AreMade keys (take (suc place) runs) new first last
+made_more keys runs place run old new end first mid last is made joined one =
+    subst (λ rs. AreMade keys rs new first last) (sym (one_further runs place run is))
+    (subst (λ ends. AreMade keys (take place runs ++ run ∷ []) ends first last) (sym joined) (made_push keys (take place runs) old run end first mid last made one))
+
+-- ---- one run
+
+-- what is true was left true
+pub left_onward : CampaignLaws → (keys : List Key) (x y : Seen) (left : List (List Known)) → IsLawful keys → WentOn keys x.past y.past
+    → All (TrueProgress x.past.objects keys) left → All (TrueProgress y.past.objects keys) left
+left_onward l keys x y left lawful went holds = true_onward l keys x.past.objects y.past.objects left lawful went.onward holds
+
+pub held_no_conflict : HeldIsNoConflict → (c : ClientState) (link : Seen) (stop : Stop) → IsGood c link → IsBorneOut stop c.keys c.knowns → stop ≢ stops.Conflict
+held_no_conflict none c link stop good stands = λ is. in_conflict (subst (λ s. IsBorneOut s c.keys c.knowns) is stands).1
+  where
+    in_conflict : {X : Type 0} → SomeClash c.keys c.knowns → X
+    in_conflict clash = absurd (none link.past.objects c.keys c.knowns good.held clash.0 clash.1 clash.3)
+
+-- a run that no crash ended has come
+pub whole_come : (keys : List Key) (run : Run) (old new : CrashStage) → new.end.left.items ≡ old.end.left.items
+    → HasRun keys [] run (record { client = old.client; link = old.link; end = old.end.campaign }) (record { client = new.client; link = new.link; end = new.end.campaign })
+    → HasCome keys (record { run = run; crash = None }) old new
+whole_come keys run old new left ran = record {
+  end = ran.ended.noted.end;
+  joined = ran.ended.noted.joined;
+  made = record {
+    known = new.client.knowns;
+    is_end = ran.ended.noted.is_end;
+    few = ran.ended.noted.is_end.within;
+    not_torn = tt;
+    shows = ran.ended.noted.shows;
+    forgets_nothing = ran.forgets_nothing;
+    remembered = rw (ran.ended.saved_are, left) refl;
+  };
+}
+
+-- ---- a run that a crash ended
+
+-- All is good after the exchanges of a run, whatever is noted of it: it is begun, and carried out.
+pub carried_stands : CampaignLaws → (keys : List Key) (old : CrashStage) (begun c : ClientState) (new : CrashStage) (stop : Stop)
+    → IsLawful keys → old.client.keys ≡ keys → begun.keys ≡ keys → new.client.keys ≡ keys → c.keys ≡ keys
+    → (All (TrueProgress old.link.past.objects keys) old.end.campaign.saved.items → Held old.link.past.objects old.client.keys old.client.knowns → Held old.link.past.objects begun.keys begun.knowns)
+    → (IsGood begun old.link → IsGood c new.link) → (IsGood begun old.link → WentOn begun.keys old.link.past new.link.past) → (IsGood begun old.link → stop ≢ stops.Conflict)
+    → (IsGood begun old.link → IsGood c new.link → Held new.link.past.objects new.client.keys new.client.knowns)
+    → ((objects : List Object) → stop ≢ stops.Conflict → Held objects c.keys c.knowns → Noted objects c.keys old.end.campaign.runs.items old.end.campaign.saved.items
+    → Noted objects c.keys new.end.campaign.runs.items new.end.campaign.saved.items)
+    → (IsGood begun old.link → All (TrueProgress new.link.past.objects keys) old.end.left.items → All (TrueProgress new.link.past.objects keys) new.end.left.items)
+    → IsStanding keys old → StandsOn keys old new
+carried_stands l keys old begun c new stop lawful old_keys begun_keys new_keys c_keys begins good goes none held notes lefts stands =
+    let all =
+    stood l keys old.client begun c old.link new.link stop old.end.campaign.runs.items new.end.campaign.runs.items old.end.campaign.saved.items new.end.campaign.saved.items
+    lawful old_keys begun_keys c_keys begins good goes none notes stands.standing in
+    let first = good_with old.client begun old.link (begun_keys ∙ sym old_keys) stands.standing.good (begins stands.standing.noted.true_saved stands.standing.good.held) in
+    record {
+      stands = record {
+        standing = record {
+          good = good_with c new.client new.link (new_keys ∙ sym c_keys) all.0.good (held first all.0.good);
+          noted = all.0.noted;
+        };
+        true_left = lefts first (left_onward l keys old.link new.link old.end.left.items lawful all.1 stands.true_left);
+      };
+      onward = all.1;
+    }
+
+-- the end of a run that a crash ended shows what it knew, and what the crash left is remembered
+pub crashed_come : (keys : List Key) (run : Run) (crash : Crash) (begun c : ClientState) (old new : CrashStage) (driven : Stop × ℕ) (left : List Known) (good : Type 0)
+    → crash.left ≢ Torn → begun.knowns ≡ start_knowns keys run.start old.client.knowns old.end.campaign.saved.items → driven.1 ≤ run.limit
+    → HasEnded keys (record run { limit = driven.1; save = false }) c.knowns driven old.end.campaign new.end.campaign
+    → AllZip IsKept begun.knowns c.knowns → IsFine keys begun.knowns good new.link.past.objects left
+    → new.client.knowns ≡ (resume keys left).knowns → new.end.left.items ≡ old.end.left.items ++ left ∷ []
+    → HasCome keys (record { run = run; crash = Some crash }) old new
+crashed_come keys run crash begun c old new driven left good whole begins within ended kept fine last lefts = record {
+  end = ended.noted.end;
+  joined = ended.noted.joined;
+  made = record {
+    known = c.knowns;
+    is_end = subst (λ limit. IsEnd keys (record run { limit = limit; save = false }) ended.noted.end) (sym ended.noted.exchanges_is) ended.noted.is_end;
+    few = subst (λ n. n ≤ run.limit) (sym ended.noted.exchanges_is) within;
+    not_torn = whole;
+    shows = ended.noted.shows;
+    forgets_nothing = subst (λ ks. AllZip IsKept ks c.knowns) begins kept;
+    remembered = record {
+      left = left;
+      last_is = last;
+      kept = subst (λ ks. AllZip IsKept ks new.client.knowns) begins (subst (λ ks. AllZip IsKept begun.knowns ks) (sym last) fine.kept);
+      left_are = lefts;
+      saved_stay = ended.saved_are;
+    };
+  };
+}
+
+-- ---- runs in turn
+
+twice_on : CampaignLaws → (keys : List Key) (x y z : Seen) → WentOn keys x.past y.past → WentOn keys y.past z.past → WentOn keys x.past z.past
+twice_on l keys x y z first second = record {
+  onward = l.twice keys x.past.objects y.past.objects z.past.objects first.onward second.onward;
+  mirrored = λ image. second.mirrored (first.mirrored image);
+}
+
+-- no run was made yet
+pub crashing_none : CampaignLaws → (keys : List Key) (runs : List CrashingRun) (client : ClientState) (x : Seen) (end : CrashesEnd) → client ≡ fresh keys
+    → Held x.past.objects client.keys client.knowns → end.campaign.runs.items ≡ [] → end.campaign.saved.items ≡ [] → end.left.items ≡ []
+    → AreCrashing keys runs 0 x (record { client = client; link = x; end = end })
+crashing_none l keys runs client x end is held no_end none_saved none_left = record {
+  keys_are = rw is refl;
+  suits = rw none_saved (All-nil (Suits keys));
+  stands = λ good.
+      let begun = opened l keys client x end.campaign.runs.items end.campaign.saved.items (rw is refl) held no_end none_saved good in
+      (record { standing = begun.0; true_left = rw none_left (All-nil (TrueProgress x.past.objects keys)) }, begun.1);
+  honest = λ names honest. honest;
+  as_many = rw no_end refl;
+  made = rw (no_end, is, none_saved, none_left) refl;
+}
+
+-- one more run was made
+pub crashing_more : CampaignLaws → (keys : List Key) (runs : List CrashingRun) (place : ℕ) (run : CrashingRun) (x : Seen) (old new : CrashStage) → slice_get runs place ≡ Some run
+    → new.client.keys ≡ keys → All (Suits keys) new.end.campaign.saved.items → (IsStanding keys old → StandsOn keys old new)
+    → ((names : Names) → old.link.honest names → new.link.honest names) → HasCome keys run old new
+    → AreCrashing keys runs place x old → AreCrashing keys runs (suc place) x new
+crashing_more l keys runs place run x old new is same suits well honest come before = record {
+  keys_are = same;
+  suits = suits;
+  stands = λ good.
+      let (standing, went) = before.stands good in
+      let on = well standing in
+      (on.stands, twice_on l keys x old.link new.link went on.onward);
+  honest = λ names held. honest names (before.honest names held);
+  as_many = ap (λ ends. length ends) come.joined ∙ length-append old.end.campaign.runs.items (come.end ∷ []) ∙ rw before.as_many (omega arith);
+  made = made_more keys runs place run old.end.campaign.runs.items new.end.campaign.runs.items come.end (at_first keys) (between old) (between new) is before.made come.joined come.made;
+}
+
+-- what stands after several runs is good
+pub crashing_good : (keys : List Key) (x : Seen) (now : CrashStage) → now.client.keys ≡ keys → IsStanding keys now × WentOn keys x.past now.link.past → CrashesGood keys x now.link now.end
+crashing_good keys x now same (stands, went) = record {
+  campaigned = campaigned keys now.client x now.link now.end.campaign.runs.items now.end.campaign.saved.items same (stands.standing, went);
+  true_left = stands.true_left;
+}
+
+-- so where the last run has no end
+pub crashing_off : CampaignLaws → (keys : List Key) (runs : List CrashingRun) (place : ℕ) (run : CrashingRun) (x : Seen) (old new : CrashStage) (fault : CrashFault)
+    → slice_get runs place ≡ Some run → CrashesOne keys run old (Err fault) new → IsUnchanged old.end new.end → AreCrashing keys runs place x old → CrashesEach x keys runs (Err fault) new.end new.link
+crashing_off l keys runs place run x old new fault is one same before = record {
+  well = λ good.
+      let (standing, went) = before.stands good in
+      let on = one.well standing in
+      crashing_good keys x new one.keys_stay (on.stands, twice_on l keys x old.link new.link went on.onward);
+  honest = λ names held. one.honest names (before.honest names held);
+  last = old.client.knowns;
+  made = rw (same.same_runs, same.same_saved, same.same_left, before.as_many) before.made;
+  refused = λ so. rw (same.same_runs, before.as_many, is) (one.refused so);
+  complete = tt;
+}
+
+-- all were made
+pub crashing_all : (keys : List Key) (runs : List CrashingRun) (place : ℕ) (x : Seen) (now : CrashStage) (done : Unit {0}) → place ≡ length runs → AreCrashing keys runs place x now
+    → CrashesEach x keys runs (Ok done) now.end now.link
+crashing_all keys runs place x now done all before = record {
+  well = λ good. crashing_good keys x now before.keys_are (before.stands good);
+  honest = before.honest;
+  last = now.client.knowns;
+  made = rw before.as_many before.made;
+  refused = λ so. absurd cc;
+  complete = before.as_many ∙ all;
+}
+
+-- there was no memory for a client
+pub crashing_nothing : CampaignLaws → (keys : List Key) (runs : List CrashingRun) (x : Seen) (end : CrashesEnd) (fault : CrashFault) → end.campaign.runs.items ≡ [] → end.campaign.saved.items ≡ []
+    → end.left.items ≡ [] → fault ≢ Refused → CrashesEach x keys runs (Err fault) end x
+crashing_nothing l keys runs x end fault no_end none_saved none_left none = record {
+  well = λ good. record {
+    campaigned = record {
+      good = good;
+      on = record { onward = l.itself keys x.past.objects; mirrored = λ image. image };
+      noted = noted_none x.past.objects keys end.campaign.runs.items end.campaign.saved.items no_end none_saved;
+    };
+    true_left = rw none_left (All-nil (TrueProgress x.past.objects keys));
+  };
+  honest = λ names honest. honest;
+  last = (fresh keys).knowns;
+  made = rw (no_end, none_saved, none_left) refl;
+  refused = λ so. let same : fault ≡ Refused = cc in absurd (none same);
+  complete = tt;
+}
