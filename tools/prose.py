@@ -24,7 +24,7 @@ SIZES = {
     'CHANGELOG.md': (4_000, None),
     'CONTRIBUTING.md': (13_200, None),
     'SECURITY.md': (1_000, None),
-    'docs/ARCHITECTURE.md': (10_000, None),
+    'docs/ARCHITECTURE.md': (10_100, None),
     'docs/AUTOMATION.md': (6_000, None),
     'docs/DECISIONS.md': (10_000, None),
     'docs/INSTALLING.md': (6_000, None),
@@ -33,7 +33,7 @@ SIZES = {
     'docs/OPERATING.md': (16_100, None),
     'docs/PROFILE.md': (12_000, None),
     'docs/PROOF-GUIDE.md': (18_000, None),
-    'docs/PROOF.md': (12_700, None),
+    'docs/PROOF.md': (13_000, None),
     'docs/SERVERS.md': (3_000, None),
     'docs/TESTING.md': (9_100, None),
 }

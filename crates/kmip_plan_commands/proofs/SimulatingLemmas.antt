@@ -1,12 +1,44 @@
 -- What was appended to nothing for an end of a simulation tells of it.
-use Rattle.std.proofs.Common.{◌≡◌, Bool, ℕ, List, [], ◌++◌, Result, ap, ◌∙◌}
+use Rattle.std.proofs.Common.{◌≡◌, ◌<◌, Bool, ℕ, List, [], ◌++◌, Result, ap, arith, subst, sym, ◌∙◌}
 use Rattle.kmip_ttlv.specs.declared.no_memory.NoMemory.{NoMemory}
 use Rattle.kmip_choices.specs.declared.detail.Detail.{Detail}
+use Rattle.kmip_plan.specs.declared.key.Key.{Key}
+use Rattle.kmip_scripted.specs.ScriptTexts.{IsScript}
+use Rattle.kmip_scripted.specs.Words.{crashes, prolongings}
+use Rattle.kmip_scripted.specs.declared.word.Word.{Word}
+use Rattle.kmip_simulation.specs.Simulating.{IsSimulated, IsSimulatedWithCrashes}
+use Rattle.kmip_simulation.specs.declared.simulation.Simulation.{Simulation}
+use Rattle.kmip_plan_commands.specs.SimEnds.{EndsPlan, IsRun, Plays}
 use Rattle.kmip_plan_commands.specs.SimEndText.{sim_end_text, sim_outcome}
 use Rattle.kmip_plan_commands.specs.Simulating.{TellsEnd}
 use Rattle.kmip_plan_commands.specs.declared.sim_end.SimEnd.{SimEnd}
+use Rattle.kmip_plan_commands.specs.declared.sim_end.SimEnd.TheVariants.{PlanRefused, ProlongsNot, ScriptRefused, CrashRefused, Ran}
 
 pub told : (detail : Detail) (ends : SimEnd → Type 0) (end : SimEnd) (ended : Result Bool NoMemory) (none text : List ℕ) → ends end → ended ≡ sim_outcome end → none ≡ []
     → text ≡ none ++ sim_end_text detail end → TellsEnd detail ends ended text
 told detail ends end ended none text holds is empty made =
     record { end = end; holds = holds; ended_is = is; text_is = made ∙ ap (λ t. t ++ sim_end_text detail end) empty }
+
+-- no word is a crash
+pub ran_whole : (batch : ℕ) (keys : List Key) (words : List Word) (s : Simulation) → crashes words ≡ 0 → IsSimulated keys batch words s.end s.link
+    → IsRun batch keys words s.end s.link
+ran_whole batch keys words s none said = record { whole = λ is. said; crashed = λ some. absurd (omega (arith, some, none)) }
+
+-- some word is
+pub ran_crashed : (batch : ℕ) (keys : List Key) (words : List Word) (s : Simulation) → 0 < crashes words → IsSimulatedWithCrashes keys batch words s.end s.link
+    → IsRun batch keys words s.end s.link
+ran_crashed batch keys words s some said = record { whole = λ is. absurd (omega (arith, some, is)); crashed = λ so. said }
+
+-- how the words of a script ended is how the script did
+pub played : (batch : ℕ) (keys : List Key) (script : List ℕ) (words : List Word) (end : SimEnd) → IsScript script words → prolongings words ≡ 0
+    → Plays batch keys words end → EndsPlan batch keys script end
+played batch keys script words (PlanRefused fault) said none plays = absurd plays
+played batch keys script words ProlongsNot said none plays = absurd plays
+played batch keys script words (ScriptRefused line) said none plays = absurd plays
+played batch keys script words (CrashRefused number) said none plays = record { words = words; is_script = said; none = none; crash = plays }
+played batch keys script words (Ran s) said none (is, run) = record {
+  is_script = subst (λ ws. IsScript script ws) (sym is) said;
+  as_often = ap prolongings is ∙ none;
+  no_crash = λ some. absurd (omega (arith, some));
+  simulated = subst (λ ws. IsRun batch keys ws s.end s.link) (sym is) run;
+}

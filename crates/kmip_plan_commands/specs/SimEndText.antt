@@ -24,7 +24,7 @@ script_refusal_text line = codes "script refused: line " ++ decimal line ++ code
 
 -- The line of a run whose disk does not allow its crash.
 unfoldable pub crash_refusal_text : ℕ → List ℕ
-crash_refusal_text number = 
+crash_refusal_text number =
     codes "crash refused: run " ++ decimal number ++ codes ": its disk makes fewer calls, or leaves no such file\n"
 
 -- What is printed of a simulation in a detail. Where memory ran out in a run, that is how the runs before it

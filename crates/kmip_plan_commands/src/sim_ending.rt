@@ -70,7 +70,9 @@ fn push_crash_refusal(alloc: Global, number: usize, text: &mut Vec<u8>) -> Resul
 fn crash_refusal_text(alloc: Global, number: usize) -> Result<String, NoMemory>
     ensures { IfOk result (λ text. string_bytes text ≡ crash_refusal_text number) }
 {
-    let text = format!(in alloc; "crash refused: run {number}: its disk makes fewer calls, or leaves no such file\n")?;
+    let text = format!(in alloc;
+        "crash refused: run {number}: its disk makes fewer calls, or leaves no such file\n"
+    )?;
     Ok(text)
 }
 

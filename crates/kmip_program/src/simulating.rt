@@ -56,11 +56,7 @@ fn push_simulated(
 ) -> Result<(), NoMemory> {
     match end {
         SimEnd::PlanRefused(fault) => push_refused_plan(alloc, last, fault, text),
-        SimEnd::ProlongsNot
-        | SimEnd::ScriptRefused(_)
-        | SimEnd::CrashRefused(_)
-        | SimEnd::Ran(_) => {
-            push_sim_end(alloc, end, text)
-        }
+        SimEnd::ProlongsNot | SimEnd::ScriptRefused(_) | SimEnd::CrashRefused(_) | SimEnd::Ran(_) =>
+            { push_sim_end(alloc, end, text) }
     }
 }

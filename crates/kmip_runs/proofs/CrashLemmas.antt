@@ -1,5 +1,6 @@
 -- Runs of which a crash may end some: what a crash leaves is true, and takes back nothing of what its run began with.
-use Rattle.std.proofs.Common.{◌≡◌, ◌≢◌, ◌≤◌, ◌<◌, ℕ, zero, suc, List, [], ◌∷◌, ◌++◌, length, map, take, slice_get, None, Option, Some, Ok, Err, Result, OnErr, OnOk, inl, inr, refl, sym, subst, ap, ◌∙◌, ◌⊎◌, ⊎_elim, arith}
+use Rattle.std.specs.Prelude.{IsSome}
+use Rattle.std.proofs.Common.{◌≡◌, ◌≢◌, ◌≤◌, ◌<◌, ℕ, false, get_or, IsTrue, zero, suc, List, [], ◌∷◌, ◌++◌, length, map, take, slice_get, None, Option, Some, Ok, Err, Result, OnErr, OnOk, inl, inr, refl, sym, subst, ap, ◌∙◌, ◌⊎◌, ⊎_elim, arith}
 use Rattle.std.specs.List.{All, AllZip}
 use Rattle.std.proofs.lemmas.List.{length-append}
 use Rattle.std.proofs.lemmas.List.Elements.{All-head, All-nil, All-push, All-tail}
@@ -12,6 +13,7 @@ use Rattle.kmip_client.specs.Shapes.{IsKept}
 use Rattle.kmip_client.specs.declared.knowledge.Knowledge.{Knowledge}
 use Rattle.kmip_disk.specs.Views.{Content, DiskView}
 use Rattle.kmip_disk.specs.Whole.{IsOneOf}
+use Rattle.kmip_messages.specs.Members.{may_have}
 use Rattle.kmip_objects.specs.Objects.{Object}
 use Rattle.kmip_plan.specs.Plans.{IsLawful}
 use Rattle.kmip_plan.specs.declared.key.Key.{Key}
@@ -20,13 +22,14 @@ use Rattle.kmip_progress.specs.Suiting.{Suits}
 use Rattle.kmip_progress.specs.Texts.{progress_text}
 use Rattle.kmip_progress.specs.declared.known.Known.{Known}
 use Rattle.kmip_progress.specs.declared.progress_fault.ProgressFault.{ProgressFault}
-use Rattle.kmip_protocol.specs.Past.{Names}
+use Rattle.kmip_protocol.specs.Past.{is_planned}
 use Rattle.kmip_protocol.specs.Seen.{Seen}
 use Rattle.kmip_runs.specs.Campaign.{IsEnd}
-use Rattle.kmip_runs.specs.Crashes.{AreMade, Between, IsLeftBy, IsMade, at_first}
+use Rattle.kmip_runs.specs.Crashes.{AreMade, Between, CrashesWell, IsLeftBy, IsMade, MayCrash, at_first}
 use Rattle.kmip_runs.specs.Driving.{IsBorneOut, IsGood, SomeClash, WentOn}
+use Rattle.kmip_runs.specs.Headline.{reported}
 use Rattle.kmip_runs.specs.Lasting.{IsReadBack, Leaves}
-use Rattle.kmip_runs.specs.PrivateCampaignParts.{AreSame, CampaignLaws, CampaignStage, HasEnded, HasRun, IsEnding, Noted, RunsOne, Standing, begins_with}
+use Rattle.kmip_runs.specs.PrivateCampaignParts.{AreSame, CampaignLaws, CampaignStage, HasEnded, HasRun, IsBroken, IsEnding, Noted, RunsOne, Standing, begins_with}
 use Rattle.kmip_runs.specs.PrivateCrashes.{AreCrashing, BeginsWith, CrashStage, CrashesEach, CrashesGood, CrashesOne, HasCome, IsLeftOn, IsStanding, IsUnchanged, StandsOn, between}
 use Rattle.kmip_runs.specs.Remembering.{saved_after, start_knowns}
 use Rattle.kmip_runs.specs.Saved.{AreKept, Moment, Situation, grounds_in, text_at}
@@ -34,7 +37,7 @@ use Rattle.kmip_runs.specs.declared.campaign_end.CampaignEnd.{CampaignEnd}
 use Rattle.kmip_runs.specs.declared.crashes_end.CrashesEnd.{CrashesEnd}
 use Rattle.kmip_runs.specs.declared.crash.Crash.{Crash}
 use Rattle.kmip_runs.specs.declared.crash_fault.CrashFault.{CrashFault}
-use Rattle.kmip_runs.specs.declared.crash_fault.CrashFault.TheVariants.{Refused}
+use Rattle.kmip_runs.specs.declared.crash_fault.CrashFault.TheVariants.{NoMemory as Wanting, Refused}
 use Rattle.kmip_runs.specs.declared.left.Left.TheVariants.{Torn}
 use Rattle.kmip_runs.specs.declared.crashing_run.CrashingRun.{CrashingRun}
 use Rattle.kmip_runs.specs.declared.run.Run.{Run}
@@ -43,7 +46,7 @@ use Rattle.kmip_runs.specs.declared.save_fault.SaveFault.{SaveFault}
 use Rattle.kmip_runs.specs.declared.stop.Stop.{Stop}
 use Rattle.kmip_runs.specs.declared.stop.Stop.TheVariants as stops
 use Rattle.kmip_ttlv.specs.declared.no_memory.NoMemory.{NoMemory}
-use Rattle.kmip_runs.proofs.CampaignLemmas.{campaigned, good_with, noted_none, opened, stood, true_onward}
+use Rattle.kmip_runs.proofs.CampaignLemmas.{campaigned, good_with, noted_none, opened, reported_reached, stood, true_onward}
 use Rattle.kmip_runs.proofs.OrderLemmas.{one_further}
 use Rattle.kmip_runs.proofs.WentLemmas.{kept_itself, kept_then}
 
@@ -112,8 +115,10 @@ left_is_fine keys old new result made left same rules still begins leaves held i
   where
     own : List Key
     own = old.client.keys
+
     had : (c : Content) → new.keeper.disk.may_leave c → old.keeper.disk.may_leave c ⊎ IsOneOf (map (text_at own) leaves.moments) c
     had c may = leaves.any_moment.each c (new.keeper.disk.counts_now still old.keeper.disk.moment c leaves.any_moment.later may)
+
     by_text : (text : List ℕ) → read_text own text ≡ Ok left → old.keeper.disk.may_leave (Some text) ⊎ IsOneOf (map (text_at own) leaves.moments) (Some text)
         → IsFine own old.client.knowns (IsGood old.client old.link) new.link.past.objects left
     by_text text said (inl may) =
@@ -123,9 +128,11 @@ left_is_fine keys old new result made left same rules still begins leaves held i
     by_text text said (inr one) =
         one_is_fine own old.client.knowns old.client.knowns _ new.link.past.objects leaves.moments _ text left (kept_itself old.client.knowns)
         leaves.read_back leaves.forgets_nothing leaves.true_of said one
+
     no_file : {X : Type 0} → old.keeper.disk.may_leave None ⊎ IsOneOf (map (text_at own) leaves.moments) None → X
     no_file (inl may) = let e = begins.leaves None may in absurd cc
     no_file (inr one) = none_is_none own leaves.moments one
+
     fine : IsLeftOn new.keeper.disk own left → IsFine own old.client.knowns (IsGood old.client old.link) new.link.past.objects left
     fine (inl (text, may, said)) = by_text text said (had (Some text) may)
     fine (inr may) = no_file (had None may)
@@ -251,7 +258,7 @@ crashing_none l keys runs client x end is held no_end none_saved none_left = rec
   stands = λ good.
       let begun = opened l keys client x end.campaign.runs.items end.campaign.saved.items (rw is refl) held no_end none_saved good in
       (record { standing = begun.0; true_left = rw none_left (All-nil (TrueProgress x.past.objects keys)) }, begun.1);
-  honest = λ names honest. honest;
+  honest = λ honest. honest;
   as_many = rw no_end refl;
   made = rw (no_end, is, none_saved, none_left) refl;
 }
@@ -259,7 +266,7 @@ crashing_none l keys runs client x end is held no_end none_saved none_left = rec
 -- one more run was made
 pub crashing_more : CampaignLaws → (keys : List Key) (runs : List CrashingRun) (place : ℕ) (run : CrashingRun) (x : Seen) (old new : CrashStage) → slice_get runs place ≡ Some run
     → new.client.keys ≡ keys → All (Suits keys) new.end.campaign.saved.items → (IsStanding keys old → StandsOn keys old new)
-    → ((names : Names) → old.link.honest names → new.link.honest names) → HasCome keys run old new
+    → (old.link.honest (is_planned keys) → new.link.honest (is_planned keys)) → HasCome keys run old new
     → AreCrashing keys runs place x old → AreCrashing keys runs (suc place) x new
 crashing_more l keys runs place run x old new is same suits well honest come before = record {
   keys_are = same;
@@ -268,7 +275,7 @@ crashing_more l keys runs place run x old new is same suits well honest come bef
       let (standing, went) = before.stands good in
       let on = well standing in
       (on.stands, twice_on l keys x old.link new.link went on.onward);
-  honest = λ names held. honest names (before.honest names held);
+  honest = λ held. honest (before.honest held);
   as_many = ap (λ ends. length ends) come.joined ∙ length-append old.end.campaign.runs.items (come.end ∷ []) ∙ rw before.as_many (omega arith);
   made = made_more keys runs place run old.end.campaign.runs.items new.end.campaign.runs.items come.end (at_first keys) (between old) (between new) is before.made come.joined come.made;
 }
@@ -281,19 +288,22 @@ crashing_good keys x now same (stands, went) = record {
 }
 
 -- so where the last run has no end
-pub crashing_off : CampaignLaws → (keys : List Key) (runs : List CrashingRun) (place : ℕ) (run : CrashingRun) (x : Seen) (old new : CrashStage) (fault : CrashFault)
-    → slice_get runs place ≡ Some run → CrashesOne keys run old (Err fault) new → IsUnchanged old.end new.end → AreCrashing keys runs place x old → CrashesEach x keys runs (Err fault) new.end new.link
-crashing_off l keys runs place run x old new fault is one same before = record {
-  well = λ good.
-      let (standing, went) = before.stands good in
-      let on = one.well standing in
-      crashing_good keys x new one.keys_stay (on.stands, twice_on l keys x old.link new.link went on.onward);
-  honest = λ names held. one.honest names (before.honest names held);
-  last = old.client.knowns;
-  made = rw (same.same_runs, same.same_saved, same.same_left, before.as_many) before.made;
-  refused = λ so. rw (same.same_runs, before.as_many, is) (one.refused so);
-  complete = tt;
-}
+pub crashing_off : CampaignLaws → (keys : List Key) (runs : List CrashingRun) (place : ℕ) (run : CrashingRun) (x : Seen) (old new : CrashStage) (result : Result (Unit {0}) CrashFault) (fault : CrashFault)
+    → slice_get runs place ≡ Some run → result ≡ Err fault → CrashesOne keys run old result new → AreCrashing keys runs place x old → CrashesEach x keys runs (Err fault) new.end new.link
+crashing_off l keys runs place run x old new result fault is failed makes before =
+    let one = subst (λ r. CrashesOne keys run old r new) failed makes in
+    let same = one.same in
+    record {
+      well = λ good.
+          let (standing, went) = before.stands good in
+          let on = one.well standing in
+          crashing_good keys x new one.keys_stay (on.stands, twice_on l keys x old.link new.link went on.onward);
+      honest = λ held. one.honest (before.honest held);
+      last = old.client.knowns;
+      made = rw (same.same_runs, same.same_saved, same.same_left, before.as_many) before.made;
+      refused = λ so. rw (same.same_runs, before.as_many, is) (one.refused so);
+      complete = tt;
+    }
 
 -- all were made
 pub crashing_all : (keys : List Key) (runs : List CrashingRun) (place : ℕ) (x : Seen) (now : CrashStage) (done : Unit {0}) → place ≡ length runs → AreCrashing keys runs place x now
@@ -319,9 +329,137 @@ crashing_nothing l keys runs x end fault no_end none_saved none_left none = reco
     };
     true_left = rw none_left (All-nil (TrueProgress x.past.objects keys));
   };
-  honest = λ names honest. honest;
+  honest = λ honest. honest;
   last = (fresh keys).knowns;
   made = rw (no_end, none_saved, none_left) refl;
   refused = λ so. let same : fault ≡ Refused = cc in absurd (none same);
   complete = tt;
 }
+
+-- ---- a run that no crash ended
+
+-- the same moment, as a campaign sees it
+abbrev pub campaign_at : CrashStage → CampaignStage
+campaign_at at = record { client = at.client; link = at.link; end = at.end.campaign }
+
+-- What a run promises that no crash ends.
+pub record WholeOne (keys : List Key) (run : Run) (old : CrashStage) (result : Result (Unit {0}) NoMemory) (new : CrashStage) : Type 0 where
+  pub keys_stay : new.client.keys ≡ keys
+  pub suits : All (Suits keys) new.end.campaign.saved.items
+  pub well : IsStanding keys old → StandsOn keys old new
+  pub honest : old.link.honest (is_planned keys) → new.link.honest (is_planned keys)
+  pub come : OnOk result (HasCome keys (record { run = run; crash = None }) old new)
+  pub same : OnErr result (IsUnchanged old.end new.end)
+
+come_if : (keys : List Key) (run : Run) (old new : CrashStage) (result : Result (Unit {0}) NoMemory) → new.end.left.items ≡ old.end.left.items
+    → OnOk result (HasRun keys [] run (campaign_at old) (campaign_at new)) → OnOk result (HasCome keys (record { run = run; crash = None }) old new)
+come_if keys run old new (Ok done) left ran = whole_come keys run old new left ran
+come_if keys run old new (Err want) left ran = tt
+
+same_if : (keys : List Key) (run : Run) (old new : CrashStage) (result : Result (Unit {0}) NoMemory) → new.end.left.items ≡ old.end.left.items
+    → OnErr result (IsBroken keys run old.link new.link old.end.campaign new.end.campaign) → OnErr result (IsUnchanged old.end new.end)
+same_if keys run old new (Ok done) left broken = tt
+same_if keys run old new (Err want) left broken = record { same_runs = broken.same.same_runs; same_saved = broken.same.same_saved; same_left = left }
+
+pub whole_one : CampaignLaws → (keys : List Key) (carried : List (List Known)) (run : Run) (old new : CrashStage) (result : Result (Unit {0}) NoMemory) (follows : Type 0)
+    → IsLawful keys → carried ≡ [] → new.end.left.items ≡ old.end.left.items → RunsOne keys carried run (campaign_at old) result (campaign_at new) follows
+    → WholeOne keys run old result new
+whole_one l keys carried run old new result follows lawful none left one = record {
+  keys_stay = one.keys_stay;
+  suits = one.suits;
+  well = λ stands.
+      let well = one.well stands.standing (rw none (All-nil (TrueProgress old.link.past.objects keys))) in
+      record {
+        stands = record {
+          standing = well.standing;
+          true_left = rw left (left_onward l keys old.link new.link old.end.left.items lawful well.onward stands.true_left);
+        };
+        onward = well.onward;
+      };
+  honest = one.honest (is_planned keys);
+  come = come_if keys run old new result left (subst (λ cs. OnOk result (HasRun keys cs run (campaign_at old) (campaign_at new))) none one.ran);
+  same = same_if keys run old new result left one.broken;
+}
+
+-- Where a run that a crash is to end has no end, all is good still, and nothing is noted.
+pub crashed_off : CampaignLaws → (keys : List Key) (run : CrashingRun) (old new : CrashStage) (begun : ClientState) (result : Result (Unit {0}) CrashFault) (fault : CrashFault)
+    → IsLawful keys → old.client.keys ≡ keys → begun.keys ≡ keys → new.client.keys ≡ keys → All (Suits keys) old.end.campaign.saved.items
+    → (All (TrueProgress old.link.past.objects keys) old.end.campaign.saved.items → Held old.link.past.objects old.client.keys old.client.knowns → Held old.link.past.objects begun.keys begun.knowns)
+    → (IsGood begun old.link → IsGood new.client new.link) → (IsGood begun old.link → WentOn begun.keys old.link.past new.link.past)
+    → (old.link.honest (is_planned keys) → new.link.honest (is_planned keys)) → IsUnchanged old.end new.end → IsSome run.crash → result ≡ Err fault
+    → CrashesOne keys run old result new
+crashed_off l keys run old new begun result fault lawful old_keys begun_keys new_keys suits begins good goes honest same some is =
+    subst (λ r. CrashesOne keys run old r new) (sym is)
+    (record {
+      keys_stay = new_keys;
+      suits = rw same.same_saved suits;
+      well = carried_stands l keys old begun new.client new stops.Limit lawful old_keys begun_keys new_keys new_keys begins good goes (λ all is. absurd cc)
+          (λ first later. later.held) (λ objects none held noted. rw (same.same_runs, same.same_saved) noted) (λ all lefts. rw same.same_left lefts);
+      honest = honest;
+      come = tt;
+      same = same;
+      refused = λ so. some;
+    })
+
+-- where nothing has happened, the objects have gone onward
+pub on_itself : CampaignLaws → (keys : List Key) (x : Seen) → WentOn keys x.past x.past
+on_itself l keys x = record { onward = l.itself keys x.past.objects; mirrored = λ image. image }
+
+-- all that is reported was reached, so what is sound is safe
+pub crashes_well : CampaignLaws → (keys : List Key) (old new : Seen) (ended end : CrashesEnd) → IsLawful keys → end.campaign.runs.items ≡ ended.campaign.runs.items
+    → end.campaign.saved.items ≡ ended.campaign.saved.items → end.left.items ≡ ended.left.items → CrashesGood keys old new ended → CrashesWell old keys end new
+crashes_well l keys old new ended end lawful runs saved left good =
+    let ran = good.campaigned in
+    record {
+      safe =
+          rw (runs, saved)
+          (l.safe keys new.past (reported keys ended.campaign.runs.items ended.campaign.saved.items) ran.good.sound
+          (reported_reached l keys new.past ended.campaign.runs.items ended.campaign.saved.items lawful ran.noted));
+      machine = (λ opening. ran.on.mirrored (l.opening keys old.past opening), ran.on.mirrored);
+      no_conflict = rw runs ran.noted.no_conflict;
+      sound = ran.good;
+      true_saved = rw saved ran.noted.true_saved;
+      true_left = rw left good.true_left;
+      onward = ran.on;
+    }
+
+-- want of memory is no refusal
+pub wanting : (fault : CrashFault) → fault ≡ Wanting → fault ≢ Refused
+wanting fault is = λ so. absurd cc
+
+-- a call failed for this
+pub failed_so : (result : Result (Unit {0}) CrashFault) (one other : CrashFault) → result ≡ Err one → other ≡ one → result ≡ Err other
+failed_so result one other is same = cc
+
+-- a run that no crash ends has its end
+pub whole_on : (keys : List Key) (run : Run) (old new : CrashStage) (result : Result (Unit {0}) NoMemory) (done : Unit {0}) → result ≡ Ok done → WholeOne keys run old result new
+    → CrashesOne keys (record { run = run; crash = None }) old (Ok tt) new
+whole_on keys run old new result done is one = record {
+  keys_stay = one.keys_stay;
+  suits = one.suits;
+  well = one.well;
+  honest = one.honest;
+  come = subst (λ r. OnOk r (HasCome keys (record { run = run; crash = None }) old new)) is one.come;
+  same = tt;
+  refused = λ so. absurd cc;
+}
+
+-- or memory ran out in it
+pub whole_off : (keys : List Key) (run : Run) (old new : CrashStage) (result : Result (Unit {0}) NoMemory) (want : NoMemory) (fault : CrashFault) → result ≡ Err want → fault ≡ Wanting
+    → WholeOne keys run old result new → CrashesOne keys (record { run = run; crash = None }) old (Err fault) new
+whole_off keys run old new result want fault is wants one = record {
+  keys_stay = one.keys_stay;
+  suits = one.suits;
+  well = one.well;
+  honest = one.honest;
+  come = tt;
+  same = subst (λ r. OnErr r (IsUnchanged old.end new.end)) is one.same;
+  refused = λ so. let same : fault ≡ Refused = cc in absurd (wanting fault wants same);
+}
+
+-- each of the runs asks about one to eight keys at once
+pub batch_at : (runs : List CrashingRun) (place : ℕ) (none : CrashingRun) → place < length runs → MayCrash runs → IsTrue (may_have (get_or runs place none).run.batch)
+batch_at [] place none below may = absurd (omega (arith, below))
+batch_at (run ∷ runs) zero none below may = All-head (λ (r : Run). IsTrue (may_have r.batch)) run.run (map (λ (crashing : CrashingRun). crashing.run) runs) may
+batch_at (run ∷ runs) (suc place) none below may =
+    batch_at runs place none (omega (arith, below)) (All-tail (λ (r : Run). IsTrue (may_have r.batch)) run.run (map (λ (crashing : CrashingRun). crashing.run) runs) may)

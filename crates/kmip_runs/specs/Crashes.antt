@@ -11,7 +11,7 @@ use Rattle.kmip_plan.specs.declared.key.Key.{Key}
 use Rattle.kmip_progress.specs.declared.known.Known.{Known}
 use Rattle.kmip_protocol.specs.Headline.{Safe}
 use Rattle.kmip_protocol.specs.Machine.{IsMirrored}
-use Rattle.kmip_protocol.specs.Past.{Names}
+use Rattle.kmip_protocol.specs.Past.{is_planned}
 use Rattle.kmip_protocol.specs.Seen.{Seen}
 use Rattle.kmip_protocol.specs.Sound.{Opening}
 use Rattle.kmip_runs.specs.Campaign.{HasNoConflict, IsEnd, MayBatch}
@@ -110,8 +110,8 @@ pub record CrashesWell (old : Seen) (keys : List Key) (end : CrashesEnd) (new : 
 pub record MakesCrashes (old : Seen) (keys : List Key) (runs : List CrashingRun) (end : CrashesEnd) (new : Seen) : Type 0 where
   -- Over a good link all of this holds.
   pub well : GoodLink keys old → CrashesWell old keys end new
-  -- A link that was honest for some names is so after it.
-  pub honest : (names : Names) → old.honest names → new.honest names
+  -- A link that was honest for the plan's names is so after it.
+  pub honest : old.honest (is_planned keys) → new.honest (is_planned keys)
   -- Over any link the ends are those of the first runs, in order. Each run begins with nothing, with a save,
   -- or with what is remembered: after a crash, that is what the crash left.
   pub last : List Knowledge

@@ -12,7 +12,7 @@ use Rattle.kmip_progress.specs.Suiting.{Suits}
 use Rattle.kmip_progress.specs.Reading.{read_text}
 use Rattle.kmip_progress.specs.Texts.{progress_text}
 use Rattle.kmip_progress.specs.declared.known.Known.{Known}
-use Rattle.kmip_protocol.specs.Past.{Names}
+use Rattle.kmip_protocol.specs.Past.{is_planned}
 use Rattle.kmip_protocol.specs.Seen.{Seen}
 use Rattle.kmip_runs.specs.Crashes.{AreMade, Between, IsCrashing, IsMade, at_first}
 use Rattle.kmip_runs.specs.Driving.{WentOn}
@@ -73,8 +73,8 @@ pub record CrashesOne (keys : List Key) (run : CrashingRun) (old : CrashStage) (
   pub suits : All (Suits keys) new.end.campaign.saved.items
   -- Where all was good before, it is so still.
   pub well : IsStanding keys old → StandsOn keys old new
-  -- A link that was honest for some names is so after it.
-  pub honest : (names : Names) → old.link.honest names → new.link.honest names
+  -- A link that was honest for the plan's names is so after it.
+  pub honest : old.link.honest (is_planned keys) → new.link.honest (is_planned keys)
   -- At `Ok` it has its end.
   pub come : OnOk result (HasCome keys run old new)
   -- At a fault nothing is noted of it.
@@ -91,8 +91,8 @@ pub record CrashesGood (keys : List Key) (old new : Seen) (end : CrashesEnd) : T
 pub record CrashesEach (old : Seen) (keys : List Key) (runs : List CrashingRun) (result : Result (Unit {0}) CrashFault) (end : CrashesEnd) (new : Seen) : Type 0 where
   -- Over a good link all is good.
   pub well : GoodLink keys old → CrashesGood keys old new end
-  -- A link that was honest for some names is so after it.
-  pub honest : (names : Names) → old.honest names → new.honest names
+  -- A link that was honest for the plan's names is so after it.
+  pub honest : old.honest (is_planned keys) → new.honest (is_planned keys)
   -- The ends are those of the first runs, in order.
   pub last : List Knowledge
   pub made : AreMade keys (take (length end.campaign.runs.items) runs) end.campaign.runs.items (at_first keys)
@@ -107,6 +107,6 @@ pub record AreCrashing (keys : List Key) (runs : List CrashingRun) (place : ℕ)
   pub keys_are : now.client.keys ≡ keys
   pub suits : All (Suits keys) now.end.campaign.saved.items
   pub stands : GoodLink keys first → IsStanding keys now × WentOn keys first.past now.link.past
-  pub honest : (names : Names) → first.honest names → now.link.honest names
+  pub honest : first.honest (is_planned keys) → now.link.honest (is_planned keys)
   pub as_many : length now.end.campaign.runs.items ≡ place
   pub made : AreMade keys (take place runs) now.end.campaign.runs.items (at_first keys) (between now)

@@ -63,9 +63,18 @@ pub fn campaign_with_crashes<L: Link>(
         is_refused: false,
     };
     match crash_each(alloc, plan, link, runs, &mut end) {
-        Ok(()) => {}
-        Err(CrashFault::NoMemory) => end.campaign.fault = Some(NoMemory),
-        Err(CrashFault::Refused) => end.is_refused = true,
+        Ok(()) => {
+            end.campaign.fault = None;
+            end.is_refused = false;
+        }
+        Err(CrashFault::NoMemory) => {
+            end.campaign.fault = Some(NoMemory);
+            end.is_refused = false;
+        }
+        Err(CrashFault::Refused) => {
+            end.campaign.fault = None;
+            end.is_refused = true;
+        }
     }
     end
 }
@@ -142,8 +151,16 @@ fn whole_run<'p, L: Link>(
 {
     laws_of_runs();
     plan.keys();
-    let carried = Vec::new(alloc);
-    one_run(alloc, plan, client, link, run, carried.as_slice(), &mut end.campaign)?;
+    let nothing = Vec::new(alloc);
+    one_run(
+        alloc,
+        plan,
+        client,
+        link,
+        run,
+        nothing.as_slice(),
+        &mut end.campaign,
+    )?;
     Ok(())
 }
 
@@ -170,8 +187,15 @@ fn crashed_run<'p, L: Link>(
     laws_of_runs();
     what_is_true_is_no_conflict();
     plan.keys();
-    let carried = Vec::new(alloc);
-    begin(alloc, plan, client, carried.as_slice(), end.campaign.saved.as_slice(), run)?;
+    let nothing = Vec::new(alloc);
+    begin(
+        alloc,
+        plan,
+        client,
+        nothing.as_slice(),
+        end.campaign.saved.as_slice(),
+        run,
+    )?;
     let mut keeper = DiskKeeper::of(alloc, client, crash.calls)?;
     let (carried, made) = carry_out(alloc, client, link, &mut keeper, &mut Tireless, run.limit);
     in_memory(carried)?;
@@ -181,7 +205,13 @@ fn crashed_run<'p, L: Link>(
         save: false,
         ..run
     };
-    let ending = ending_of(alloc, client, cut, (stop_of(client), made), &mut end.campaign)?;
+    let ending = ending_of(
+        alloc,
+        client,
+        cut,
+        (stop_of(client), made),
+        &mut end.campaign,
+    )?;
     let next = Client::resume(alloc, plan, &left)?;
     end.left.push(left)?;
     note(ending, &mut end.campaign);

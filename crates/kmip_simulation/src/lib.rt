@@ -18,12 +18,6 @@ pub use diagram::push_diagram;
 pub use sim_fault::SimFault;
 pub use sim_form::SimForm;
 pub use sim_lines::SimLines;
-pub use simulation::{
-    Simulation,
-    simulate,
-    simulate_again,
-    simulate_plans,
-    simulate_with_crashes,
-};
+pub use simulation::{Simulation, simulate, simulate_again, simulate_plans, simulate_with_crashes};
 pub use tracing::push_trace;
 pub use writing::{push_asks, push_objects, push_runs, push_simulation};

@@ -1,7 +1,7 @@
 -- The script is the one that was read, and the plans are the two.
 use Rattle.std.proofs.Common.{◌≡◌, [], ◌∷◌, rules, sym, ap, subst, ◌∙◌}
 use Rattle.kmip_scripted.specs.ScriptTexts.{IsScript}
-use Rattle.kmip_scripted.specs.Words.{prolongings}
+use Rattle.kmip_scripted.specs.Words.{crashes, prolongings}
 use Rattle.kmip_simulation.specs.Simulating.{AreSimulated}
 use Rattle.kmip_plan_commands.proofs.playing.sim_both_to_end.Goals as goal
 
@@ -15,6 +15,7 @@ returns-in-Ok c =
       record {
         is_script = subst (λ words. IsScript c.args.input.now.script.now words) (sym said.words) c.in-Ok.ensures.0;
         as_often = ap prolongings said.words ∙ c.in-Ok.ensures.1;
+        no_crash = λ some. ap crashes said.words ∙ c.in-Ok.ensures.2 some;
         simulated = subst (λ plans. AreSimulated plans c.args.input.now.batch s.words s.end s.link) both simulated;
       },
     )
