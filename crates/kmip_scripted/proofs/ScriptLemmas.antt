@@ -177,6 +177,9 @@ crash_parts (Some number) (Some what) word P holds is =
           one (Crash (record { calls = number; left = what })) word P (holds number what refl refl some) (rw other at is)
     ]
 
+joined : (digits left : List ℕ) → codes "crash " ++ digits ++ codes " " ++ left ≡ codes "crash" ++ 32 ∷ (digits ++ 32 ∷ left)
+joined digits left = append_assoc (codes "crash " ++ digits) (codes " ") left ∙ append_assoc (codes "crash ") digits (codes " " ++ left)
+
 crash_is : (line behind : List ℕ) (word : Word) → line ≡ codes "crash" ++ 32 ∷ behind → crash_in (at_space behind) ≡ Some word → IsWord line word
 crash_is line behind word line_is is = by_space (at_space behind) refl is
   where
@@ -184,7 +187,10 @@ crash_is line behind word line_is is = by_space (at_space behind) refl is
     by_space None at is = absurd cc
     by_space (Some parts) at is = crash_parts (number_in parts.0) (left_in parts.1) word (IsWord line) (λ number what calls left some. record {
       digits = parts.0;
-      line_is = line_is ∙ ap (λ ys. codes "crash" ++ 32 ∷ ys) (space_parts behind parts at) ∙ ap (λ ys. codes "crash " ++ parts.0 ++ 32 ∷ ys) (left_is parts.1 what left);
+      line_is = line_is
+          ∙ ap (λ ys. codes "crash" ++ 32 ∷ ys) (space_parts behind parts at)
+          ∙ ap (λ ys. codes "crash" ++ 32 ∷ (parts.0 ++ 32 ∷ ys)) (left_is parts.1 what left)
+          ∙ sym (joined parts.0 (left_word what));
       is_number = number_is parts.0 number calls;
       some = some;
     }) is
@@ -249,7 +255,7 @@ crash_unparted behind none = ap crash_in (at_no_space behind none)
 
 is_crash : (crash : MachineCrash) (line : List ℕ) → IsCrash crash line → word_in line ≡ Some (Crash crash)
 is_crash crash line is =
-    ap word_in is.line_is
+    ap word_in (is.line_is ∙ joined is.digits (left_word crash.left))
     ∙ crash_parted (is.digits ++ 32 ∷ left_word crash.left) is.digits (left_word crash.left) refl (no_space is.digits is.is_number.are_digits)
     ∙ ap (λ calls. crash_by calls (left_in (left_word crash.left))) (is_number is.digits crash.calls is.is_number)
     ∙ ap (crash_by (Some crash.calls)) (is_left crash.left)

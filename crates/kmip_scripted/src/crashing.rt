@@ -18,11 +18,7 @@ impl Script {
     ///
     /// # Errors
     /// Where there is no memory for them.
-    pub fn crashing_runs(
-        &self,
-        alloc: Global,
-        plan: &Plan,
-    ) -> Result<Vec<CrashingRun>, NoMemory>
+    pub fn crashing_runs(&self, alloc: Global, plan: &Plan) -> Result<Vec<CrashingRun>, NoMemory>
         // No word is `prolong`.
         requires none { prolongings self.now ≡ 0 }
         // The runs are those that the words make for the plan, each with the crash that ends it.
