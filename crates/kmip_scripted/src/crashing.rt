@@ -1,5 +1,5 @@
 //! The runs that a script makes, each with the crash that ends it.
-ghost use Rattle.std.specs.Prelude.{◌≡◌, ◌++◌, ◌∷◌, List, IfOk, length, map, zip};
+ghost use Rattle.std.specs.Prelude.{◌≡◌, ◌++◌, ◌∷◌, List, IfOk, map, zip};
 ghost use Rattle.kmip_runs.specs.Campaign.{MayBatch};
 ghost use Rattle.kmip_scripted.specs.Runs.{crashes_from, crashes_of, crashing_runs_of, runs_of, with_crash};
 ghost use Rattle.kmip_scripted.specs.Words.{prolongings};
