@@ -12,7 +12,7 @@ use Rattle.kmip_protocol.specs.Laws.{DeliveriesJoin, NothingIsDelivered}
 use Rattle.kmip_protocol.specs.Moves.{Delivered}
 use Rattle.kmip_protocol.specs.Past.{Names}
 use Rattle.kmip_scripted.specs.declared.word.Word.{Word}
-use Rattle.kmip_scripted.specs.declared.word.Word.TheVariants.{Pass, LoseRequest, LoseReply, Cut, Stale, Again, Save, Prolong, Restart}
+use Rattle.kmip_scripted.specs.declared.word.Word.TheVariants.{Pass, LoseRequest, LoseReply, Cut, Stale, Again, Save, Prolong, Restart, Crash}
 use Rattle.kmip_scripted.specs.Counting.{counted, every_name}
 use Rattle.kmip_scripted.specs.Disturbing.{is_disturbed, is_repeated}
 use Rattle.kmip_scripted.specs.PrivateEarly.{AreOfEarlier, IsEarly, IsOfEarlier, asked_only}
@@ -59,6 +59,7 @@ earlier_all asked request (Again number ∷ words) unrepeated =
 earlier_all asked request (Save ∷ words) unrepeated = tt
 earlier_all asked request (Prolong ∷ words) unrepeated = tt
 earlier_all asked request (Restart start ∷ words) unrepeated = tt
+earlier_all asked request (Crash crash ∷ words) unrepeated = tt
 
 -- ---- word by word
 
@@ -75,6 +76,7 @@ asked_kept (Again number) s = delivered (message_at number s.asked) s where
 asked_kept Save s = refl
 asked_kept Prolong s = refl
 asked_kept (Restart start) s = refl
+asked_kept (Crash crash) s = refl
 
 first_and_rest : (asked all : List (List ℕ)) (own : Word) (words : List Word) → goes_on false own ≡ true → AreOfEarlier asked all (own ∷ words)
     → IsOfEarlier asked all own × AreOfEarlier asked all words
@@ -87,6 +89,7 @@ first_and_rest asked all (Again number) words goes are = are
 first_and_rest asked all Save words goes are = absurd cc
 first_and_rest asked all Prolong words goes are = absurd cc
 first_and_rest asked all (Restart start) words goes are = absurd cc
+first_and_rest asked all (Crash crash) words goes are = absurd cc
 
 stepped : (asked all : List (List ℕ)) (words : List Word) (word : Word) → Some word ≡ first_of words → goes_on false word ≡ true → AreOfEarlier asked all words
     → IsOfEarlier asked all word × AreOfEarlier asked all (drop 1 words)
@@ -160,6 +163,7 @@ undisturbed (Again number) repeated (Some given) is = absurd cc
 undisturbed Save repeated (Some given) is = absurd cc
 undisturbed Prolong repeated (Some given) is = absurd cc
 undisturbed (Restart start) repeated (Some given) is = absurd cc
+undisturbed (Crash crash) repeated (Some given) is = absurd cc
 
 pass_answer : (request : List ℕ) (s : Scene) (word : Word) → word ≡ exchange_word s.words → word ≡ Pass
     → (played request s).0 ≡ Some (batch_reply s.stock request (pos 0))

@@ -13,7 +13,7 @@ use Rattle.kmip_server.specs.Batching.{batch_reply}
 use Rattle.kmip_protocol.specs.Clean.{AreNoFewer, HasRoom, IsRoomy, but_of, is_name_of, names_one, strange_handed}
 use Rattle.kmip_protocol.specs.Past.{Names}
 use Rattle.kmip_scripted.specs.declared.word.Word.{Word}
-use Rattle.kmip_scripted.specs.declared.word.Word.TheVariants.{Pass, LoseRequest, LoseReply, Cut, Stale, Again, Save, Prolong, Restart}
+use Rattle.kmip_scripted.specs.declared.word.Word.TheVariants.{Pass, LoseRequest, LoseReply, Cut, Stale, Again, Save, Prolong, Restart, Crash}
 use Rattle.kmip_scripted.specs.Counting.{counted, every_name, is_full, is_full_outcome}
 use Rattle.kmip_scripted.specs.Scenes.{Scene, disturbances_in}
 use Rattle.kmip_scripted.specs.Serving.{with_served}
@@ -35,6 +35,7 @@ word_keeps (Again number) s = delivered (message_at number s.asked) s where
 word_keeps Save s = refl
 word_keeps Prolong s = refl
 word_keeps (Restart start) s = refl
+word_keeps (Crash crash) s = refl
 
 pub words_keep : (at_end : Bool) (words : List Word) (s : Scene) → disturbances_in (after_words at_end words s) ≡ disturbances_in s
 words_keep at_end [] s = refl
@@ -65,6 +66,7 @@ play_keeps (Again number) request s = refl
 play_keeps Save request s = refl
 play_keeps Prolong request s = refl
 play_keeps (Restart start) request s = refl
+play_keeps (Crash crash) request s = refl
 
 pub played_keeps : (request : List ℕ) (s : Scene) → disturbances_in (played request s).1 ≡ disturbances_in s
 played_keeps request s = play_keeps (exchange_word s.words) request (with_words (words_after_exchange s.words) s)

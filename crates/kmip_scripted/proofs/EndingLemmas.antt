@@ -3,7 +3,7 @@ use Rattle.std.proofs.Common.{◌≡◌, ℕ, nat_le, Bool, true, false, if◌th
 use Rattle.std.proofs.lemmas.Bool.{cases_Bool}
 use Rattle.kmip_protocol.specs.Ending.{EndedAt}
 use Rattle.kmip_scripted.specs.declared.word.Word.{Word}
-use Rattle.kmip_scripted.specs.declared.word.Word.TheVariants.{Pass, LoseRequest, LoseReply, Cut, Stale, Again, Save, Prolong, Restart}
+use Rattle.kmip_scripted.specs.declared.word.Word.TheVariants.{Pass, LoseRequest, LoseReply, Cut, Stale, Again, Save, Prolong, Restart, Crash}
 use Rattle.kmip_scripted.specs.Scenes.{Scene}
 use Rattle.kmip_scripted.specs.Serving.{with_served}
 use Rattle.kmip_scripted.specs.Words.{AreBegun, IsBegun, after_run, after_word, after_words, before_play, exchange, exchange_word, goes_on, message_at, play, with_delivered, with_request, with_words, words_after_exchange}
@@ -31,6 +31,7 @@ none_by_word (Again number) s = none_delivered (message_at number s.asked) s
 none_by_word Save s = none_ends s
 none_by_word Prolong s = none_ends s
 none_by_word (Restart start) s = none_ends s
+none_by_word (Crash crash) s = none_ends s
 
 none_then : (word : Word) (words : List Word) (s new : Scene) → NoneEnds (with_words words (after_word word s)) new → NoneEnds s new
 none_then word words s new later =
@@ -73,6 +74,7 @@ play_ended (Again number) request s = refl
 play_ended Save request s = refl
 play_ended Prolong request s = refl
 play_ended (Restart next) request s = refl
+play_ended (Crash crash) request s = refl
 
 before_ended : (request : List ℕ) (s : Scene) → (before_play request s).ended ≡ s.ended
 before_ended request s = (none_by_words false s.words (with_request request s)).ended_stays

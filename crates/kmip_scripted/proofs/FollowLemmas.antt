@@ -11,7 +11,7 @@ use Rattle.kmip_protocol.specs.Exchanges.{AreGiven, HandsOver, with_asked}
 use Rattle.kmip_protocol.specs.Moves.{Delivered}
 use Rattle.kmip_protocol.specs.Past.{Names}
 use Rattle.kmip_scripted.specs.declared.word.Word.{Word}
-use Rattle.kmip_scripted.specs.declared.word.Word.TheVariants.{Pass, LoseRequest, LoseReply, Cut, Stale, Again, Save, Prolong, Restart}
+use Rattle.kmip_scripted.specs.declared.word.Word.TheVariants.{Pass, LoseRequest, LoseReply, Cut, Stale, Again, Save, Prolong, Restart, Crash}
 use Rattle.kmip_scripted.specs.Counting.{counted, every_name}
 use Rattle.kmip_scripted.specs.Disturbing.{is_disturbed, is_repeated}
 use Rattle.kmip_scripted.specs.Scenes.{Scene, disturbances_in, past_in, with_disturbances}
@@ -58,6 +58,7 @@ play_given (Again number) request s = last_is_said replies_in s.given (batch_rep
 play_given Save request s = last_is_said replies_in s.given (batch_reply s.stock request (pos 0))
 play_given Prolong request s = last_is_said replies_in s.given (batch_reply s.stock request (pos 0))
 play_given (Restart start) request s = last_is_said replies_in s.given (batch_reply s.stock request (pos 0))
+play_given (Crash crash) request s = last_is_said replies_in s.given (batch_reply s.stock request (pos 0))
 
 abbrev pub handed : List ℕ → Word → Option (List ℕ) → Scene → Scene
 handed request word answer s = record s { sent = s.sent ++ request ∷ []; followed = s.followed ++ word ∷ []; handed = s.handed ++ answer ∷ [] }

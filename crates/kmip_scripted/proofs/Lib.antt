@@ -8,6 +8,7 @@ pub mod EndingLemmas
 pub mod RunsLemmas
 pub mod SplitLemmas
 pub mod PartLemmas
+pub mod CrashLemmas
 pub mod CallLemmas
 pub mod ScriptLemmas
 pub mod ScriptLaws

@@ -131,6 +131,7 @@ pub runs_may : (more : ℕ) (begun : Bool) (start : Start) (ws : List Word) → 
 runs_may more begun start [] = one_first start more false [] (All-nil (λ (r : Run). IsTrue (may_have r.batch)))
 runs_may more begun start (words.Save ∷ rest) = one_first start 0 true (runs_from more false Same rest) (runs_may more false Same rest)
 runs_may more begun start (words.Prolong ∷ rest) = one_first start 0 true (runs_from more false Same rest) (runs_may more false Same rest)
+runs_may more begun start (words.Crash crash ∷ rest) = one_first start 0 false (runs_from more false Same rest) (runs_may more false Same rest)
 runs_may more true start (words.Restart next ∷ rest) = one_first start 0 false (runs_from more false (start_at next) rest) (runs_may more false (start_at next) rest)
 runs_may more false start (words.Restart next ∷ rest) = runs_may more false (start_at next) rest
 runs_may more begun start (words.Pass ∷ rest) = one_more words.Pass (runs_from more true start rest) (runs_may more true start rest)

@@ -12,12 +12,15 @@ use Rattle.std.specs.Str.{all_ascii_digits}
 use Rattle.std.specs.Str.Parse.{ParsesUnsigned}
 use Rattle.std.proofs.lemmas.Str.Parse.{IsNumeralModel, digits_value_short, numerals_by_fold, parse_gives}
 use Rattle.kmip_plan.specs.TargetWords.{is_text}
-use Rattle.kmip_scripted.specs.ScriptReading.{at_space, before_space, followed_by, number_in, numbered_word, plain_word, restart_in, with_front, word_by, word_in, words_from, words_of_line}
-use Rattle.kmip_scripted.specs.ScriptTexts.{IsNumber, IsNumbered, IsWord, is_digit, lines_in, most_lines, value_behind, without_empty_end}
+use Rattle.kmip_runs.specs.declared.crash.Crash.{Crash as MachineCrash}
+use Rattle.kmip_runs.specs.declared.left.Left.{Left}
+use Rattle.kmip_runs.specs.declared.left.Left.TheVariants.{Old, New, Torn}
+use Rattle.kmip_scripted.specs.ScriptReading.{at_space, before_space, crash_by, crash_in, followed_by, left_in, number_in, numbered_word, plain_word, restart_in, with_front, word_by, word_in, words_from, words_of_line}
+use Rattle.kmip_scripted.specs.ScriptTexts.{IsCrash, IsNumber, IsNumbered, IsWord, is_digit, left_word, lines_in, most_lines, value_behind, without_empty_end}
 use Rattle.kmip_scripted.specs.declared.script_fault.ScriptFault.{ScriptFault}
 use Rattle.kmip_scripted.specs.declared.script_fault.ScriptFault.TheVariants.{Line}
 use Rattle.kmip_scripted.specs.declared.word.Word.{Word}
-use Rattle.kmip_scripted.specs.declared.word.Word.TheVariants.{Pass, LoseRequest, LoseReply, Cut, Stale, Again, Save, Prolong, Restart}
+use Rattle.kmip_scripted.specs.declared.word.Word.TheVariants.{Pass, LoseRequest, LoseReply, Cut, Stale, Again, Save, Prolong, Restart, Crash}
 
 same_text : (s t : List ℕ) → is_text s t ≡ true → s ≡ t
 same_text s t h = (bytes_eq-Decides s t).0 h
@@ -115,7 +118,7 @@ none_by c (x ∷ xs) none =
 -- ---- a word
 
 -- what a list of words leads to has a property, if it follows from each word
-chosen : (word name : List ℕ) (found rest : Option Word) (x : Word) (P : Word → Type 0) → (word ≡ name → found ≡ Some x → P x) → (rest ≡ Some x → P x)
+chosen : {A : Type 0} (word name : List ℕ) (found rest : Option A) (x : A) (P : A → Type 0) → (word ≡ name → found ≡ Some x → P x) → (rest ≡ Some x → P x)
     → (if is_text word name then found else rest) ≡ Some x → P x
 chosen word name found rest x P here there is =
     elim (cases_Bool (is_text word name)) [
@@ -123,7 +126,7 @@ chosen word name found rest x P here there is =
       | inr other ↦ there (rw other at is)
     ]
 
-one : (a x : Word) (P : Word → Type 0) → P a → Some a ≡ Some x → P x
+one : {A : Type 0} (a x : A) (P : A → Type 0) → P a → Some a ≡ Some x → P x
 one a x P holds is = subst P (same_some a x is) holds
 
 plain_is : (line : List ℕ) (word : Word) → plain_word line ≡ Some word → IsWord line word
@@ -153,6 +156,45 @@ restart_is line number word line_is is =
     (λ e. one (Restart None) word P (line_is ∙ ap (λ ds. codes "restart" ++ 32 ∷ ds) e))
     (numbered (codes "restart ") number line (λ n. Restart (Some n)) word P line_is (λ n holds. holds)) is
 
+-- a crash, by the word of what it leaves
+left_is : (word : List ℕ) (left : Left) → left_in word ≡ Some left → word ≡ left_word left
+left_is word left is =
+    let P : Left → Type 0 = λ l. word ≡ left_word l in
+    chosen word (codes "old") (Some Old) _ left P (λ e. one Old left P e) (
+    chosen word (codes "new") (Some New) _ left P (λ e. one New left P e) (
+    chosen word (codes "torn") (Some Torn) _ left P (λ e. one Torn left P e) (no_some left P))) is
+
+crash_parts : (calls : Option ℕ) (left : Option Left) (word : Word) (P : Word → Type 0)
+    → ((number : ℕ) (what : Left) → calls ≡ Some number → left ≡ Some what → 1 ≤ number → P (Crash (record { calls = number; left = what })))
+    → crash_by calls left ≡ Some word → P word
+crash_parts None left word P holds is = absurd cc
+crash_parts (Some number) None word P holds is = absurd cc
+crash_parts (Some number) (Some what) word P holds is =
+    elim (cases_Bool (number == 0)) [
+      | inl none ↦ no_some word P (rw none at is)
+      | inr other ↦
+          let some : 1 ≤ number = grind (arith, nat_tests) in
+          one (Crash (record { calls = number; left = what })) word P (holds number what refl refl some) (rw other at is)
+    ]
+
+joined : (digits left : List ℕ) → codes "crash " ++ digits ++ codes " " ++ left ≡ codes "crash" ++ 32 ∷ (digits ++ 32 ∷ left)
+joined digits left = append_assoc (codes "crash " ++ digits) (codes " ") left ∙ append_assoc (codes "crash ") digits (codes " " ++ left)
+
+crash_is : (line behind : List ℕ) (word : Word) → line ≡ codes "crash" ++ 32 ∷ behind → crash_in (at_space behind) ≡ Some word → IsWord line word
+crash_is line behind word line_is is = by_space (at_space behind) refl is
+  where
+    by_space : (parts : Option (List ℕ × List ℕ)) → at_space behind ≡ parts → crash_in parts ≡ Some word → IsWord line word
+    by_space None at is = absurd cc
+    by_space (Some parts) at is = crash_parts (number_in parts.0) (left_in parts.1) word (IsWord line) (λ number what calls left some. record {
+      digits = parts.0;
+      line_is = line_is
+          ∙ ap (λ ys. codes "crash" ++ 32 ∷ ys) (space_parts behind parts at)
+          ∙ ap (λ ys. codes "crash" ++ 32 ∷ (parts.0 ++ 32 ∷ ys)) (left_is parts.1 what left)
+          ∙ sym (joined parts.0 (left_word what));
+      is_number = number_is parts.0 number calls;
+      some = some;
+    }) is
+
 numbered_is : (line before number : List ℕ) (word : Word) → line ≡ before ++ 32 ∷ number → numbered_word before number ≡ Some word → IsWord line word
 numbered_is line before number word line_is is =
     let P : Word → Type 0 = IsWord line in
@@ -160,7 +202,8 @@ numbered_is line before number word line_is is =
     chosen before (codes "cut") _ _ word P (λ e. numbered (codes "cut ") number line Cut word P (at (codes "cut") e) (λ n holds. holds)) (
     chosen before (codes "stale") _ _ word P (λ e. numbered (codes "stale ") number line Stale word P (at (codes "stale") e) (λ n holds. holds)) (
     chosen before (codes "again") _ _ word P (λ e. numbered (codes "again ") number line Again word P (at (codes "again") e) (λ n holds. holds)) (
-    chosen before (codes "restart") _ _ word P (λ e. restart_is line number word (at (codes "restart") e)) (no_some word P)))) is
+    chosen before (codes "restart") _ _ word P (λ e. restart_is line number word (at (codes "restart") e)) (
+    chosen before (codes "crash") _ _ word P (λ e. crash_is line number word (at (codes "crash") e)) (no_some word P))))) is
 
 pub word_is : (line : List ℕ) (word : Word) → word_in line ≡ Some word → IsWord line word
 word_is line word is = by_space (at_space line) refl is
@@ -184,6 +227,40 @@ no_digits digits number is = false_from_ne_true (is_text digits (codes "none")) 
 of_number : (digits : List ℕ) (number : ℕ) (make : ℕ → Word) → IsNumber digits number → option_map make (number_in digits) ≡ Some (make number)
 of_number digits number make is = ap (option_map make) (is_number digits number is)
 
+-- no digit is a space
+no_space : (digits : List ℕ) → list_all is_digit digits ≡ true → All (λ b. (b == 32) ≡ false) digits
+no_space [] are = All-nil (λ b. (b == 32) ≡ false)
+no_space (digit ∷ digits) are =
+    let parts = and_parts (is_digit digit) (list_all is_digit digits) are in
+    let low = leb-true 48 digit (and_parts (nat_le 48 digit) (nat_le digit 57) parts.0).0 in
+    All-cons (λ b. (b == 32) ≡ false) digit digits (ne_eqb digit 32 (λ same. absurd (omega (arith, low, same)))) (no_space digits parts.1)
+
+is_left : (left : Left) → left_in (left_word left) ≡ Some left
+is_left Old = refl
+is_left New = refl
+is_left Torn = refl
+
+made : (calls : ℕ) (left : Left) → 1 ≤ calls → crash_by (Some calls) (Some left) ≡ Some (Crash (record { calls = calls; left = left }))
+made calls left some =
+    let other : (calls == 0) ≡ false = ne_eqb calls 0 (λ none. absurd (omega (arith, some, none))) in
+    rw other refl
+
+-- by the space behind its number
+pub crash_parted : (behind number left : List ℕ) → behind ≡ number ++ 32 ∷ left → All (λ b. (b == 32) ≡ false) number
+    → crash_in (at_space behind) ≡ crash_by (number_in number) (left_in left)
+crash_parted behind number left is none = ap (λ bytes. crash_in (at_space bytes)) is ∙ ap crash_in (at_first_space number left none)
+
+pub crash_unparted : (behind : List ℕ) → All (λ b. (b == 32) ≡ false) behind → crash_in (at_space behind) ≡ None
+crash_unparted behind none = ap crash_in (at_no_space behind none)
+
+is_crash : (crash : MachineCrash) (line : List ℕ) → IsCrash crash line → word_in line ≡ Some (Crash crash)
+is_crash crash line is =
+    ap word_in (is.line_is ∙ joined is.digits (left_word crash.left))
+    ∙ crash_parted (is.digits ++ 32 ∷ left_word crash.left) is.digits (left_word crash.left) refl (no_space is.digits is.is_number.are_digits)
+    ∙ ap (λ calls. crash_by calls (left_in (left_word crash.left))) (is_number is.digits crash.calls is.is_number)
+    ∙ ap (crash_by (Some crash.calls)) (is_left crash.left)
+    ∙ made crash.calls crash.left is.some
+
 pub is_word : (line : List ℕ) (word : Word) → IsWord line word → word_in line ≡ Some word
 is_word line Pass is = ap word_in is
 is_word line LoseRequest is = ap word_in is
@@ -197,6 +274,7 @@ is_word line (Restart None) is = ap word_in is
 is_word line (Restart (Some number)) is =
     ap word_in is.line_is
     ∙ rw (no_digits is.digits number is.is_number) (of_number is.digits number (λ n. Restart (Some n)) is.is_number)
+is_word line (Crash crash) is = is_crash crash line is
 
 pub no_word : (line : List ℕ) → word_in line ≡ None → (word : Word) → ¬ (IsWord line word)
 no_word line none word is = no_some word (λ w. ⊥) (sym none ∙ is_word line word is)

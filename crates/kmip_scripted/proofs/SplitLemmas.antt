@@ -5,7 +5,7 @@ use Rattle.kmip_runs.specs.declared.run.Run.{Run}
 use Rattle.kmip_runs.specs.declared.start.Start.{Start}
 use Rattle.kmip_runs.specs.declared.start.Start.TheVariants.{Same}
 use Rattle.kmip_scripted.specs.declared.word.Word.{Word}
-use Rattle.kmip_scripted.specs.declared.word.Word.TheVariants.{Pass, LoseRequest, LoseReply, Cut, Stale, Again, Save, Prolong, Restart}
+use Rattle.kmip_scripted.specs.declared.word.Word.TheVariants.{Pass, LoseRequest, LoseReply, Cut, Stale, Again, Save, Prolong, Restart, Crash}
 use Rattle.kmip_scripted.specs.Laws.{EndsStay, HeadsMakeNoRun, RunsGoOn}
 use Rattle.kmip_scripted.specs.Runs.{runs_from, start_at, with_word}
 use Rattle.kmip_scripted.specs.Scenes.{Scene}
@@ -24,6 +24,7 @@ heads more start (Again number ∷ words) = (start, refl)
 heads more start (Save ∷ words) = (start, refl)
 heads more start (Prolong ∷ words) = (start, refl)
 heads more start (Restart next ∷ words) = heads more (start_at next) words
+heads more start (Crash crash ∷ words) = (start, refl)
 
 -- the words from the first on that does not go on; at the end of a run, from the one that ends it on
 abbrev left : Bool → List Word → List Word
@@ -57,6 +58,7 @@ others more start (Again number ∷ words) ends = one_more more start (Again num
 others more start (Save ∷ words) ends = heads more Same words
 others more start (Prolong ∷ words) ends = heads more Same words
 others more start (Restart next ∷ words) ends = heads more (start_at next) words
+others more start (Crash crash ∷ words) ends = heads more Same words
 
 -- the same from the first word of the run on, which is no `restart`
 first_others : (more : ℕ) (start : Start) (words : List Word) → list_any ends_run (next_words words) ≡ true
@@ -71,6 +73,7 @@ first_others more start (Again number ∷ words) ends = one_more more start (Aga
 first_others more start (Save ∷ words) ends = heads more Same words
 first_others more start (Prolong ∷ words) ends = heads more Same words
 first_others more start (Restart next ∷ words) ends = first_others more start words ends
+first_others more start (Crash crash ∷ words) ends = heads more Same words
 
 -- the words that are done leave them
 left_by : (at_end : Bool) (word : Word) (words : List Word) (s : Scene) (goes : Bool) → goes_on at_end word ≡ goes → s.words ≡ word ∷ words
@@ -108,6 +111,7 @@ same_end (Again number ∷ words) = same_end words
 same_end (Save ∷ words) = refl
 same_end (Prolong ∷ words) = refl
 same_end (Restart next ∷ words) = refl
+same_end (Crash crash ∷ words) = refl
 
 served_or_not : (b : Bool) (request : List ℕ) (s : Scene) → (if b then with_served request s else s).words ≡ s.words
 served_or_not true request s = refl
@@ -123,6 +127,7 @@ played_words (Again number) request s = refl
 played_words Save request s = refl
 played_words Prolong request s = refl
 played_words (Restart next) request s = refl
+played_words (Crash crash) request s = refl
 
 exchange_left : (request : List ℕ) (s : Scene) → (exchange request s).1.words ≡ words_after_exchange (left false s.words)
 exchange_left request s =

@@ -6,7 +6,7 @@ use Rattle.std.proofs.lemmas.List.Elements.{All-contains_itself, All-weaker, Con
 use Rattle.std.proofs.lemmas.Option.{same_Some}
 use Rattle.kmip_messages.specs.Items.{requests_in}
 use Rattle.kmip_scripted.specs.declared.word.Word.{Word}
-use Rattle.kmip_scripted.specs.declared.word.Word.TheVariants.{Pass, LoseRequest, LoseReply, Cut, Stale, Again, Save, Prolong, Restart}
+use Rattle.kmip_scripted.specs.declared.word.Word.TheVariants.{Pass, LoseRequest, LoseReply, Cut, Stale, Again, Save, Prolong, Restart, Crash}
 use Rattle.kmip_scripted.specs.Scenes.{Scene}
 use Rattle.kmip_scripted.specs.Private.{WasAsked}
 use Rattle.kmip_scripted.specs.Serving.{IsHalfServed}
@@ -87,6 +87,7 @@ half_done_is (Again number) s new half = half_delivered_is (message_at number s.
 half_done_is Save s new half = absurd half
 half_done_is Prolong s new half = absurd half
 half_done_is (Restart start) s new half = absurd half
+half_done_is (Crash crash) s new half = absurd half
 
 -- the words that are left stay, whatever a word does
 words_kept : (word : Word) (s : Scene) → (after_word word s).words ≡ s.words
@@ -102,6 +103,7 @@ words_kept (Again number) s = delivered_words (message_at number s.asked) s wher
 words_kept Save s = refl
 words_kept Prolong s = refl
 words_kept (Restart start) s = refl
+words_kept (Crash crash) s = refl
 
 pub taken_after : (word : Word) (s mid new : Scene) → mid ≡ after_word word s → new ≡ with_words (drop 1 mid.words) mid
     → new ≡ with_words (drop 1 s.words) (after_word word s)
@@ -155,3 +157,4 @@ half_played_is (Again number) request s new half = half_served_is request s new 
 half_played_is Save request s new half = half_served_is request s new half
 half_played_is Prolong request s new half = half_served_is request s new half
 half_played_is (Restart start) request s new half = half_served_is request s new half
+half_played_is (Crash crash) request s new half = half_served_is request s new half

@@ -4,11 +4,13 @@
 use Rattle.std.specs.Prelude.{◌≡◌, ℕ, ◌+◌, ◌==◌, nat_lt, nat_le, ◌&&◌, List, [], ◌∷◌, ◌++◌, codes, length, option_map, Option, Some, None, Result, Ok, Err, if◌then◌else◌}
 use Rattle.std.specs.List.{list_all}
 use Rattle.kmip_plan.specs.TargetWords.{is_text}
+use Rattle.kmip_runs.specs.declared.left.Left.{Left}
+use Rattle.kmip_runs.specs.declared.left.Left.TheVariants.{Old, New, Torn}
 use Rattle.kmip_scripted.specs.ScriptTexts.{is_digit, lines_in, most_lines, value_behind}
 use Rattle.kmip_scripted.specs.declared.script_fault.ScriptFault.{ScriptFault}
 use Rattle.kmip_scripted.specs.declared.script_fault.ScriptFault.TheVariants.{Line, NoMemory}
 use Rattle.kmip_scripted.specs.declared.word.Word.{Word}
-use Rattle.kmip_scripted.specs.declared.word.Word.TheVariants.{Pass, LoseRequest, LoseReply, Cut, Stale, Again, Save, Prolong, Restart}
+use Rattle.kmip_scripted.specs.declared.word.Word.TheVariants.{Pass, LoseRequest, LoseReply, Cut, Stale, Again, Save, Prolong, Restart, Crash}
 
 -- A number of 1 to 6 decimal digits, where the digits are one.
 abbrev pub number_in : List ℕ → Option ℕ
@@ -38,6 +40,24 @@ plain_word word =
 abbrev pub restart_in : List ℕ → Option Word
 restart_in number = if is_text number (codes "none") then Some (Restart None) else option_map (λ n. Restart (Some n)) (number_in number)
 
+-- What a crash leaves, by its word.
+abbrev pub left_in : List ℕ → Option Left
+left_in word =
+    if is_text word (codes "old") then Some Old
+    else if is_text word (codes "new") then Some New
+    else if is_text word (codes "torn") then Some Torn
+    else None
+
+-- The word `crash` of so many calls, which are at least 1, and of what it leaves.
+abbrev pub crash_by : Option ℕ → Option Left → Option Word
+crash_by (Some calls) (Some left) = if calls == 0 then None else Some (Crash (record { calls = calls; left = left }))
+crash_by calls left = None
+
+-- The word `crash` with what stands after it, by its parts at the first space: a number, and what is left.
+abbrev pub crash_in : Option (List ℕ × List ℕ) → Option Word
+crash_in None = None
+crash_in (Some parts) = crash_by (number_in parts.0) (left_in parts.1)
+
 -- The word with a number after it that a line says.
 abbrev pub numbered_word : List ℕ → List ℕ → Option Word
 numbered_word word number =
@@ -45,6 +65,7 @@ numbered_word word number =
     else if is_text word (codes "stale") then option_map Stale (number_in number)
     else if is_text word (codes "again") then option_map Again (number_in number)
     else if is_text word (codes "restart") then restart_in number
+    else if is_text word (codes "crash") then crash_in (at_space number)
     else None
 
 -- The word that a line says, by its parts at the first space.

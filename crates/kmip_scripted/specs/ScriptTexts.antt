@@ -2,8 +2,11 @@
 -- Source: own (text): what a person writes in a script; the lengths are own (limit).
 use Rattle.std.specs.Prelude.{◌≡◌, ◌≢◌, ◌⊎◌, ◌≤◌, ⊤, ℕ, ◌+◌, ◌-◌, ◌*◌, ◌==◌, ◌&&◌, nat_le, Bool, true, List, [], ◌∷◌, ◌++◌, codes, length, Some, None}
 use Rattle.std.specs.List.{list_all, slice_split}
+use Rattle.kmip_runs.specs.declared.crash.Crash.{Crash as MachineCrash}
+use Rattle.kmip_runs.specs.declared.left.Left.{Left}
+use Rattle.kmip_runs.specs.declared.left.Left.TheVariants.{Old, New, Torn}
 use Rattle.kmip_scripted.specs.declared.word.Word.{Word}
-use Rattle.kmip_scripted.specs.declared.word.Word.TheVariants.{Pass, LoseRequest, LoseReply, Cut, Stale, Again, Save, Prolong, Restart}
+use Rattle.kmip_scripted.specs.declared.word.Word.TheVariants.{Pass, LoseRequest, LoseReply, Cut, Stale, Again, Save, Prolong, Restart, Crash}
 
 -- The most lines that a script may have. Own (limit).
 abbrev pub most_lines : ℕ
@@ -31,6 +34,19 @@ pub record IsNumbered (front : List ℕ) (number : ℕ) (line : List ℕ) : Type
   pub line_is : line ≡ front ++ digits
   pub is_number : IsNumber digits number
 
+-- The word of what a crash leaves.
+abbrev pub left_word : Left → List ℕ
+left_word Old = codes "old"
+left_word New = codes "new"
+left_word Torn = codes "torn"
+
+-- The line is `crash`, a number that is at least 1, and the word of what is left.
+pub record IsCrash (crash : MachineCrash) (line : List ℕ) : Type 0 where
+  pub digits : List ℕ
+  pub line_is : line ≡ codes "crash " ++ digits ++ codes " " ++ left_word crash.left
+  pub is_number : IsNumber digits crash.calls
+  pub some : 1 ≤ crash.calls
+
 -- The line says the word.
 abbrev pub IsWord : List ℕ → Word → Type 0
 IsWord line Pass = line ≡ codes "pass"
@@ -43,6 +59,7 @@ IsWord line Save = line ≡ codes "save"
 IsWord line Prolong = line ≡ codes "prolong"
 IsWord line (Restart None) = line ≡ codes "restart none"
 IsWord line (Restart (Some number)) = IsNumbered (codes "restart ") number line
+IsWord line (Crash crash) = IsCrash crash line
 
 -- The lines say these words, one after the other. An empty line says nothing.
 abbrev pub Say : List (List ℕ) → List Word → Type 0

@@ -7,7 +7,7 @@ use Rattle.kmip_messages.specs.Items.{requests_in}
 use Rattle.kmip_server.specs.Batching.{batch_reply}
 use Rattle.kmip_protocol.specs.Clean.{strange_handed}
 use Rattle.kmip_scripted.specs.declared.word.Word.{Word}
-use Rattle.kmip_scripted.specs.declared.word.Word.TheVariants.{Pass, LoseRequest, LoseReply, Cut, Stale, Again, Save, Prolong, Restart}
+use Rattle.kmip_scripted.specs.declared.word.Word.TheVariants.{Pass, LoseRequest, LoseReply, Cut, Stale, Again, Save, Prolong, Restart, Crash}
 use Rattle.kmip_scripted.specs.Counting.{counted, every_name}
 use Rattle.kmip_scripted.specs.Disturbing.{is_disturbed, is_repeated}
 use Rattle.kmip_scripted.specs.Scenes.{Scene, disturbances_in, with_disturbances}
@@ -28,6 +28,7 @@ abbrev pub ends_run : Word → Bool
 ends_run Save = true
 ends_run Prolong = true
 ends_run (Restart start) = true
+ends_run (Crash crash) = true
 ends_run word = false
 
 -- The word ends the runs of a plan, and those after it are of a further one.
@@ -38,6 +39,15 @@ is_prolong word = false
 -- How many words `prolong` there are.
 abbrev pub prolongings : List Word → ℕ
 prolongings words = length (filter is_prolong words)
+
+-- The word ends a run in a crash of its machine.
+abbrev pub is_crash : Word → Bool
+is_crash (Crash crash) = true
+is_crash word = false
+
+-- How many words `crash` there are.
+abbrev pub crashes : List Word → ℕ
+crashes words = length (filter is_crash words)
 
 -- The word is of an exchange.
 abbrev pub is_exchange : Word → Bool

@@ -40,7 +40,8 @@ fn is_pass(word: Word) -> bool
     match word {
         Word::Pass => true,
         Word::LoseRequest | Word::LoseReply | Word::Cut(_) | Word::Stale(_) => false,
-        Word::Again(_) | Word::Save | Word::Prolong | Word::Restart(_) => false,
+        Word::Again(_) | Word::Save | Word::Prolong => false,
+        Word::Restart(_) | Word::Crash(_) => false,
     }
 }
 

@@ -65,7 +65,7 @@ impl<S: Records> Scripted<S> {
             Word::Again(number) => self.repeat(alloc, number),
             Word::Pass | Word::LoseRequest | Word::LoseReply => Ok(()),
             Word::Cut(_) | Word::Stale(_) => Ok(()),
-            Word::Save | Word::Prolong | Word::Restart(_) => Ok(()),
+            Word::Save | Word::Prolong | Word::Restart(_) | Word::Crash(_) => Ok(()),
         }
     }
 
@@ -130,9 +130,8 @@ impl<S: Records> Scripted<S> {
                 Ok(None)
             }
             Word::Stale(number) => self.copied_reply(alloc, number),
-            Word::Pass | Word::Again(_) | Word::Save | Word::Prolong | Word::Restart(_) => {
-                self.pass(alloc, request)
-            }
+            Word::Pass | Word::Again(_) | Word::Save | Word::Prolong => self.pass(alloc, request),
+            Word::Restart(_) | Word::Crash(_) => self.pass(alloc, request),
         }
     }
 

@@ -2,7 +2,7 @@
 //! do nothing.
 ghost use Rattle.std.specs.Prelude.{◌≡◌, []};
 ghost use Rattle.kmip_protocol.specs.Past.{Names};
-ghost use Rattle.kmip_scripted.specs.Laws.{EndsStay, HeadsMakeNoRun, RunsGoOn};
+ghost use Rattle.kmip_scripted.specs.Laws.{CrashesChangeNoRun, EndsStay, HeadsMakeNoRun, RunsGoOn};
 ghost use Rattle.kmip_scripted.specs.Scenes.{Scene, disturbances_in, past_in};
 
 use crate::scripted::Scripted;
@@ -21,6 +21,12 @@ pub fn runs_end_as_the_link_does()
     // An exchange takes no word beyond the end of the run. So the words after it are the same however
     // many exchanges the run made.
     ensures stay { EndsStay }
+{}
+
+/// To say which crash ends a run changes no run. A law, which does nothing.
+pub fn crashes_change_no_run()
+    // The runs that are told with their crashes are those that are told without.
+    ensures { CrashesChangeNoRun }
 {}
 
 /// What a link in memory is as a `Link`, whatever its script. A law, which does nothing.

@@ -9,6 +9,7 @@
 #![tactic(auto)]
 
 mod counts;
+mod crashing;
 mod disturbing;
 mod following;
 pub mod laws;

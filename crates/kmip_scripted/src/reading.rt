@@ -1,7 +1,7 @@
 //! A script from its text.
 ghost use Rattle.std.specs.Prelude.{◌≡◌, ◌<◌, ◌++◌, ◌∷◌, List, ℕ, length, Ok, Err, IfOk, IfErr, OnOk};
 ghost use Rattle.std.specs.List.{list_all};
-ghost use Rattle.kmip_scripted.specs.ScriptReading.{FailsScript, GivesScript, number_in, numbered_word, plain_word, restart_in, script_read, word_in, words_of_line};
+ghost use Rattle.kmip_scripted.specs.ScriptReading.{FailsScript, GivesScript, at_space, crash_by, crash_in, left_in, number_in, numbered_word, plain_word, restart_in, script_read, word_in, words_of_line};
 ghost use Rattle.kmip_scripted.specs.ScriptTexts.{FailsAt, IsScript, is_digit, lines_in};
 ghost use Rattle.kmip_scripted.specs.declared.script_fault.ScriptFault.TheVariants.{Line};
 ghost use Rattle.kmip_scripted.specs.declared.word.Word.{Word as WordLem};
@@ -9,6 +9,7 @@ ghost use Rattle.kmip_scripted.specs.declared.word.Word.{Word as WordLem};
 use crate::script::Script;
 use crate::script_fault::ScriptFault;
 use crate::word::Word;
+use kmip_runs::{Crash, Left};
 use std::alloc::Global;
 
 /// The most lines that a script may have (own).
@@ -17,9 +18,9 @@ pub const MOST_LINES: usize = 10_000;
 /// The most digits that a number may have (own).
 pub const MOST_DIGITS: usize = 6;
 
-/// Reads a script: a word a line, where a number is one space after it, and empty lines stand for
-/// nothing. What stands after the last line feed is a line where it is not empty. Takes memory for the
-/// words alone.
+/// Reads a script: a word a line, where a number is one space after it, and what a crash leaves one
+/// space after that. Empty lines stand for nothing. What stands after the last line feed is a line
+/// where it is not empty. Takes memory for the words alone.
 ///
 /// # Errors
 /// `Line` with the number of the first line, from 1, that is no word, or that is one of more than
@@ -124,7 +125,7 @@ fn plain_word(word: &str) -> Option<Word>
     }
 }
 
-/// A word with a number after it, or with `none`.
+/// A word with a number after it, or with `none`; after that of `crash` stands what it leaves.
 fn numbered_word(word: &str, number: &str) -> Option<Word>
     ensures { result ≡ numbered_word word.now number.now }
 {
@@ -133,6 +134,7 @@ fn numbered_word(word: &str, number: &str) -> Option<Word>
         "stale" => Some(Word::Stale(number_in(number)?)),
         "again" => Some(Word::Again(number_in(number)?)),
         "restart" => restart_in(number),
+        "crash" => crash_in(number),
         _ => None,
     }
 }
@@ -146,6 +148,40 @@ fn restart_in(number: &str) -> Option<Word>
     }
     let number = number_in(number)?;
     Some(Word::Restart(Some(number)))
+}
+
+/// A crash by a number of calls, and by what it leaves.
+fn crash_in(text: &str) -> Option<Word>
+    ensures { result ≡ crash_in (at_space text.now) }
+{
+    match text.split_once(' ') {
+        Some((number, left)) => crash_by(number, left),
+        None => None,
+    }
+}
+
+/// A crash after a number of calls, which is at least 1.
+fn crash_by(number: &str, left: &str) -> Option<Word>
+    ensures { result ≡ crash_by (number_in number.now) (left_in left.now) }
+{
+    let calls = number_in(number)?;
+    let left = left_in(left)?;
+    if calls == 0 {
+        return None;
+    }
+    Some(Word::Crash(Crash { calls, left }))
+}
+
+/// What a crash leaves.
+fn left_in(word: &str) -> Option<Left>
+    ensures { result ≡ left_in word.now }
+{
+    match word {
+        "old" => Some(Left::Old),
+        "new" => Some(Left::New),
+        "torn" => Some(Left::Torn),
+        _ => None,
+    }
 }
 
 /// A number of 1 to 6 decimal digits.

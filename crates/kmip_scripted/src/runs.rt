@@ -3,7 +3,7 @@ ghost use Rattle.std.specs.Prelude.{◌≡◌, ◌≤◌, ◌<◌, ◌+◌, ◌*
 ghost use Rattle.std.specs.List.{All, position};
 ghost use Rattle.kmip_plan.specs.Limits.{most_keys};
 ghost use Rattle.kmip_runs.specs.Campaign.{MayBatch, saves};
-ghost use Rattle.kmip_runs.specs.declared.start.Start.TheVariants.{Fresh};
+ghost use Rattle.kmip_runs.specs.declared.start.Start.TheVariants.{Fresh, Same};
 ghost use Rattle.kmip_scripted.specs.Private.{left_of};
 ghost use Rattle.kmip_scripted.specs.Runs.{lists_of, runs_from, runs_of, start_at, with_last_saved, words_before, words_behind};
 ghost use Rattle.kmip_scripted.specs.Words.{is_prolong, prolongings};
@@ -21,6 +21,8 @@ impl Script {
     /// The runs that the script makes over a link which follows it, for a plan. `save` ends a run that
     /// is saved, and the next one goes on from there. `restart` ends one that is not saved, and says
     /// what the next one begins with. A `restart` that no other word stands before makes no run.
+    /// `crash` ends a run that is not saved, and the next one goes on from what the crash leaves;
+    /// `crashing_runs` says which runs these are.
     ///
     /// # Errors
     /// Where there is no memory for them.
@@ -145,6 +147,13 @@ impl Part {
         }
     }
 
+    /// The run after a crash, without words. It goes on from what the crash leaves.
+    fn after_crash() -> Self
+        ensures { result ≡ record { start = Same; limit = 0; begun = false } }
+    {
+        Part::new(Start::Same)
+    }
+
     /// The run, where no further word is taken.
     fn run(self, save: bool) -> Run
         ensures { result ≡
@@ -186,6 +195,10 @@ fn take(word: Word, part: Part, runs: &mut Vec<Run>) -> Result<Part, NoMemory>
         Word::Save | Word::Prolong => {
             runs.push(part.run(true))?;
             Ok(Part::new(Start::Same))
+        }
+        Word::Crash(_) => {
+            runs.push(part.run(false))?;
+            Ok(Part::after_crash())
         }
         Word::Restart(number) => {
             if part.begun {

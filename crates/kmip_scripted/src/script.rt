@@ -1,9 +1,9 @@
 //! A script, word by word.
 ghost use Rattle.std.specs.Prelude.{◌≡◌};
-ghost use Rattle.kmip_scripted.specs.Words.{prolongings};
+ghost use Rattle.kmip_scripted.specs.Words.{crashes, prolongings};
 
 use crate::word::Word;
-use crate::words::is_prolong;
+use crate::words::{is_crash, is_prolong};
 use std::marker::Model;
 
 /// What a link is to do, in order. A contract sees the list of its words.
@@ -41,6 +41,13 @@ impl Script {
         ensures { result ≡ prolongings self.now }
     {
         self.words.iter().filter(|word| is_prolong(**word)).count()
+    }
+
+    /// How many words `crash` it has. Takes no memory.
+    pub fn crashes(&self) -> usize
+        ensures { result ≡ crashes self.now }
+    {
+        self.words.iter().filter(|word| is_crash(**word)).count()
     }
 
     /// Its words as a vector. Takes no memory.

@@ -1,4 +1,5 @@
 //! What a word of a script makes of an exchange, or between two of them.
+use kmip_runs::Crash;
 
 /// What a word of a script makes of an exchange, or between two of them. A number has 1 to 6 digits
 /// where it was read. Requests, replies and saves are counted from 1.
@@ -26,4 +27,6 @@ pub enum Word {
     Prolong,
     /// The run ends unsaved; the next one starts from the save of this number, or from nothing.
     Restart(Option<usize>),
+    /// The run ends in a crash of its machine, unsaved; the next one goes on from what that leaves.
+    Crash(Crash),
 }

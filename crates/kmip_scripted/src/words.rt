@@ -1,6 +1,6 @@
 //! The words of a script that are left, as they are taken.
 ghost use Rattle.std.specs.Prelude.{◌≡◌};
-ghost use Rattle.kmip_scripted.specs.Words.{exchange_word, goes_on, is_exchange, is_prolong, is_restart, next_words, words_after_exchange, words_after_run};
+ghost use Rattle.kmip_scripted.specs.Words.{exchange_word, goes_on, is_crash, is_exchange, is_prolong, is_restart, next_words, words_after_exchange, words_after_run};
 ghost use Rattle.kmip_scripted.specs.Private.{first_of};
 
 use crate::word::Word;
@@ -13,7 +13,8 @@ fn is_restart(word: Word) -> bool
     match word {
         Word::Restart(_) => true,
         Word::Pass | Word::LoseRequest | Word::LoseReply => false,
-        Word::Cut(_) | Word::Stale(_) | Word::Again(_) | Word::Save | Word::Prolong => false,
+        Word::Cut(_) | Word::Stale(_) | Word::Again(_) => false,
+        Word::Save | Word::Prolong | Word::Crash(_) => false,
     }
 }
 
@@ -25,7 +26,19 @@ pub(crate) fn is_prolong(word: Word) -> bool
         Word::Prolong => true,
         Word::Pass | Word::LoseRequest | Word::LoseReply => false,
         Word::Cut(_) | Word::Stale(_) | Word::Again(_) => false,
-        Word::Save | Word::Restart(_) => false,
+        Word::Save | Word::Restart(_) | Word::Crash(_) => false,
+    }
+}
+
+/// Whether the word ends a run in a crash of its machine.
+pub(crate) fn is_crash(word: Word) -> bool
+    ensures { result ≡ is_crash word }
+{
+    match word {
+        Word::Crash(_) => true,
+        Word::Pass | Word::LoseRequest | Word::LoseReply => false,
+        Word::Cut(_) | Word::Stale(_) | Word::Again(_) => false,
+        Word::Save | Word::Prolong | Word::Restart(_) => false,
     }
 }
 
@@ -36,7 +49,8 @@ fn is_exchange(word: Word) -> bool
     match word {
         Word::Pass | Word::LoseRequest | Word::LoseReply => true,
         Word::Cut(_) | Word::Stale(_) => true,
-        Word::Again(_) | Word::Save | Word::Prolong | Word::Restart(_) => false,
+        Word::Again(_) => false,
+        Word::Save | Word::Prolong | Word::Restart(_) | Word::Crash(_) => false,
     }
 }
 
@@ -48,7 +62,7 @@ pub(crate) fn goes_on(at_end: bool, word: Word) -> bool
         Word::Pass | Word::LoseRequest | Word::LoseReply => at_end,
         Word::Cut(_) | Word::Stale(_) => at_end,
         Word::Again(_) => true,
-        Word::Save | Word::Prolong | Word::Restart(_) => false,
+        Word::Save | Word::Prolong | Word::Restart(_) | Word::Crash(_) => false,
     }
 }
 

@@ -4,9 +4,10 @@ use Rattle.std.specs.Prelude.{ℕ, nat_le, List, [], ◌++◌, codes, Option, So
 use Rattle.std.specs.Fmt.{decimal}
 use Rattle.std.specs.List.{flat_map}
 use Rattle.kmip_scripted.specs.Scenes.{Scene}
+use Rattle.kmip_scripted.specs.ScriptTexts.{left_word}
 use Rattle.kmip_scripted.specs.Words.{answer_at, message_at, word_at}
 use Rattle.kmip_scripted.specs.declared.word.Word.{Word}
-use Rattle.kmip_scripted.specs.declared.word.Word.TheVariants.{Pass, LoseRequest, LoseReply, Cut, Stale, Again, Save, Prolong, Restart}
+use Rattle.kmip_scripted.specs.declared.word.Word.TheVariants.{Pass, LoseRequest, LoseReply, Cut, Stale, Again, Save, Prolong, Restart, Crash}
 use Rattle.kmip_trace.specs.Questions.{question_text}
 use Rattle.kmip_trace.specs.Answers.{answer_text}
 use Rattle.kmip_simulation.specs.declared.moment.Moment.{Moment}
@@ -29,6 +30,7 @@ word_text (Again number) = codes "again " ++ decimal number
 word_text Save = codes "save"
 word_text Prolong = codes "prolong"
 word_text (Restart start) = codes "restart " ++ start_text start
+word_text (Crash crash) = codes "crash " ++ decimal crash.calls ++ codes " " ++ left_word crash.left
 
 -- the front of the line of an exchange: what was asked, and the word that it followed
 abbrev pub exchange_front : ℕ → List ℕ → Word → List ℕ

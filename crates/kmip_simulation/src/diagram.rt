@@ -93,7 +93,12 @@ impl Tell for Arrows {
                 draw_arrow(alloc, LOST, number, request, b"\n", text)?;
                 draw_stale(alloc, place, request, answer, text)
             }
-            Word::Pass | Word::Again(_) | Word::Save | Word::Prolong | Word::Restart(_) => {
+            Word::Pass
+            | Word::Again(_)
+            | Word::Save
+            | Word::Prolong
+            | Word::Restart(_)
+            | Word::Crash(_) => {
                 draw_arrow(alloc, ARRIVED, number, request, b"\n", text)?;
                 draw_reply(alloc, b"    S->>C: ", request, answer, text)
             }

@@ -1,8 +1,9 @@
 //! What is written of a simulation, a line each: its exchanges, and what happens between them.
 ghost use Rattle.std.specs.Prelude.{◌≡◌, ◌++◌, IfOk, OnOk, option_map, string_bytes};
 ghost use Rattle.std.specs.List.{flat_map};
+ghost use Rattle.kmip_scripted.specs.ScriptTexts.{left_word};
 ghost use Rattle.kmip_scripted.specs.Words.{answer_at, message_at, word_at};
-ghost use Rattle.kmip_scripted.specs.declared.word.Word.TheVariants.{Restart};
+ghost use Rattle.kmip_scripted.specs.declared.word.Word.TheVariants.{Crash as CrashWord, Restart};
 ghost use Rattle.kmip_simulation.specs.Tracing.{
   Telling,
   early_request,
@@ -19,6 +20,7 @@ ghost use Rattle.kmip_simulation.specs.Tracing.{
 
 use crate::moment::Moment;
 use crate::moments::moments_of;
+use kmip_runs::{Crash, Left};
 use kmip_scripted::{Scripted, Word};
 use kmip_server::IndexedStore;
 use kmip_trace::{push_answer, push_question};
@@ -294,6 +296,7 @@ fn word_text(alloc: Global, word: Word) -> Result<String, NoMemory>
         Word::Save => Ok(String::from_str(alloc, "save")?),
         Word::Prolong => Ok(String::from_str(alloc, "prolong")?),
         Word::Restart(start) => restart_text(alloc, start),
+        Word::Crash(crash) => crash_text(alloc, crash),
     }
 }
 
@@ -304,5 +307,25 @@ fn restart_text(alloc: Global, start: Option<usize>) -> Result<String, NoMemory>
     match start {
         Some(number) => Ok(format!(in alloc; "restart {number}")?),
         None => Ok(String::from_str(alloc, "restart none")?),
+    }
+}
+
+/// The word that ends a run in a crash: after how many calls, and what it leaves.
+fn crash_text(alloc: Global, crash: Crash) -> Result<String, NoMemory>
+    ensures { IfOk result (λ text. string_bytes text ≡ word_text (CrashWord crash)) }
+{
+    let calls = crash.calls;
+    let left = left_word(crash.left);
+    Ok(format!(in alloc; "crash {calls} {left}")?)
+}
+
+/// The word of what a crash leaves.
+fn left_word(left: Left) -> &'static str
+    ensures { result.now ≡ left_word left }
+{
+    match left {
+        Left::Old => "old",
+        Left::New => "new",
+        Left::Torn => "torn",
     }
 }

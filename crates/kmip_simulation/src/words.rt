@@ -25,7 +25,10 @@ fn is_restart(word: Word) -> bool
 fn ends_run(word: Word) -> bool
     ensures { result ≡ ends_run word }
 {
-    matches!(word, Word::Save | Word::Prolong | Word::Restart(_))
+    matches!(
+        word,
+        Word::Save | Word::Prolong | Word::Restart(_) | Word::Crash(_)
+    )
 }
 
 /// Whether the word is of an exchange.
