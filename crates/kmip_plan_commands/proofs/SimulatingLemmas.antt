@@ -8,7 +8,8 @@ use Rattle.kmip_scripted.specs.Words.{crashes, prolongings}
 use Rattle.kmip_scripted.specs.declared.word.Word.{Word}
 use Rattle.kmip_simulation.specs.Simulating.{IsSimulated, IsSimulatedWithCrashes}
 use Rattle.kmip_simulation.specs.declared.simulation.Simulation.{Simulation}
-use Rattle.kmip_plan_commands.specs.SimEnds.{EndsPlan, IsRun, Plays}
+use Rattle.kmip_plan_commands.specs.Private.{Plays}
+use Rattle.kmip_plan_commands.specs.SimEnds.{EndsPlan, IsRun}
 use Rattle.kmip_plan_commands.specs.SimEndText.{sim_end_text, sim_outcome}
 use Rattle.kmip_plan_commands.specs.Simulating.{TellsEnd}
 use Rattle.kmip_plan_commands.specs.declared.sim_end.SimEnd.{SimEnd}

@@ -10,7 +10,10 @@ use Rattle.kmip_scripted.specs.declared.script_fault.ScriptFault.TheVariants.{Li
 use Rattle.kmip_scripted.specs.declared.word.Word.{Word}
 use Rattle.kmip_ttlv.specs.declared.no_memory.NoMemory.{NoMemory}
 use Rattle.kmip_plan_commands.specs.Checking.{check_after_text, IsRefusedAfter}
-use Rattle.kmip_plan_commands.specs.SimEnds.{IsRefusedFor}
+use Rattle.kmip_plan_commands.specs.SimEnds.{IsRefusedFor, IsRun}
+use Rattle.kmip_plan_commands.specs.declared.sim_end.SimEnd.{SimEnd}
+use Rattle.kmip_plan_commands.specs.declared.sim_end.SimEnd.TheVariants.{CrashRefused, Ran}
+use Rattle.kmip_simulation.specs.Simulating.{IsCrashOf}
 
 -- What reading a script gives in which `prolong` has to stand so often, and no `crash` beside it.
 abbrev pub GivesWords : List ℕ → ℕ → Result (List Word) ScriptFault → Type 0
@@ -18,6 +21,13 @@ GivesWords script prolonged (Ok words) =
     IsScript script words × (prolongings words ≡ prolonged) × (0 < prolonged → crashes words ≡ 0)
 GivesWords script prolonged (Err (Line line)) = IsRefusedFor script prolonged line
 GivesWords script prolonged (Err ScriptNoMemory) = Unit {0}
+
+-- How these words ended for the keys of a plan: the disk of a run does not allow its crash, or their runs were
+-- made.
+abbrev pub Plays : ℕ → List Key → List Word → SimEnd → Type 0
+Plays batch keys words (CrashRefused number) = IsCrashOf keys words number
+Plays batch keys words (Ran simulation) = (simulation.words ≡ words) × IsRun batch keys words simulation.end simulation.link
+Plays batch keys words end = ⊥
 
 -- What was read of a plan and of an earlier one is judged: what is printed for both was appended to a text, and
 -- the result says whether something is refused.

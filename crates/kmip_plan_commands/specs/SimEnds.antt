@@ -60,13 +60,6 @@ pub record IsRun (batch : ℕ) (keys : List Key) (words : List Word) (end : Camp
   -- Some word is.
   pub crashed : 0 < crashes words → IsSimulatedWithCrashes keys batch words end link
 
--- How these words ended for the keys of a plan: the disk of a run does not allow its crash, or their runs were
--- made.
-abbrev pub Plays : ℕ → List Key → List Word → SimEnd → Type 0
-Plays batch keys words (CrashRefused number) = IsCrashOf keys words number
-Plays batch keys words (Ran simulation) = (simulation.words ≡ words) × IsRun batch keys words simulation.end simulation.link
-Plays batch keys words end = ⊥
-
 -- The disk of the run of this number does not allow the crash that the script has for it.
 pub record HasRefusedCrash (keys : List Key) (script : List ℕ) (number : ℕ) : Type 0 where
   -- The words of the script.
