@@ -74,13 +74,13 @@ fn push_script_fault(alloc: Global, line: usize, text: &mut Vec<u8>) -> Result<(
     push_document(alloc, &members, text)
 }
 
-/// Appends the line of a run of this number whose disk does not allow its crash.
-fn push_crash_fault(alloc: Global, number: usize, text: &mut Vec<u8>) -> Result<(), NoMemory>
-    ensures { OnOk result (text.new.items ≡ text.old.items ++ crash_fault_line number) }
+/// Appends the line of the run of this number, whose disk does not allow its crash.
+fn push_crash_fault(alloc: Global, run: usize, text: &mut Vec<u8>) -> Result<(), NoMemory>
+    ensures { OnOk result (text.new.items ≡ text.old.items ++ crash_fault_line run) }
 {
     let members = [
         Member::text("fault", "crash refused"),
-        Member::count("run", number as u64),
+        Member::count("run", run as u64),
     ];
     push_document(alloc, &members, text)
 }

@@ -1,5 +1,5 @@
 -- What was appended to nothing for an end of a simulation tells of it.
-use Rattle.std.proofs.Common.{◌≡◌, ◌<◌, Bool, ℕ, List, [], ◌++◌, Result, ap, arith, subst, sym, ◌∙◌}
+use Rattle.std.proofs.Common.{◌≡◌, ◌<◌, Bool, ℕ, List, [], ◌++◌, Result, Ok, Err, IfOk, ap, arith, subst, sym, ◌∙◌}
 use Rattle.kmip_ttlv.specs.declared.no_memory.NoMemory.{NoMemory}
 use Rattle.kmip_choices.specs.declared.detail.Detail.{Detail}
 use Rattle.kmip_plan.specs.declared.key.Key.{Key}
@@ -43,3 +43,9 @@ played batch keys script words (Ran s) said none (is, run) = record {
   no_crash = λ some. absurd (omega (arith, some));
   simulated = subst (λ ws. IsRun batch keys ws s.end s.link) (sym is) run;
 }
+
+-- unless memory ran out
+pub played_if : (batch : ℕ) (keys : List Key) (script : List ℕ) (words : List Word) (result : Result SimEnd NoMemory) → IsScript script words → prolongings words ≡ 0
+    → IfOk result (Plays batch keys words) → IfOk result (EndsPlan batch keys script)
+played_if batch keys script words (Ok end) said none plays = played batch keys script words end said none plays
+played_if batch keys script words (Err want) said none plays = tt

@@ -1,8 +1,8 @@
 //! A plan is carried out over a link to a server in memory, which follows a script.
-ghost use Rattle.std.specs.Prelude.{◌≡◌, false, None, Ok, Some, IfOk, IsTrue, OnOk, option_map};
+ghost use Rattle.std.specs.Prelude.{◌≡◌, ◌<◌, false, None, Ok, Some, IfOk, IsTrue, OnOk, option_map};
 ghost use Rattle.kmip_messages.specs.Members.{may_have};
 ghost use Rattle.kmip_plan.specs.Reading.{plan_read};
-ghost use Rattle.kmip_scripted.specs.Words.{prolongings};
+ghost use Rattle.kmip_scripted.specs.Words.{crashes, prolongings};
 ghost use Rattle.kmip_plan_commands.specs.Checking.{is_memory};
 ghost use Rattle.kmip_plan_commands.specs.Private.{GivesWords, Plays};
 ghost use Rattle.kmip_plan_commands.specs.SimEnds.{EndsPlan, EndsPlans, EndsSim};
@@ -107,9 +107,40 @@ fn play(alloc: Global, plan: &Plan, script: Script, batch: usize) -> Result<SimE
     ensures { IfOk result (λ end. Plays batch plan.now script end) }
 {
     if script.crashes() == 0 {
-        let simulation = simulate(alloc, plan, script, batch)?;
-        return Ok(SimEnd::Ran(simulation));
+        return play_whole(alloc, plan, script, batch);
     }
+    play_crashed(alloc, plan, script, batch)
+}
+
+/// How a script with no crash ends for a plan.
+///
+/// # Errors
+/// Those of `sim_to_end`.
+fn play_whole(alloc: Global, plan: &Plan, script: Script, batch: usize) -> Result<SimEnd, NoMemory>
+    requires none { prolongings script ≡ 0 }
+    requires whole { crashes script ≡ 0 }
+    requires batch { IsTrue (may_have batch) }
+    ensures { IfOk result (λ end. Plays batch plan.now script end) }
+{
+    let simulation = simulate(alloc, plan, script, batch)?;
+    Ok(SimEnd::Ran(simulation))
+}
+
+/// How a script with crashes ends for a plan.
+///
+/// # Errors
+/// Those of `sim_to_end`.
+fn play_crashed(
+    alloc: Global,
+    plan: &Plan,
+    script: Script,
+    batch: usize,
+) -> Result<SimEnd, NoMemory>
+    requires none { prolongings script ≡ 0 }
+    requires crashed { 0 < crashes script }
+    requires batch { IsTrue (may_have batch) }
+    ensures { IfOk result (λ end. Plays batch plan.now script end) }
+{
     match simulate_with_crashes(alloc, plan, script, batch) {
         Ok(simulation) => Ok(SimEnd::Ran(simulation)),
         Err(SimFault::CrashRefused(number)) => Ok(SimEnd::CrashRefused(number)),
