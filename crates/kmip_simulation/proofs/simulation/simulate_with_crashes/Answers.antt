@@ -1,12 +1,12 @@
 -- Nothing has happened yet over the new link, so what the campaign makes of it is good.
-use Rattle.std.proofs.Common.{◌≡◌, ◌+◌, ◌-◌, length, refl, subst, sym, ap, ◌∙◌, arith, slice_get}
+use Rattle.std.proofs.Common.{◌≡◌, ◌+◌, length, refl, rules, subst, sym, ap, ◌∙◌}
 use Rattle.kmip_protocol.specs.Sound.{Opening}
 use Rattle.kmip_scripted.specs.Runs.{crashing_runs_of}
 use Rattle.kmip_scripted.specs.Scenes.{past_in, seen_in}
-use Rattle.kmip_runs.specs.Crashes.{CrashesWell, IsCrashing, MakesCrashes, MayCrash}
+use Rattle.kmip_runs.specs.Crashes.{MakesCrashes}
 use Rattle.kmip_runs.specs.Headline.{GoodLink}
-use Rattle.kmip_simulation.specs.Simulating.{crashing_in_batches, first_scene}
-use Rattle.kmip_simulation.proofs.CrashingLemmas.{crash_at}
+use Rattle.kmip_simulation.specs.Simulating.{IsCrashOf, crashing_in_batches, first_scene}
+use Rattle.kmip_simulation.proofs.CrashingLemmas.{crash_of}
 use Rattle.kmip_simulation.proofs.simulation.simulate_with_crashes.Goals as goal
 
 pub returns-clause-simulated : goal.returns-clause-simulated
@@ -32,7 +32,20 @@ returns-clause-simulated c =
       mirrored = (made.well good).machine.0 opening;
       crashes = crashes;
       end_is = refl;
-      allowed = c.if-is_refused.false;
+      allowed = c.if-crashes.false;
       well = made.well good;
       made = made;
     }
+
+-- a crash of the run after those that have ends is refused
+pub returns-then-crashes-clause-refused : goal.returns-then-crashes-clause-refused
+returns-then-crashes-clause-refused c = λ number is.
+    let keys = c.args.plan.now in
+    let words = c.args.script in
+    let batch = c.args.batch in
+    let runs : c.as_slice-2.result.now ≡ crashing_in_batches batch (crashing_runs_of keys words) =
+    c.as_slice-2.ensures.value ∙ c.in_ok-runs-2.ensures.runs ∙ ap (crashing_in_batches batch) (c.as_slice.ensures.value ∙ c.in_ok-runs.ensures.runs) in
+    let same : c.len.result + 1 ≡ number = cc in
+    let count : c.len.result ≡ length c.campaign_with_crashes-crashes.result.campaign.runs.items = search rules in
+    subst (λ n. IsCrashOf keys words n) same
+    (crash_of batch keys words c.as_slice-2.result.now _ c.len.result runs count (c.campaign_with_crashes-crashes.ensures.refused c.if-crashes.true))
