@@ -1,5 +1,6 @@
 -- Some word is a crash, and the disk of a run may refuse it.
-use Rattle.std.proofs.Common.{refl}
+use Rattle.std.proofs.Common.{◌≡◌, Err, rules}
+use Rattle.kmip_simulation.specs.declared.sim_fault.SimFault.TheVariants.{CrashRefused}
 use Rattle.kmip_plan_commands.proofs.SimulatingLemmas.{ran_crashed}
 use Rattle.kmip_plan_commands.proofs.playing.play_crashed.Goals as goal
 
@@ -9,4 +10,6 @@ returns-in-Ok c =
     (c.in-Ok.ensures.words, ran_crashed c.args.batch c.args.plan.now c.args.script s c.requires.crashed c.in-Ok.ensures.simulated)
 
 pub returns-in-Err-CrashRefused : goal.returns-in-Err-CrashRefused
-returns-in-Err-CrashRefused c = c.simulate_with_crashes.ensures.refused c.in-Err-CrashRefused.number c.in-Err-CrashRefused.is
+returns-in-Err-CrashRefused c =
+    let so : c.simulate_with_crashes.result ≡ Err (CrashRefused c.in-Err-CrashRefused.number) = search rules in
+    c.simulate_with_crashes.ensures.refused c.in-Err-CrashRefused.number so

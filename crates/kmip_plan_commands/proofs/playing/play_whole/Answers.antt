@@ -1,6 +1,4 @@
 -- No word is a crash.
-use Rattle.std.proofs.Common.{subst, sym}
-use Rattle.kmip_plan_commands.specs.SimEnds.{IsRun}
 use Rattle.kmip_plan_commands.proofs.SimulatingLemmas.{ran_whole}
 use Rattle.kmip_plan_commands.proofs.playing.play_whole.Goals as goal
 

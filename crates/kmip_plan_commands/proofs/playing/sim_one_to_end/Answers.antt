@@ -1,5 +1,4 @@
 -- The script is the one that was read.
-use Rattle.kmip_plan_commands.specs.SimEnds.{EndsPlan}
 use Rattle.kmip_plan_commands.proofs.SimulatingLemmas.{played_if}
 use Rattle.kmip_plan_commands.proofs.playing.sim_one_to_end.Goals as goal
 
