@@ -5,11 +5,14 @@
 
 Run it at the top of the repository (`make rows` does, with CRATE, FILE and NAME): it runs all rows, or those of a
 crate, of a file (`sim` is data/sim.rows), and those whose names begin with a word. A program that is built is run as
-it is; else `rt try` runs its sources, which takes some minutes. A stored run that has no rows, as that of kmipctl, is
+it is; else `rt try` runs its sources. Crates are tried at once, as many as there
+are processors. A stored run that has no rows, as that of kmipctl, is
 compared with its stdout. For each row that is wrong its file, line and name are printed, what was wanted, and what it
 got. The exit status is 1 where one is wrong, or there is none.
 """
 import argparse
+import concurrent.futures
+import os
 import pathlib
 import re
 import shutil
@@ -52,25 +55,24 @@ def run(crate, words):
 
 
 def run_rows(crate, files, name):
-    """Runs the rows of these files, and says whether all are right: prints what the program says."""
+    """Runs the rows of these files: whether all are right, and what the program says of them."""
     text, done, how = run(crate, [file.name for file in files] + (['--name', name] if name else []))
-    print(re.sub(r'^(\w+\.rows:)', rf'crates/{crate}/data/\1', text, flags=re.M), end='')
+    told = re.sub(r'^(\w+\.rows:)', rf'crates/{crate}/data/\1', text, flags=re.M)
     if not re.search(r'^\d+ rows, \d+ wrong$', text, re.M):
-        print(done.stderr.decode('utf-8', 'replace')[-600:].strip())
-    print(f'{crate}: {"right" if done.returncode == 0 else "WRONG"}, by {how}', flush=True)
-    return done.returncode == 0
+        told += done.stderr.decode('utf-8', 'replace')[-600:].strip() + '\n'
+    return done.returncode == 0, f'{told}{crate}: {"right" if done.returncode == 0 else "WRONG"}, by {how}'
 
 
 def run_stored(crate):
-    """Runs a stored run that has no rows, and says whether it prints what is stored."""
+    """Runs a stored run that has no rows: whether it prints what is stored, and the first line that it does not."""
     wanted = (CRATES / crate / 'stdout').read_text()
     text, _, how = run(crate, [])
     place = difference(wanted, text)
+    told = ''
     if place:
         number, one, other = place
-        print(f'crates/{crate}/stdout:{number}\n  wanted: {one}\n  got:    {other}')
-    print(f'{crate}: {"WRONG" if place else "right"}, by {how}', flush=True)
-    return not place
+        told = f'crates/{crate}/stdout:{number}\n  wanted: {one}\n  got:    {other}\n'
+    return not place, f'{told}{crate}: {"WRONG" if place else "right"}, by {how}'
 
 
 def difference(wanted, got):
@@ -89,19 +91,26 @@ def chosen(crate, file, name):
     return [path for path in files if not name or any(row.name.startswith(name) for row in rows_in(path))]
 
 
+def tasks(crate, asked):
+    """What is to be run of a crate: a function and its arguments, or nothing."""
+    if files_of(crate):
+        files = chosen(crate, asked.file, asked.name)
+        return [(run_rows, crate, files, asked.name)] if files else []
+    return [] if asked.file or asked.name else [(run_stored, crate)]
+
+
 def main(words):
     parser = argparse.ArgumentParser(description='Runs the rows without a proof.')
     for option in '--crate', '--file', '--name':
         parser.add_argument(option, default='')
     asked = parser.parse_args(words)
     right, wrong = 0, check_rows()
-    for crate in [asked.crate] if asked.crate else programs():
-        if files_of(crate):
-            files = chosen(crate, asked.file, asked.name)
-            good = run_rows(crate, files, asked.name) if files else None
-        else:
-            good = None if asked.file or asked.name else run_stored(crate)
-        right, wrong = right + (good is True), wrong + (good is False)
+    crates = [asked.crate] if asked.crate else programs()
+    with concurrent.futures.ThreadPoolExecutor(os.cpu_count()) as pool:
+        tried = [pool.submit(*task) for crate in crates for task in tasks(crate, asked)]
+        for good, told in (one.result() for one in tried):
+            print(told, flush=True)
+            right, wrong = right + good, wrong + (not good)
     if not right + wrong:
         print('no such row')
     return 0 if right and not wrong else 1

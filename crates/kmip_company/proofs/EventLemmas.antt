@@ -84,7 +84,7 @@ good_joined keys w c good m = record {
 }
 
 -- what holds of who stands at a place holds of what is made of them
-there : {A : Type 0} (P : Company → Type 0) (found : Option A) (f : A → Company) (w : Company) → P w → ((a : A) → found ≡ Some a → P (f a)) → P (if_there found f w)
+pub there : {A : Type 0} (P : Company → Type 0) (found : Option A) (f : A → Company) (w : Company) → P w → ((a : A) → found ≡ Some a → P (f a)) → P (if_there found f w)
 there P None f w none some = none
 there P (Some a) f w none some = some a refl
 
@@ -102,7 +102,7 @@ some_client x = Some x
 same_client : (x y : ClientState) → some_client x ≡ some_client y → x ≡ y
 same_client x y e = cc
 
-about_there : (found : Option ClientState) (question : Question) (c : ClientState) → MayAskNext found question → found ≡ Some c → IsAbout c.keys c.knowns (next_places c) question
+pub about_there : (found : Option ClientState) (question : Question) (c : ClientState) → MayAskNext found question → found ≡ Some c → IsAbout c.keys c.knowns (next_places c) question
 about_there None question c may is = absurd cc
 about_there (Some d) question c may is = subst (λ x. IsAbout x.keys x.knowns (next_places x) question) (same_client d c is) may
 

@@ -12,6 +12,7 @@ use Rattle.kmip_plan.specs.Chains.{bound}
 use Rattle.kmip_plan.specs.Plans.{IsLawful}
 use Rattle.kmip_plan.specs.declared.key.Key.{Key}
 use Rattle.kmip_progress.specs.Suiting.{Suits}
+use Rattle.kmip_protocol.specs.Amid.{PassedAmid}
 use Rattle.kmip_protocol.specs.Exchanges.{with_asked}
 use Rattle.kmip_protocol.specs.Machine.{IsMirrored}
 use Rattle.kmip_protocol.specs.Needs.{missing}
@@ -80,6 +81,12 @@ RunsAreActs =
     (keys : List Key) (w : Company) (place : ℕ) (old new : ClientState) (questions : List (List ℕ)) (answers : List (Option (List ℕ)))
     → slice_get w.clients place ≡ Some old → Turns questions answers old new
     → (events : List Event) × All (IsActAt place) events × ((after_events keys events w).clients ≡ slice_set w.clients place new)
+
+-- What a good company does between two moments is what may pass over a link that is honest among others of the plan.
+abbrev pub CompaniesPassAmid : Type 0
+CompaniesPassAmid =
+    (keys : List Key) (w : Company) (events : List Event) → IsLawful keys → IsGoodCompany keys w → AllMayOccur keys events w
+    → PassedAmid keys w.past (after_events keys events w).past
 
 -- A client amid others: its exchanges that go well and those that may be left are no more than were left before, and
 -- what its other exchanges cost.

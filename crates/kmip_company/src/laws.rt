@@ -3,6 +3,7 @@ ghost use Rattle.kmip_company.specs.PrivateLawbook.{Lawbook};
 ghost use Rattle.kmip_company.specs.Laws.{
   AnyCompanyIsSafe,
   ClientsAreReady,
+  CompaniesPassAmid,
   EventsKeepTheGood,
   EventsKeepTheImage,
   GoodIsSafe,
@@ -101,6 +102,14 @@ pub fn runs_are_acts()
     // So is a run, whose turns `drive` promises.
     ensures run { RunsAreActs }
 {}
+
+/// What a good company does between two moments may pass over a link that is honest among others of the plan. So what
+/// `drive`, `campaign` and `carry_out` promise where all is good holds of each of several that run at once.
+pub fn companies_pass_amid()
+    ensures { CompaniesPassAmid }
+{
+    laws_below();
+}
 
 /// Nobody is kept from its end by others of its plan, whatever they ask and whatever arrives meanwhile. Each exchange
 /// of its own stands in one piece there.

@@ -87,7 +87,7 @@ came_unsaved limit old new r fault same made is alike carries =
 keeps_safe : (limit : ℕ) (old new : Stage) (r : Result Stop SaveFault) (made : ℕ) → IsGood old.client old.link → CarriesOut limit old r made new → KeepsSafe old.client.keys old.link new.link
 keeps_safe limit old new r made good carries =
     let well = carries.well good in
-    let link : GoodLink new.client.keys new.link = record { honest_for = well.good.honest_for; sound = well.good.sound } in
+    let link : GoodLink new.client.keys new.link = record { amid_for = well.good.amid_for; sound = well.good.sound } in
     record { stays_good = subst (λ keys. GoodLink keys new.link) carries.forgets_nothing.keys_stay link; went_on = well.onward }
 
 -- what carrying out a plan promises of its link and its file, where memory did not run out
@@ -154,7 +154,7 @@ came_for limit most good other old new keys knowns o f c =
 good_start : (a : ClientState) (x : Seen) (text : Option (List ℕ))
     → (IsTrueText x.past.objects a.keys text → Held x.past.objects a.keys a.knowns)
     → IsGoodStart text x a.keys → IsGood a x
-good_start a x text held g = record { honest_for = g.0.honest_for; sound = g.0.sound; held = held g.1 }
+good_start a x text held g = record { amid_for = g.0.amid_for; sound = g.0.sound; held = held g.1 }
 
 -- what has come of the exchanges has come of the run that began with what a progress says
 came_start : (a : ClientState) (old new : RunState) (keys : List Key) (text : Option (List ℕ)) (limit : ℕ) (o : Outcome)

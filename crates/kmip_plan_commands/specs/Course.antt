@@ -72,17 +72,17 @@ pub record Came (limit most : ℕ) (good : List Key → Type 0) (old new : RunSt
   -- That a text could not be written is told only where the keeper's count of refusals has risen, or
   -- stands at its last value.
   pub unwritten : outcome.result ≡ Err faults.Output → HasRisen old.keeper.refusals new.keeper.refusals
-  -- Where all was good, with no premise of calm: the plan's bound, one exchange for each key, and what
+  -- Where all was good and nobody else asks, with no premise of calm: the plan's bound, one exchange for each key, and what
   -- the link counted of the run's disturbed exchanges are enough for every key. That too is said where
   -- each text could be kept, memory did not run out, and patience has not given up.
-  pub outlasts : good keys → new.is_tired ≡ false → IsWhole outcome.result → IsEnough keys limit old.link.disturbances new.link.disturbances → outcome.result ≡ Ok stops.AllFinished
+  pub outlasts : good keys → old.link.honest (is_planned keys) → new.is_tired ≡ false → IsWhole outcome.result → IsEnough keys limit old.link.disturbances new.link.disturbances → outcome.result ≡ Ok stops.AllFinished
 
 -- The text of a progress, where there is one, says what is true of these objects.
 abbrev pub IsTrueText : List Object → List Key → Option (List ℕ) → Type 0
 IsTrueText objects keys None = ⊤
 IsTrueText objects keys (Some text) = (saved : List Known) → read_text keys text ≡ Ok saved → TrueProgress objects keys saved
 
--- The link is honest for the keys and all that has happened over it is sound. The text of a progress,
+-- The link is honest among others of the keys, and all that has happened over it is sound. The text of a progress,
 -- where there is one, is true.
 abbrev pub IsGoodStart : Option (List ℕ) → Seen → List Key → Type 0
 IsGoodStart text link keys = GoodLink keys link × IsTrueText link.past.objects keys text

@@ -48,7 +48,7 @@ asked_sound keys p requests sound just = record {
       (λ reply answer. answer_more keys p.objects p.requests requests reply answer) p.replies sound.replies;
 }
 
-handed_sound : (keys : List Key) (p : Past) (sent : List ℕ) (answer : Option (List ℕ)) → Sound keys p → Sound keys (with_exchange sent answer p)
+pub handed_sound : (keys : List Key) (p : Past) (sent : List ℕ) (answer : Option (List ℕ)) → Sound keys p → Sound keys (with_exchange sent answer p)
 handed_sound keys p sent answer sound = record {
   names = sound.names;
   uids = sound.uids;

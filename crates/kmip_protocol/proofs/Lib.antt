@@ -8,6 +8,7 @@ pub mod SafeLemmas
 pub mod TurnLemmas
 pub mod MirrorLemmas
 pub mod JoiningLemmas
+pub mod AmidLemmas
 pub mod EffectLemmas
 pub mod ProlongedLemmas
 pub mod FilterLemmas

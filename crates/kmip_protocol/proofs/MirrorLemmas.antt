@@ -49,7 +49,7 @@ mirrored_serve l keys p q request reply joined sound image serves same more =
       | inr steps ↦ mirrored_step keys p q request joined just image serves.asked serves.effects steps same more
     ]
 
-mirrored_move : (l : Lawbook) (keys : List Key) (move : Move) (p : Past) → Sound keys p → IsMirrored keys p → MayHappen (is_planned keys) move p
+pub mirrored_move : (l : Lawbook) (keys : List Key) (move : Move) (p : Past) → Sound keys p → IsMirrored keys p → MayHappen (is_planned keys) move p
     → IsMirrored keys (after_move move p)
 mirrored_move l keys (Serve request reply objects joined) p sound image serves =
     mirrored_serve l keys p (after_move (Serve request reply objects joined) p) request reply joined sound image serves refl refl
@@ -77,11 +77,15 @@ mirrored_delivered l keys old new sound image delivered =
 pub mirrored_asked : (keys : List Key) (p : Past) (sent : List ℕ) → IsMirrored keys p → JustifiedMessage keys p.objects sent → IsMirrored keys (with_asked sent p)
 mirrored_asked keys p sent image just = mirrored_requests keys p (requests_in sent) image just
 
+-- an exchange that is noted moves nothing
+pub mirrored_handed : (keys : List Key) (p : Past) (sent : List ℕ) (answer : Option (List ℕ)) → IsMirrored keys p → IsMirrored keys (with_exchange sent answer p)
+mirrored_handed keys p sent answer image = no_more keys p (with_exchange sent answer p) image (λ key planned. refl) refl refl
+
 mirrored_over : (l : Lawbook) (keys : List Key) (old new : Past) (sent : List ℕ) (answer : Option (List ℕ)) → Sound keys old → IsMirrored keys old
     → JustifiedMessage keys old.objects sent → HandsOver (is_planned keys) old sent answer new → IsMirrored keys new
 mirrored_over l keys old new sent answer sound image just hands =
     let between = mirrored_delivered l keys (with_asked sent old) hands.between (asked_sound keys old (requests_in sent) sound just) (mirrored_asked keys old sent image just) hands.delivered in
-    subst (IsMirrored keys) (sym hands.is) (no_more keys hands.between (with_exchange sent answer hands.between) between (λ key planned. refl) refl refl)
+    subst (IsMirrored keys) (sym hands.is) (mirrored_handed keys hands.between sent answer between)
 
 pub mirrored_exchange : (l : Lawbook) (keys : List Key) (old new : Past) (sent : List ℕ) (answer : Result (Option (List ℕ)) LinkFault) → Sound keys old
     → IsMirrored keys old → JustifiedMessage keys old.objects sent → Exchanged (is_planned keys) old sent answer new → IsMirrored keys new

@@ -3,6 +3,7 @@
 --     Past       all that was ever asked, answered and done, and the objects that are there
 --     Moves      what may happen next, whatever the network and the server do
 --     Exchanges  what an exchange over an honest link does to the past
+--     Amid       what it does among other clients of the plan
 --     Calm       what it does over a calm link
 --     Clean      which exchanges go as they should, and what a link counts of the others
 --     Ending     where runs were ended over a link

@@ -13,6 +13,8 @@ pub mod Moves
 pub mod Sound
 -- what an exchange over an honest link does to the past
 pub mod Exchanges
+-- what happens over a link among other clients of the plan
+pub mod Amid
 -- what a failed exchange is to whoever made it
 pub mod Losses
 -- what an exchange over a calm link does to the past
@@ -29,6 +31,8 @@ pub mod Linking
 pub mod Machine
 -- the laws of all that may happen
 pub mod Laws
+-- the laws of what happens among other clients
+pub mod AmidLaws
 -- private: the laws of the crates below that the laws here rest on
 pub mod PrivateLawbook
 -- How near a client is to its end, by the questions that its keys still need.

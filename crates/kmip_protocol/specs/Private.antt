@@ -25,16 +25,19 @@ none_counted = record { disturbed = 0; requests = 0; strange = 0 }
 abbrev pub none_ended : List ℕ
 none_ended = []
 
--- A link of which nothing is claimed, but how often its network has failed: it is neither honest nor calm.
+-- A link of which nothing is claimed, but how often its network has failed: it is neither honest nor calm, nor honest
+-- among others.
 abbrev pub unclaimed : ℕ → Seen
 unclaimed failures = record {
   past = unknown_past;
   honest = λ names. ⊥;
+  amid = λ keys. ⊥;
   calm = λ names. ⊥;
   failures = failures;
   disturbances = none_counted;
   ended = none_ended;
   calm_is_honest = λ names calm. calm;
+  honest_is_amid = λ keys honest. honest;
   may_fail = λ names calm. absurd calm;
   fewer = λ names few among. (λ honest. honest, λ calm. calm);
 }

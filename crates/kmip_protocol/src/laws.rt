@@ -34,7 +34,7 @@ use kmip_plan::laws::{keys_have_names, prolonged_keys_stand};
 use kmip_server::laws::a_name_is_found;
 
 /// The laws of the crates below.
-fn laws_below()
+pub(crate) fn laws_below()
     ensures { Lawbook }
 {
     found_laws();

@@ -20,6 +20,9 @@
 //! brought about is safe. How far a client is from its end is said by the laws of settling. That
 //! all this is so of whole runs, and what a report says, is said by kmip_runs.
 //!
+//! Over a link that is honest among others of a plan (`Amid`), other clients may ask at any moment what is
+//! justified. What is sound stays so there too, and each answer is true.
+//!
 //! How many questions each key of a plan still needs, until a run ends.
 //!
 //! No code is here: it is the theory of how a client comes to its end. Over a calm link a key needs none once
@@ -41,6 +44,7 @@
 //! for each reply about another key.
 #![tactic(auto)]
 
+pub mod amid_laws;
 pub mod laws;
 mod link;
 mod link_fault;

@@ -17,6 +17,7 @@ use Rattle.kmip_client.specs.Knowledge.{chain_length, verdict_of}
 use Rattle.kmip_client.specs.Places.{Onward, position}
 use Rattle.kmip_client.specs.Verdicts.{counts_of, verdicts_of}
 use Rattle.kmip_client.specs.declared.knowledge.Knowledge.{Knowledge}
+use Rattle.kmip_protocol.specs.Amid.{PassedAmid}
 use Rattle.kmip_protocol.specs.Laws.{IsReached}
 use Rattle.kmip_protocol.specs.Moves.{Delivered}
 use Rattle.kmip_protocol.specs.Past.{Names, Past, is_planned}
@@ -215,7 +216,7 @@ noted_none objects keys ends saved no_end none_saved =
 
 pub good_with : (a b : ClientState) (x : Seen) → b.keys ≡ a.keys → IsGood a x → Held x.past.objects b.keys b.knowns → IsGood b x
 good_with a b x same good held = record {
-  honest_for = subst (λ ks. x.honest (is_planned ks)) (sym same) good.honest_for;
+  amid_for = subst (λ ks. x.amid ks) (sym same) good.amid_for;
   sound = subst (λ ks. Sound ks x.past) (sym same) good.sound;
   held = held;
 }
@@ -242,16 +243,17 @@ stood l keys a b c x y stop ends nexts saved kept lawful a_keys b_keys c_keys be
 
 -- and closed
 pub closed : CampaignLaws → (keys : List Key) (c : ClientState) (x y z : Seen) (ends : List RunEnd) (saved : List (List Known)) → IsLawful keys → c.keys ≡ keys
-    → ((names : Names) → y.honest names → z.honest names × Delivered names y.past z.past)
+    → ((keys : List Key) → y.amid keys → z.amid keys × PassedAmid keys y.past z.past)
     → Standing keys c y ends saved × WentOn keys x.past y.past → Standing keys c z ends saved × WentOn keys x.past z.past
 closed l keys c x y z ends saved lawful c_keys ended (standing, went) =
     let sound = subst (λ ks. Sound ks y.past) c_keys standing.good.sound in
-    let step = ended (is_planned keys) (subst (λ ks. y.honest (is_planned ks)) c_keys standing.good.honest_for) in
-    let on = l.onward keys y.past z.past sound step.1 in (
+    let step = ended keys (subst (λ ks. y.amid ks) c_keys standing.good.amid_for) in
+    let kept = l.passing keys y.past z.past sound step.1 in
+    let on = kept.1 in (
       record {
         good = record {
-          honest_for = subst (λ ks. z.honest (is_planned ks)) (sym c_keys) step.0;
-          sound = subst (λ ks. Sound ks z.past) (sym c_keys) (l.deliveries keys y.past z.past sound step.1);
+          amid_for = subst (λ ks. z.amid ks) (sym c_keys) step.0;
+          sound = subst (λ ks. Sound ks z.past) (sym c_keys) kept.0;
           held = l.known_for_good c.keys c.knowns y.past.objects z.past.objects (subst (λ ks. IsLawful ks) (sym c_keys) lawful)
               (subst (λ ks. Onward ks y.past.objects z.past.objects) (sym c_keys) on) standing.good.held;
         };
@@ -270,7 +272,7 @@ pub opened : CampaignLaws → (keys : List Key) (c : ClientState) (x : Seen) (en
 opened l keys c x ends saved c_keys held no_end none_saved good = (
   record {
     good = record {
-      honest_for = subst (λ ks. x.honest (is_planned ks)) (sym c_keys) good.honest_for;
+      amid_for = subst (λ ks. x.amid ks) (sym c_keys) good.amid_for;
       sound = subst (λ ks. Sound ks x.past) (sym c_keys) good.sound;
       held = held;
     };
@@ -283,7 +285,7 @@ pub campaigned : (keys : List Key) (c : ClientState) (x y : Seen) (ends : List R
     → Standing keys c y ends saved × WentOn keys x.past y.past → Campaigned keys x y ends saved
 campaigned keys c x y ends saved c_keys (standing, went) = record {
   good = record {
-    honest_for = subst (λ ks. y.honest (is_planned ks)) c_keys standing.good.honest_for;
+    amid_for = subst (λ ks. y.amid ks) c_keys standing.good.amid_for;
     sound = subst (λ ks. Sound ks y.past) c_keys standing.good.sound;
   };
   on = went;

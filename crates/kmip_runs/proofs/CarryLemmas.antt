@@ -11,6 +11,7 @@ use Rattle.kmip_client.specs.Knowledge.{chain_length, clash_verdict, is_working,
 use Rattle.kmip_client.specs.declared.clash.Clash.{Clash}
 use Rattle.kmip_client.specs.declared.knowledge.Knowledge.{Knowledge}
 use Rattle.kmip_client.specs.declared.verdict.Verdict.TheVariants.{Working, Finished}
+use Rattle.kmip_protocol.specs.Amid.{PassedAmid}
 use Rattle.kmip_protocol.specs.Moves.{Delivered}
 use Rattle.kmip_protocol.specs.Past.{Names, Past, is_planned}
 use Rattle.kmip_protocol.specs.Seen.{Seen}
@@ -316,20 +317,20 @@ carried_stop l a b stop m n lawful memory same before =
 -- and the end of the run
 pub carried_closed : {V E : Type 0} → CarryingLaws → (a b : Situation) (z : Seen) (result ended : Result Stop SaveFault) (closed : Result V E) (m : ℕ)
     → IsLawful a.client.keys → ((names : Names) → b.link.honest names → z.honest names × Delivered names b.link.past z.past)
+    → ((keys : List Key) → b.link.amid keys → z.amid keys × PassedAmid keys b.link.past z.past)
     → ((names : Names) → b.link.calm names → z.calm names × OnOk closed (z.past ≡ b.link.past)) → OnOk closed (ended ≡ result)
     → OnErr closed (OnOk result (ended ≡ Ok stops.NoMemory)) → OnErr result (ended ≡ result)
     → Carried a b result m → Carried a (record b { link = z }) ended m
-carried_closed l a b z result ended closed m lawful delivers calms same stop fault first =
+carried_closed l a b z result ended closed m lawful delivers passes calms same stop fault first =
     let memory = memory_before closed result ended same stop fault in
     let whole = whole_before {P = z.past ≡ b.link.past} closed result ended same stop fault in
     let stays : StaysTrue a.client.keys (IsGood a.client a.link) (moment b.client b.link) (moment b.client z) =
     λ good knowns.
     l.known_for_good a.client.keys knowns b.link.past.objects z.past.objects lawful
-    (l.onward a.client.keys b.link.past z.past (subst (λ ks. Sound ks b.link.past) first.went.keeps.keys_stay (first.went.good good).sound)
-    (delivers (is_planned a.client.keys)
-    (subst (λ ks. b.link.honest (is_planned ks)) first.went.keeps.keys_stay (first.went.good good).honest_for)).1) in
+    (l.passing a.client.keys b.link.past z.past (subst (λ ks. Sound ks b.link.past) first.went.keeps.keys_stay (first.went.good good).sound)
+    (passes a.client.keys (subst (λ ks. b.link.amid ks) first.went.keeps.keys_stay (first.went.good good).amid_for)).1).1 in
     record {
-      went = went_closed l a b z result ended closed m lawful delivers calms memory (λ is. cut_before closed result ended same stop fault is) whole first.went;
+      went = went_closed l a b z result ended closed m lawful delivers passes calms memory (λ is. cut_before closed result ended same stop fault is) whole first.went;
       saved = λ keeping.
           let before = first.saved keeping in (
             before.0,

@@ -26,14 +26,14 @@ pub paid_none : (left : ℕ) (d : Disturbances) → ArePaid 0 left left d d
 paid_none left d = omega arith
 
 -- what arrives at the end of a run costs nothing
-pub paid_closed : CarryingLaws → (b : ClientState) (y z : Seen) (made before : ℕ) (d : Disturbances) → IsLawful b.keys → IsGood b y
+pub paid_closed : CarryingLaws → (b : ClientState) (y z : Seen) (made before : ℕ) (d : Disturbances) → IsLawful b.keys → IsGood b y → y.honest (is_planned b.keys)
     → ((names : Names) → y.honest names → z.honest names × Delivered names y.past z.past)
     → ((names : Names) → y.honest names → z.disturbances ≡ y.disturbances) → ArePaid made before (left_for b y.past) d y.disturbances
     → ArePaid made before (left_for b z.past) d z.disturbances
-paid_closed l b y z made before d lawful good delivers same paid =
+paid_closed l b y z made before d lawful good honest delivers same paid =
     let names = is_planned b.keys in
-    let fewer = l.late b.keys y.past z.past b.knowns lawful good.sound good.held (delivers names good.honest_for).1 in
-    let even = ap cost (same names good.honest_for) in
+    let fewer = l.late b.keys y.past z.past b.knowns lawful good.sound good.held (delivers names honest).1 in
+    let even = ap cost (same names honest) in
     omega (arith, paid, fewer, even)
 
 -- where as many exchanges were made as a plan may take, and as the disturbed ones cost, no key is worked on

@@ -11,13 +11,13 @@ use Rattle.kmip_client.specs.Justified.{Justified, JustifiedMessage}
 use Rattle.kmip_client.specs.Laws.{OnwardToItself, OnwardTwice}
 use Rattle.kmip_client.specs.declared.question.Question.{Question}
 use Rattle.kmip_protocol.specs.Calm.{CalmlyExchanged}
-use Rattle.kmip_protocol.specs.Exchanges.{Exchanged}
-use Rattle.kmip_protocol.specs.Moves.{Delivered}
+use Rattle.kmip_protocol.specs.Amid.{ExchangedAmid, PassedAmid}
 use Rattle.kmip_protocol.specs.Past.{Names, Past, is_planned}
 use Rattle.kmip_protocol.specs.Seen.{Seen}
 use Rattle.kmip_protocol.specs.Sound.{Sound}
 use Rattle.kmip_protocol.specs.declared.link_fault.LinkFault.{LinkFault}
 use Rattle.kmip_protocol.specs.Needs.{missing}
+use Rattle.kmip_runs.specs.Campaign.{CalmLink}
 use Rattle.kmip_runs.specs.Headline.{GoodLink}
 use Rattle.kmip_runs.specs.PrivateCampaignParts.{CampaignLaws}
 use Rattle.kmip_runs.specs.Driving.{IsGood, KeepsFurther, WentOn}
@@ -44,18 +44,25 @@ further_then twice keys x y z first second also a b = record {
   calmly = λ is further lawful prolongs calmly. b.calmly is further lawful prolongs (a.calmly (also is) further lawful prolongs calmly);
 }
 
+-- a link that is calm for the plan's names is honest among others of it
+pub calm_good : (keys : List Key) (x : Seen) → CalmLink keys x → GoodLink keys x
+calm_good keys x calmly = record {
+  amid_for = x.honest_is_amid keys (x.calm_is_honest (is_planned keys) calmly.calm_for);
+  sound = calmly.sound;
+}
+
 -- a question is asked
 asked_further : Lawbook → (keys further : List Key) (x y : Seen) (sent : List ℕ) (answered : Result (Option (List ℕ)) LinkFault) → IsLawful further
     → Prolongs further keys → JustifiedMessage keys x.past.objects sent
-    → ((names : Names) → x.honest names → y.honest names × Exchanged names x.past sent answered y.past)
+    → ((keys : List Key) → x.amid keys → y.amid keys × ExchangedAmid keys x.past sent answered y.past)
     → GoodLink further x → GoodLink further y × WentOn further x.past y.past
 asked_further l keys further x y sent answered lawful prolongs just goes good =
     let asked =
     All-weaker (Justified keys x.past.objects) (Justified further x.past.objects)
     (λ request may. l.asked x.past.objects further keys request lawful prolongs may) (requests_in sent) just in
-    let step = goes (is_planned further) good.honest_for in
+    let step = goes further good.amid_for in
     let kept = l.exchanges further x.past y.past sent answered good.sound asked step.1 in (
-      record { honest_for = step.0; sound = kept.0 },
+      record { amid_for = step.0; sound = kept.0 },
       record {
         onward = kept.1;
         mirrored = λ image. l.images further x.past y.past sent answered good.sound image asked step.1;
@@ -65,14 +72,14 @@ asked_further l keys further x y sent answered lawful prolongs just goes good =
 -- and answered
 pub further_asked : Lawbook → (c : ClientState) (x y : Seen) (sent : List ℕ) (answered : Result (Option (List ℕ)) LinkFault) (places : List ℕ) (question : Question)
     (whole : Type 0) → IsLawful c.keys → IsAbout c.keys c.knowns places question → sent ≡ question.bytes
-    → ((names : Names) → x.honest names → y.honest names × Exchanged names x.past sent answered y.past)
+    → ((keys : List Key) → x.amid keys → y.amid keys × ExchangedAmid keys x.past sent answered y.past)
     → ((names : Names) → x.calm names → y.calm names × CalmlyExchanged names x.past sent answered y.past)
     → (whole → (answer : Option (List ℕ)) × (or_loss answered ≡ Some answer))
     → JustifiedMessage c.keys x.past.objects sent → IsGood c x → KeepsFurther c.keys whole x y
 further_asked l c x y sent answered places question whole lawful_keys about bytes goes goes_calmly answers just good = record {
   good = λ further lawful prolongs far. asked_further l c.keys further x y sent answered lawful prolongs just goes far;
   calmly = λ is further lawful prolongs far.
-      let far_good : GoodLink further x = record { honest_for = x.calm_is_honest (is_planned further) far.calm_for; sound = far.sound } in
+      let far_good : GoodLink further x = calm_good further x far in
       let after = (asked_further l c.keys further x y sent answered lawful prolongs just goes far_good).0 in
       let step = goes_calmly (is_planned further) far.calm_for in
       let own = goes_calmly (is_planned c.keys) ((x.fewer (is_planned further) (is_planned c.keys) (l.names further c.keys lawful prolongs)).1 far.calm_for) in
@@ -92,14 +99,15 @@ further_asked l c x y sent answered places question whole lawful_keys about byte
 
 -- a run is closed: something is delivered, and nothing over a calm link
 pub further_closed : {E : Type 0} → CampaignLaws → (keys : List Key) (y z : Seen) (closed : Result (Unit {0}) E)
-    → ((names : Names) → y.honest names → z.honest names × Delivered names y.past z.past)
+    → ((keys : List Key) → y.amid keys → z.amid keys × PassedAmid keys y.past z.past)
     → ((names : Names) → y.calm names → z.calm names × OnOk closed (z.past ≡ y.past)) → KeepsFurther keys (closed ≡ Ok tt) y z
 further_closed l keys y z closed ended ended_calmly = record {
   good = λ further lawful prolongs good.
-      let step = ended (is_planned further) good.honest_for in (
-        record { honest_for = step.0; sound = l.deliveries further y.past z.past good.sound step.1 },
+      let step = ended further good.amid_for in
+      let kept = l.passing further y.past z.past good.sound step.1 in (
+        record { amid_for = step.0; sound = kept.0 },
         record {
-          onward = l.onward further y.past z.past good.sound step.1;
+          onward = kept.1;
           mirrored = λ image. l.images further y.past z.past good.sound image step.1;
         },
       );

@@ -1,5 +1,5 @@
 -- What is good stays so over an exchange.
-use Rattle.std.proofs.Common.{◌≡◌, ℕ, List, [], ◌∷◌, Option, Some, None, Result, IfSome, option_map, sym, subst, refl, ◌∙◌, arith}
+use Rattle.std.proofs.Common.{◌≡◌, ℕ, List, [], ◌∷◌, Option, Some, None, Result, Ok, Err, IfSome, option_map, sym, subst, refl, ◌∙◌, arith}
 use Rattle.std.specs.List.{AllZip}
 use Rattle.kmip_objects.specs.Objects.{Object}
 use Rattle.kmip_plan.specs.Plans.{IsLawful}
@@ -12,15 +12,16 @@ use Rattle.kmip_client.specs.Shapes.{IsKept}
 use Rattle.kmip_client.specs.Truth.{TrueMessage}
 use Rattle.kmip_client.specs.declared.knowledge.Knowledge.{Knowledge}
 use Rattle.kmip_client.specs.declared.question.Question.{Question}
-use Rattle.kmip_protocol.specs.Exchanges.{AreGiven, Exchanged}
-use Rattle.kmip_protocol.specs.Past.{Names, Past, is_planned}
+use Rattle.kmip_protocol.specs.Amid.{ExchangedAmid, HandsOverAmid}
+use Rattle.kmip_protocol.specs.Exchanges.{AreGiven}
+use Rattle.kmip_protocol.specs.Past.{Past}
 use Rattle.kmip_protocol.specs.Seen.{Seen}
 use Rattle.kmip_protocol.specs.Sound.{Sound}
 use Rattle.kmip_protocol.specs.declared.link_fault.LinkFault.{LinkFault}
+use Rattle.kmip_protocol.specs.declared.link_fault.LinkFault.TheVariants.{Io, Frame, NoMemory}
 use Rattle.kmip_runs.specs.Driving.{IsGood, Keeps, WentOn}
 use Rattle.kmip_runs.specs.PrivateLawbook.{Lawbook}
 use Rattle.kmip_protocol.specs.Losses.{or_loss}
-use Rattle.kmip_runs.proofs.KnownLemmas.{handed_over}
 
 -- ---- nothing is taken back
 
@@ -76,23 +77,26 @@ good_asked c next link asked question is some may good =
     let objects = link.past.objects in
     let just = subst (λ o. IfSome o (λ q. JustifiedMessage c.keys objects q.bytes)) some (may objects good.held) in
     subst (λ n. IsGood n link × JustifiedMessage n.keys objects question.bytes) (sym is)
-    (record { honest_for = good.honest_for; sound = good.sound; held = good.held }, just)
+    (record { amid_for = good.amid_for; sound = good.sound; held = good.held }, just)
+
+answer_is : (x y : Option (List ℕ)) → Some x ≡ Some y → x ≡ y
+answer_is x y is = cc
 
 -- what an exchange leaves: all is sound still, and what was known is true still
 pub record Left (c : ClientState) (old new : Seen) : Type 0 where
-  pub honest_for : new.honest (is_planned c.keys)
+  pub amid_for : new.amid c.keys
   pub sound : Sound c.keys new.past
   pub held : Held new.past.objects c.keys c.knowns
   pub on : WentOn c.keys old.past new.past
 
 pub left : (l : Lawbook) (c : ClientState) (old new : Seen) (sent : List ℕ) (answered : Result (Option (List ℕ)) LinkFault) → IsLawful c.keys
     → IsGood c old → JustifiedMessage c.keys old.past.objects sent
-    → ((names : Names) → old.honest names → new.honest names × Exchanged names old.past sent answered new.past) → Left c old new
+    → ((keys : List Key) → old.amid keys → new.amid keys × ExchangedAmid keys old.past sent answered new.past) → Left c old new
 left l c old new sent answered lawful good just goes =
-    let step = goes (is_planned c.keys) good.honest_for in
+    let step = goes c.keys good.amid_for in
     let kept = l.exchanges c.keys old.past new.past sent answered good.sound just step.1 in
     record {
-      honest_for = step.0;
+      amid_for = step.0;
       sound = kept.0;
       held = l.known_for_good c.keys c.knowns old.past.objects new.past.objects lawful kept.1 good.held;
       on = record {
@@ -101,19 +105,27 @@ left l c old new sent answered lawful good just goes =
       };
     }
 
+-- what was handed over among others, where memory did not run out
+handed_amid : (keys : List Key) (old new : Past) (sent : List ℕ) (answered : Result (Option (List ℕ)) LinkFault) (answer : Option (List ℕ))
+    → or_loss answered ≡ Some answer → ExchangedAmid keys old sent answered new → HandsOverAmid keys old sent answer new
+handed_amid keys old new sent (Ok own) answer is done = subst (λ a. HandsOverAmid keys old sent a new) (answer_is own answer is) done
+handed_amid keys old new sent (Err Io) answer is done = subst (λ a. HandsOverAmid keys old sent a new) (answer_is None answer is) done
+handed_amid keys old new sent (Err Frame) answer is done = subst (λ a. HandsOverAmid keys old sent a new) (answer_is None answer is) done
+handed_amid keys old new sent (Err NoMemory) answer is done = absurd cc
+
 -- what was handed over is true
 pub told : (l : Lawbook) (keys : List Key) (old new : Past) (sent : List ℕ) (answered : Result (Option (List ℕ)) LinkFault) (answer : Option (List ℕ)) → Sound keys new
-    → or_loss answered ≡ Some answer → Exchanged (is_planned keys) old sent answered new → IfSome answer (TrueMessage keys new.objects)
+    → or_loss answered ≡ Some answer → ExchangedAmid keys old sent answered new → IfSome answer (TrueMessage keys new.objects)
 told l keys old new sent answered None sound is done = tt
 told l keys old new sent answered (Some given) sound is done =
-    let hands = handed_over (is_planned keys) old new sent answered (Some given) is done in
+    let hands = handed_amid keys old new sent answered (Some given) is done in
     l.answers keys new given sound (subst (λ (p : Past). AreGiven p given) (sym hands.is) hands.given)
 
 pub good_left : (c next : ClientState) (old new : Seen) → Left c old new → next.keys ≡ c.keys → Held new.past.objects next.keys next.knowns
     → IsGood next new × WentOn c.keys old.past new.past
 good_left c next old new l keys held = (
   record {
-    honest_for = subst (λ ks. new.honest (is_planned ks)) (sym keys) l.honest_for;
+    amid_for = subst (λ ks. new.amid ks) (sym keys) l.amid_for;
     sound = subst (λ ks. Sound ks new.past) (sym keys) l.sound;
     held = held;
   },

@@ -53,20 +53,20 @@ pub paid_one : Lawbook → (c next : ClientState) (x y : Seen) (sent : List ℕ)
     (answer : Option (List ℕ)) → IsLawful c.keys → IsToBePut c question → sent ≡ question.bytes
     → ((names : Names) → x.honest names → y.honest names × Exchanged names x.past sent answered y.past)
     → ((names : Names) → x.honest names → Counted names x.past sent answered y.past x.disturbances y.disturbances) → or_loss answered ≡ Some answer
-    → IsGood c x → next.keys ≡ c.keys → next ≡ taught question answer c
+    → IsGood c x → x.honest (is_planned c.keys) → next.keys ≡ c.keys → next ≡ taught question answer c
     → ArePaid 1 (left_for c x.past) (left_for next y.past) x.disturbances y.disturbances
-paid_one l c next x y sent answered question answer lawful put bytes goes counting is good keys learnt =
+paid_one l c next x y sent answered question answer lawful put bytes goes counting is good honest keys learnt =
     subst (λ ks. ArePaid 1 (left_for c x.past) (left_all ks next.knowns y.past) x.disturbances y.disturbances) (sym keys)
     (subst (λ (s : ClientState). ArePaid 1 (left_for c x.past) (left_all c.keys s.knowns y.past) x.disturbances y.disturbances) (sym learnt)
     (paid (subst (λ b. IsCounted names x.past b answer y.past x.disturbances y.disturbances) bytes
-    (counted names x.past y.past sent answered answer x.disturbances y.disturbances is (counting names good.honest_for)))))
+    (counted names x.past y.past sent answered answer x.disturbances y.disturbances is (counting names honest)))))
   where
     names : Names
     names = is_planned c.keys
 
     hands : HandsOver names x.past question.bytes answer y.past
     hands = subst (λ b. HandsOver names x.past b answer y.past) bytes
-        (handed_over names x.past y.past sent answered answer is (goes names good.honest_for).1)
+        (handed_over names x.past y.past sent answered answer is (goes names honest).1)
 
     paid : IsCounted names x.past question.bytes answer y.past x.disturbances y.disturbances
         → ArePaid 1 (left_for c x.past) (left_all c.keys (known_then c.keys question answer c.knowns) y.past) x.disturbances y.disturbances

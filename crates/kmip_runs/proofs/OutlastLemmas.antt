@@ -6,6 +6,7 @@ use Rattle.kmip_progress.specs.declared.known.Known.{Known}
 use Rattle.kmip_client.specs.Clients.{ClientState}
 use Rattle.kmip_client.specs.Held.{Held, TrueProgress}
 use Rattle.kmip_protocol.specs.Clean.{Disturbances}
+use Rattle.kmip_protocol.specs.Past.{is_planned}
 use Rattle.kmip_protocol.specs.Seen.{Seen}
 use Rattle.kmip_runs.specs.PrivateCampaignParts.{IsNoted, Standing}
 use Rattle.kmip_runs.specs.Driving.{IsGood}
@@ -41,10 +42,10 @@ module _ (keys : List Key) where
   pub outlasted_run : (run : Run) (a b c : ClientState) (x y z : Seen) (driven : Stop × ℕ) (ends nexts : List RunEnd) (saved : List (List Known))
       → a.keys ≡ keys → b.keys ≡ keys → c.keys ≡ keys
       → (All (TrueProgress x.past.objects keys) saved → Held x.past.objects a.keys a.knowns → Held x.past.objects b.keys b.knowns)
-      → (IsGood b x → driven.0 ≢ stops.NoMemory → IsEnough b.keys run.limit x.disturbances y.disturbances → driven.0 ≡ stops.AllFinished)
+      → (IsGood b x → x.honest (is_planned b.keys) → driven.0 ≢ stops.NoMemory → IsEnough b.keys run.limit x.disturbances y.disturbances → driven.0 ≡ stops.AllFinished)
       → driven.0 ≢ stops.NoMemory → IsNoted c.keys run c.knowns driven ends nexts → (z.disturbances ≡ y.disturbances)
-      → Standing keys a x ends saved → HasOutlasted keys run ends nexts x.disturbances z.disturbances
-  outlasted_run run a b c x y z driven ends nexts saved a_keys b_keys c_keys begun outlasts memory noted same standing =
+      → Standing keys a x ends saved → x.honest (is_planned keys) → HasOutlasted keys run ends nexts x.disturbances z.disturbances
+  outlasted_run run a b c x y z driven ends nexts saved a_keys b_keys c_keys begun outlasts memory noted same standing honest =
       let held = begun standing.noted.true_saved standing.good.held in
       let good = good_with a b x (b_keys ∙ sym a_keys) standing.good held in
       record {
@@ -52,6 +53,6 @@ module _ (keys : List Key) where
         joined = noted.joined;
         outlasts = λ enough.
             noted.stop_is
-            ∙ outlasts good memory
+            ∙ outlasts good (subst (λ ks. x.honest (is_planned ks)) (sym b_keys) honest) memory
             (subst (λ ks. IsEnough ks run.limit x.disturbances y.disturbances) (sym b_keys) (subst (λ d. IsEnough keys run.limit x.disturbances d) same enough));
       }

@@ -184,7 +184,8 @@ module _ (plans : List (List Key)) (runs : List (List Run)) where
         honest_still = λ names holds. holds;
         stands = λ start. record {
           good = record {
-            good = record { honest_for = start.honest_for; sound = l.sound (last_plan plans) (first_plan plans) x.past first_lawful lawful prolongs start.none_further start.sound };
+            good = record { amid_for = x.honest_is_amid (last_plan plans) start.honest_for; sound = l.sound (last_plan plans) (first_plan plans) x.past first_lawful lawful prolongs start.none_further start.sound };
+            honest = start.honest_for;
             went = record { onward = r.itself (last_plan plans) x.past.objects; mirrored = λ image. image };
             noted = noted_for_none (last_plan plans) x.past end.runs.items end.saved.items no_end none_saved;
           };
@@ -213,7 +214,8 @@ module _ (plans : List (List Key)) (runs : List (List Run)) where
     good_of start x place end keys carried is lawful_keys before begun =
         let names = l.names (last_plan plans) keys lawful (last_prolongs l plans place keys prolonged is) in
         record {
-          honest_for = (x.fewer (is_planned (last_plan plans)) (is_planned keys) names).0 (before.honest_still (is_planned (last_plan plans)) begun.honest_for);
+          amid_for = x.honest_is_amid keys
+              ((x.fewer (is_planned (last_plan plans)) (is_planned keys) names).0 (before.honest_still (is_planned (last_plan plans)) begun.honest_for));
           sound = (before.stands begun).sound keys is lawful_keys;
         }
 
@@ -272,6 +274,7 @@ module _ (plans : List (List Key)) (runs : List (List Run)) where
               let (last, went) = ended.further.good (last_plan plans) lawful prolongs reached.good.good in
               record {
                 good = last;
+                honest = ran.all.stays_honest (is_planned (last_plan plans)) reached.good.honest;
                 went = record {
                   onward = r.twice (last_plan plans) start.past.objects x.past.objects y.past.objects reached.good.went.onward went.onward;
                   mirrored = λ image. went.mirrored (reached.good.went.mirrored image);

@@ -25,7 +25,7 @@ use Rattle.kmip_runs.specs.declared.run_end.RunEnd.{RunEnd}
 use Rattle.kmip_runs.specs.declared.stop.Stop.{Stop}
 use Rattle.kmip_runs.specs.declared.stop.Stop.TheVariants as stops
 use Rattle.kmip_runs.proofs.CampaignLemmas.{campaigned, good_with, noted_none, opened, true_onward}
-use Rattle.kmip_runs.proofs.FurtherLemmas.{further_nowhere, further_then}
+use Rattle.kmip_runs.proofs.FurtherLemmas.{calm_good, further_nowhere, further_then}
 use Rattle.kmip_runs.proofs.OrderLemmas.{ends_more, saved_long, saves_more, zip_more}
 use Rattle.kmip_runs.proofs.RememberLemmas.{Recalled, recalled_more, recalled_none}
 
@@ -113,7 +113,7 @@ module _ (keys : List Key) (carried : List (List Known)) where
         each = ends_more keys runs at run old.runs.items new.runs.items is before.each b.knowns ran.driven ran.ended.noted;
         settled = λ calmly holds.
             let first = before.settled calmly holds in
-            let good : GoodLink keys start = record { honest_for = start.calm_is_honest (is_planned keys) calmly.calm_for; sound = calmly.sound } in
+            let good = calm_good keys start calmly in
             let (standing, went) = before.stands good holds in
             let second = settles standing (carried_on l start x lawful went holds) first.1 in (
               zip_more (Settles keys) runs at run old.runs.items new.runs.items second.0.end is first.0 second.0.joined second.0.settles,

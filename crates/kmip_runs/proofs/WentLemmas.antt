@@ -12,6 +12,7 @@ use Rattle.kmip_client.specs.Known.{facts, heard, known_after}
 use Rattle.kmip_client.specs.Laws.{HearingIsBlind}
 use Rattle.kmip_client.specs.Shapes.{IsKept}
 use Rattle.kmip_client.specs.declared.knowledge.Knowledge.{Knowledge}
+use Rattle.kmip_protocol.specs.Amid.{PassedAmid}
 use Rattle.kmip_protocol.specs.Laws.{DeliveriesKeepTheRequests}
 use Rattle.kmip_protocol.specs.Moves.{Delivered}
 use Rattle.kmip_protocol.specs.Past.{Names, Past, is_planned}
@@ -296,10 +297,11 @@ went_then l a b c stop result m n memory first second =
 -- the end of the run, after these exchanges
 pub went_closed : {V E : Type 0} → CarryingLaws → (a b : Situation) (z : Seen) (result ended : Result Stop SaveFault) (closed : Result V E) (m : ℕ) → IsLawful a.client.keys
     → ((names : Names) → b.link.honest names → z.honest names × Delivered names b.link.past z.past)
+    → ((keys : List Key) → b.link.amid keys → z.amid keys × PassedAmid keys b.link.past z.past)
     → ((names : Names) → b.link.calm names → z.calm names × OnOk closed (z.past ≡ b.link.past)) → (IsInMemory ended → IsInMemory result)
     → (ended ≡ Ok stops.NoMemory → (result ≡ Ok stops.NoMemory) ⊎ IsInMemory result)
     → (IsWhole ended → IsWhole result × (OnOk closed (z.past ≡ b.link.past) → z.past ≡ b.link.past)) → Went a b result m → Went a (record b { link = z }) ended m
-went_closed l a b z result ended closed m lawful delivers calms memory cut whole first =
+went_closed l a b z result ended closed m lawful delivers passes calms memory cut whole first =
     let keys = first.keeps.keys_stay in
     record {
       good = λ good. (good_closed (first.good good)).0;
@@ -348,11 +350,12 @@ went_closed l a b z result ended closed m lawful delivers calms memory cut whole
   where
     good_closed : IsGood b.client b.link → IsGood b.client z × WentOn b.client.keys b.link.past z.past
     good_closed good =
-        let step = delivers (is_planned b.client.keys) good.honest_for in
-        let on = l.onward b.client.keys b.link.past z.past good.sound step.1 in (
+        let step = passes b.client.keys good.amid_for in
+        let kept = l.passing b.client.keys b.link.past z.past good.sound step.1 in
+        let on = kept.1 in (
           record {
-            honest_for = step.0;
-            sound = l.deliveries b.client.keys b.link.past z.past good.sound step.1;
+            amid_for = step.0;
+            sound = kept.0;
             held = l.known_for_good b.client.keys b.client.knowns b.link.past.objects z.past.objects (subst (λ ks. IsLawful ks) (sym first.keeps.keys_stay) lawful) on good.held;
           },
           record { onward = on; mirrored = λ image. l.images b.client.keys b.link.past z.past good.sound image step.1 },

@@ -36,23 +36,23 @@ situation moment = record { client = moment.client; link = moment.link; keeper =
 
 -- What carrying out a plan promises where all was good before (`IsGood`).
 pub record CarriesOutWell (most : ℕ) (old : Stage) (stopped : Result Stop SaveFault) (made : ℕ) (new : Stage) : Type 0 where
-  -- Where all is good, it is so after it, however it stops: the link is honest for the plan's names,
+  -- Where all is good, it is so after it, however it stops: the link is honest among others of the plan,
   -- all that has happened over it is sound, and what the client knows is true.
   pub good : IsGood new.client new.link
   -- Where all was good (`IsGood`), the objects have gone onward. A past that was an image of the plan
   -- machine is one still.
   pub onward : WentOn old.client.keys old.link.past new.link.past
-  -- Where all was good (`IsGood`), with no premise of calm: the exchanges that were made and those that
+  -- Where all was good (`IsGood`) and nobody else asks, with no premise of calm: the exchanges that were made and those that
   -- are left are no more than were left, and what disturbed exchanges cost. That is said unless it
   -- stops for want of memory, and also where the text of the last one was not saved. What arrives at
   -- the end of the run adds nothing.
-  pub losing : IsInMemory stopped
+  pub losing : old.link.honest (is_planned old.client.keys) → IsInMemory stopped
       → ArePaid made (left_for old.client old.link.past) (left_for new.client new.link.past)
       old.link.disturbances new.link.disturbances
-  -- Where all was good (`IsGood`), it stops with `AllFinished`, unless patience has given up, memory
+  -- Where all was good (`IsGood`) and nobody else asks, it stops with `AllFinished`, unless patience has given up, memory
   -- ran out or a text was not saved. It asks for a limit of at least the plan's bound, one exchange for
   -- each key, and what the disturbed exchanges of the call cost.
-  pub outlasts : new.is_tired ≡ false → IsWhole stopped
+  pub outlasts : old.link.honest (is_planned old.client.keys) → new.is_tired ≡ false → IsWhole stopped
       → IsEnough old.client.keys most old.link.disturbances new.link.disturbances
       → stopped ≡ Ok stops.AllFinished
   -- Where all was good (`IsGood`), it does not stop with `Conflict`.

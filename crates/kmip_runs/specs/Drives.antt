@@ -1,8 +1,10 @@
 -- What driving a client over a link promises, and ending a run.
 -- Source: own (view).
-use Rattle.std.specs.Prelude.{OnErr, OnOk, Result, length, ℕ, ◌+◌, ◌≡◌, ◌≢◌, ◌≤◌}
+use Rattle.std.specs.Prelude.{List, OnErr, OnOk, Result, length, ℕ, ◌+◌, ◌≡◌, ◌≢◌, ◌≤◌}
 use Rattle.kmip_client.specs.Clients.{ClientState}
 use Rattle.kmip_plan.specs.Chains.{bound}
+use Rattle.kmip_plan.specs.declared.key.Key.{Key}
+use Rattle.kmip_protocol.specs.Amid.{PassedAmid}
 use Rattle.kmip_protocol.specs.Ending.{EndedAt}
 use Rattle.kmip_protocol.specs.Moves.{Delivered}
 use Rattle.kmip_protocol.specs.Needs.{chains_and_looks}
@@ -21,20 +23,20 @@ pub record DrivesWell (old : Seen) (client : ClientState) (most : ℕ) (driven :
   -- Where all was good before, the object of each planned name keeps its identifier and never goes back,
   -- and a past that was an image of the plan machine still is.
   pub onward : WentOn client.keys old.past new.past
-  -- Where all was good, with no premise of calm, and unless memory ran out: the exchanges that were made
-  -- and those that may be left are at most those that might be left before, and what the disturbed ones
-  -- cost. Such sums of several calls in a row add up.
-  pub losing : driven.0 ≢ stops.NoMemory
+  -- Where all was good and nobody else asks, with no premise of calm, and unless memory ran out: the exchanges
+  -- that were made and those that may be left are at most those that might be left before, and what the
+  -- disturbed ones cost. Such sums of several calls in a row add up.
+  pub losing : old.honest (is_planned client.keys) → driven.0 ≢ stops.NoMemory
       → ArePaid driven.1 (left_for client old.past) (left_for next new.past) old.disturbances
       new.disturbances
-  -- Where all was good, and unless memory ran out: if `most` is at least the plan's bound, one for each
-  -- key, and what its own disturbed exchanges cost, it stops with `AllFinished`.
-  pub outlasts : driven.0 ≢ stops.NoMemory
+  -- Where all was good and nobody else asks, and unless memory ran out: if `most` is at least the plan's bound,
+  -- one for each key, and what its own disturbed exchanges cost, it stops with `AllFinished`.
+  pub outlasts : old.honest (is_planned client.keys) → driven.0 ≢ stops.NoMemory
       → IsEnough client.keys most old.disturbances new.disturbances → driven.0 ≡ stops.AllFinished
   -- Where all was good, it does not stop in conflict.
   pub no_conflict : driven.0 ≢ stops.Conflict
   -- Where all was good, what holds for a plan that prolongs the client's is kept. Over a link that is
-  -- honest for its names, what was sound for it stays so, its objects go onward, and an image of its
+  -- honest among others of it, what was sound for it stays so, its objects go onward, and an image of its
   -- machine stays one. Over a calm link with room for what that plan misses, there is room still, unless
   -- memory ran out.
   pub further : KeepsFurther client.keys (driven.0 ≢ stops.NoMemory) old new
@@ -135,6 +137,8 @@ pub record ClosesHonestly (names : Names) {E : Type 0} (old : Seen) (closed : Re
 pub record ClosesRun {E : Type 0} (old : Seen) (closed : Result (Unit {0}) E) (new : Seen) (follows : Type 0) : Type 0 where
   -- Over a link that is honest for some names, all of this holds.
   pub honestly : (names : Names) → old.honest names → ClosesHonestly names old closed new
+  -- A link that is honest among others of a plan is so after it. What happened in between may happen there.
+  pub amid : (keys : List Key) → old.amid keys → new.amid keys × PassedAmid keys old.past new.past
   -- A link that is calm for some names is so after it, and unless memory ran out nothing happened.
   pub calm : (names : Names) → old.calm names → new.calm names × OnOk closed (new.past ≡ old.past)
   -- Unless memory ran out, the link after it is what calls made of the link before, as the link itself

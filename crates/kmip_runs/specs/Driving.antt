@@ -33,10 +33,10 @@ use Rattle.kmip_runs.specs.Headline.{GoodLink}
 use Rattle.kmip_runs.specs.declared.stop.Stop.{Stop}
 use Rattle.kmip_runs.specs.declared.stop.Stop.TheVariants as stops
 
--- The link is honest for the plan's names, all that has happened over it is sound, and what the client knows
--- is true.
+-- The link is honest among others of the plan, all that has happened over it is sound, and what the client knows
+-- is true. A link that is honest for the plan's names is so too (`honest_is_amid`).
 pub record IsGood (c : ClientState) (link : Seen) : Type 0 where
-  pub honest_for : link.honest (is_planned c.keys)
+  pub amid_for : link.amid c.keys
   pub sound : Sound c.keys link.past
   pub held : Held link.past.objects c.keys c.knowns
 
@@ -82,7 +82,7 @@ pub record WentOn (keys : List Key) (old new : Past) : Type 0 where
   pub mirrored : IsMirrored keys old → IsMirrored keys new
 
 -- What is kept for a plan that prolongs this one, while this one is carried out. Over a link that is honest
--- for its names, what was sound for it stays so, its objects go onward, and an image of its machine stays
+-- among others of it, what was sound for it stays so, its objects go onward, and an image of its machine stays
 -- one. Over a calm one there is room still for the objects that it misses, where memory did not run out. Own
 -- (law).
 pub record KeepsFurther (keys : List Key) (whole : Type 0) (old new : Seen) : Type 0 where

@@ -5,15 +5,15 @@ use Rattle.std.specs.Prelude.{ℕ, List, [], ◌∷◌, ◌++◌, map, take, fla
 use Rattle.kmip_plan.specs.Chains.{chain}
 use Rattle.kmip_plan.specs.declared.key.Key.{Key}
 use Rattle.kmip_progress.specs.declared.known.Known.{Known}
-use Rattle.kmip_protocol.specs.Past.{is_planned}
 use Rattle.kmip_protocol.specs.Seen.{Seen}
 use Rattle.kmip_protocol.specs.Sound.{Sound}
 use Rattle.kmip_server.specs.declared.effect.Effect.{Effect}
 use Rattle.kmip_runs.specs.declared.run_end.RunEnd.{RunEnd}
 
--- The link is honest for the plan's names, and all that has happened over it is sound.
+-- The link is honest among others of the plan, and all that has happened over it is sound. A link that is honest for
+-- the plan's names is so too (`honest_is_amid`).
 pub record GoodLink (keys : List Key) (link : Seen) : Type 0 where
-  pub honest_for : link.honest (is_planned keys)
+  pub amid_for : link.amid keys
   pub sound : Sound keys link.past
 
 -- the first steps of a key's chain, as many as are counted

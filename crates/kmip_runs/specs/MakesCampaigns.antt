@@ -41,11 +41,11 @@ pub record RunsWell (old : Seen) (keys : List Key) (runs : List Run) (end : Camp
   -- Over a good link the object of each planned name keeps its identifier and never goes back, and a past
   -- that was an image of the plan machine still is.
   pub onward : WentOn keys old.past new.past
-  -- Over a good link, unless memory ran out, each run finishes every key if it may make enough exchanges,
-  -- whatever it began with. Enough are the plan's bound, one for each key, and what the disturbed ones of
+  -- Over a good link where nobody else asks, unless memory ran out, each run finishes every key if it may make
+  -- enough exchanges, whatever it began with. Enough are the plan's bound, one for each key, and what the disturbed ones of
   -- its own exchanges cost. A disturbed exchange costs one, two for each request that it sent, and one for
   -- each reply about another key that the link counts. It is no premise that the link ever stops losing.
-  pub outlasts : end.fault ≡ None
+  pub outlasts : old.honest (is_planned keys) → end.fault ≡ None
       → AllOutlast keys runs end.runs.items old.disturbances new.disturbances
 
 -- The runs of a plan were made in turn over a link: what that makes of the link, and what is noted of it.
@@ -53,6 +53,8 @@ pub record RunsWell (old : Seen) (keys : List Key) (runs : List Run) (end : Camp
 pub record MakesCampaign (old : Seen) (keys : List Key) (runs : List Run) (end : CampaignEnd) (new : Seen) (follows : Type 0) : Type 0 where
   -- Over a good link all of this holds.
   pub well : GoodLink keys old → RunsWell old keys runs end new
+  -- A link that is honest for the plan's names is so after the campaign.
+  pub honest : old.honest (is_planned keys) → new.honest (is_planned keys)
   -- Over any link the ends are those of the first runs, in order. Each is borne out by its own counts and
   -- verdicts (`IsEnd`): its report, the reason why it stopped, and its number of exchanges within the
   -- limit.
@@ -105,8 +107,10 @@ pub record PlansRunWell (old : Seen) (plans : List (List Key)) (end : CampaignEn
       × (IsMirrored (last_plan plans) old.past → IsMirrored (last_plan plans) new.past)
   -- Where the start is good, no run stops in conflict, and no end has a key in conflict.
   pub no_conflict : All HasNoConflict end.runs.items
-  -- Where the start is good, the link is good for the last plan after it: honest, and all is sound.
+  -- Where the start is good, the link is good for the last plan after it.
   pub sound : GoodLink (last_plan plans) new
+  -- Where the start is good, the link is honest for the names of the last plan after it.
+  pub honest : new.honest (is_planned (last_plan plans))
   -- Where the start is good, each saved progress is true of the last plan and of the objects that are there
   -- after it, where nothing is known of the further keys.
   pub true_saved : All (IsTrueFor new.past.objects (last_plan plans)) end.saved.items

@@ -16,7 +16,8 @@ use Rattle.kmip_client.specs.Saving.{known_of}
 use Rattle.kmip_client.specs.Shapes.{IsKept}
 use Rattle.kmip_client.specs.Verdicts.{AreWithin, counts_of, verdicts_of}
 use Rattle.kmip_client.specs.declared.knowledge.Knowledge.{Knowledge}
-use Rattle.kmip_protocol.specs.Laws.{DeliveriesKeepSound, DeliveriesKeepTheImage, ObjectsGoOnward, OpeningIsMirrored, SoundIsSafe}
+use Rattle.kmip_protocol.specs.AmidLaws.{PassingAmidKeepsSound, PassingAmidKeepsTheImage}
+use Rattle.kmip_protocol.specs.Laws.{OpeningIsMirrored, SoundIsSafe}
 use Rattle.kmip_protocol.specs.Past.{Names, is_planned}
 use Rattle.kmip_protocol.specs.Seen.{Seen}
 use Rattle.kmip_protocol.specs.SettlingLaws.{SoundIsReady}
@@ -43,9 +44,8 @@ pub record CampaignLaws : Type 0 where
   pub itself : OnwardToItself
   pub twice : OnwardTwice
   pub known_for_good : HeldForGood
-  pub deliveries : DeliveriesKeepSound
-  pub onward : ObjectsGoOnward
-  pub images : DeliveriesKeepTheImage
+  pub passing : PassingAmidKeepsSound
+  pub images : PassingAmidKeepsTheImage
   pub opening : OpeningIsMirrored
   pub safe : SoundIsSafe
   pub ready : SoundIsReady
@@ -158,8 +158,9 @@ pub record RunsOneWell (keys : List Key) (run : Run) (old : CampaignStage) (resu
   pub further : KeepsFurther keys (result ≡ Ok tt) old.link new.link
   -- Over a calm link it finishes every key if it may make as many exchanges as the plan's bound.
   pub settles : CalmLink keys old.link → OnOk result (HasSettled keys run old.end.runs.items new.end.runs.items × CalmLink keys new.link)
-  -- It finishes every key if its limit is enough.
-  pub outlasts : OnOk result (HasOutlasted keys run old.end.runs.items new.end.runs.items old.link.disturbances new.link.disturbances)
+  -- Where nobody else asks it finishes every key if its limit is enough.
+  pub outlasts : old.link.honest (is_planned keys)
+      → OnOk result (HasOutlasted keys run old.end.runs.items new.end.runs.items old.link.disturbances new.link.disturbances)
 
 -- A run was made, and noted, where this was carried over from earlier plans. `follows` is that the link after
 -- it is what calls made of the link before.
@@ -192,8 +193,8 @@ pub record HasRunWell (keys : List Key) (runs : List Run) (notes : Notes) (whole
   pub campaigned : Campaigned keys old new notes.ends notes.saved
   -- What holds for a plan that prolongs this one is kept.
   pub further : KeepsFurther keys whole old new
-  -- Each run finishes every key if its limit is enough.
-  pub outlasts : whole → AllOutlast keys runs notes.ends old.disturbances new.disturbances
+  -- Where nobody else asks each run finishes every key if its limit is enough.
+  pub outlasts : old.honest (is_planned keys) → whole → AllOutlast keys runs notes.ends old.disturbances new.disturbances
 
 -- The runs of a plan were made in turn, with what was carried over from earlier plans: what stands after
 -- them, and what their ends say. `whole` is that memory did not run out.

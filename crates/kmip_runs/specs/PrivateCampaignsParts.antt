@@ -95,6 +95,7 @@ pub record MakesPart {V : Type 0} (given : Portion) (old : PlanStage) (done : Re
 -- Over a link that is good at the start, all is good for this plan, the last one, after the runs.
 pub record IsGoodFor (keys : List Key) (old new : Seen) (ends : List RunEnd) (saved : List (List Known)) : Type 0 where
   pub good : GoodLink keys new
+  pub honest : new.honest (is_planned keys)
   pub went : WentOn keys old.past new.past
   pub noted : NotedFor keys new.past ends saved
 

@@ -8,7 +8,8 @@ use Rattle.kmip_disk.specs.Whole.{IsWritten, LeavesOneOf}
 use Rattle.kmip_progress.specs.Reading.{read_text}
 use Rattle.kmip_progress.specs.Texts.{progress_text}
 use Rattle.kmip_client.specs.Laws.{OnwardToItself, OnwardTwice, HeldForGood, HeldIsNoConflict, HearingIsBlind}
-use Rattle.kmip_protocol.specs.Laws.{DeliveriesKeepSound, DeliveriesKeepTheImage, DeliveriesKeepTheRequests, ObjectsGoOnward}
+use Rattle.kmip_protocol.specs.AmidLaws.{PassingAmidKeepsSound, PassingAmidKeepsTheImage}
+use Rattle.kmip_protocol.specs.Laws.{DeliveriesKeepTheRequests}
 use Rattle.kmip_protocol.specs.Past.{Names, is_planned}
 use Rattle.kmip_protocol.specs.SettlingLaws.{NeedsAreBounded, WhoIsSettledNeedsNothing, WhoNeedsNothingIsFinished}
 use Rattle.kmip_protocol.specs.LosingLaws.{LateArrivalsAddNothing, LeftIsBounded, NeedsAreLeft}
@@ -31,9 +32,8 @@ pub record CarryingLaws : Type 0 where
   pub known_for_good : HeldForGood
   pub no_conflict : HeldIsNoConflict
   pub blind : HearingIsBlind
-  pub deliveries : DeliveriesKeepSound
-  pub onward : ObjectsGoOnward
-  pub images : DeliveriesKeepTheImage
+  pub passing : PassingAmidKeepsSound
+  pub images : PassingAmidKeepsTheImage
   pub requests : DeliveriesKeepTheRequests
   pub bounded : NeedsAreBounded
   pub needless : WhoNeedsNothingIsFinished
@@ -71,8 +71,8 @@ pub record MakesExchanges (old new : Situation) (result : Result Stop SaveFault)
   pub output : result ≡ Err faults.Output → HasRisen old.keeper.refusals new.keeper.refusals
   -- How the keys stand bears out why no more were made.
   pub stops_for_its_reason : IfOk result (λ stop. IsBorneOut stop new.client.keys new.client.knowns)
-  -- Where all was good, they are paid for.
-  pub losing : IsGood old.client old.link → IsInMemory result
+  -- Where all was good and nobody else asks, they are paid for.
+  pub losing : IsGood old.client old.link → old.link.honest (is_planned old.client.keys) → IsInMemory result
       → ArePaid made (left_for old.client old.link.past) (left_for new.client new.link.past) old.link.disturbances new.link.disturbances
 
 -- One exchange was made at most, and saved.

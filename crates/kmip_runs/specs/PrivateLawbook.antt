@@ -3,7 +3,8 @@
 use Rattle.kmip_plan.specs.Laws.{FoundKeysStand, KeysAreFound}
 use Rattle.kmip_plan.specs.ChainLaws.{ReachedIsWithin}
 use Rattle.kmip_client.specs.Laws.{OnwardToItself, OnwardTwice, HeldForGood, HeldIsNoConflict, HearingIsBlind, JustifiedOfProlonged, LossesTeachNothing, SettledIsNotWorked}
-use Rattle.kmip_protocol.specs.Laws.{ExchangesKeepSound, AnswersAreTrue, DeliveriesKeepSound, ObjectsGoOnward, ExchangesKeepTheImage, NamesOfProlonged}
+use Rattle.kmip_protocol.specs.AmidLaws.{ExchangesAmidKeepSound, ExchangesAmidKeepTheImage}
+use Rattle.kmip_protocol.specs.Laws.{AnswersAreTrue, NamesOfProlonged}
 use Rattle.kmip_protocol.specs.SettlingLaws.{
   CalmTurnsAreNearer,
   NeedsAreBounded,
@@ -29,11 +30,9 @@ pub record Lawbook : Type 0 where
   pub lost : LossesTeachNothing
   pub settled : SettledIsNotWorked
   pub no_conflict : HeldIsNoConflict
-  pub exchanges : ExchangesKeepSound
+  pub exchanges : ExchangesAmidKeepSound
   pub answers : AnswersAreTrue
-  pub deliveries : DeliveriesKeepSound
-  pub onward : ObjectsGoOnward
-  pub images : ExchangesKeepTheImage
+  pub images : ExchangesAmidKeepTheImage
   pub nearer : CalmTurnsAreNearer
   pub bounded : NeedsAreBounded
   pub needless : WhoNeedsNothingIsFinished

@@ -41,8 +41,8 @@ pub record Tries {V : Type 0} (made : V → ℕ) (old : Seen) (client : ClientSt
   pub keeps : Keeps client next
   -- Over a calm link, with a client that was ready to settle, both are so still, and nearer the end.
   pub nearer : IsSettling client old → IfOk done (λ v. Nearer client next old new (made v))
-  -- Where all was good before, it is paid for.
-  pub paid : IsGood client old
+  -- Where all was good before and nobody else asks, it is paid for.
+  pub paid : IsGood client old → old.honest (is_planned client.keys)
       → IfOk done (λ v. ArePaid (made v) (left_for client old.past) (left_for next new.past) old.disturbances new.disturbances)
   -- A link that is honest for some names is so after it.
   pub honest : (names : Names) → old.honest names → new.honest names

@@ -24,9 +24,8 @@ use kmip_plan::chain_laws::steps_have_places;
 use kmip_plan::laws::keys_have_names;
 use kmip_progress::Progress;
 use kmip_protocol::Link;
-use kmip_protocol::laws::{
-    deliveries_keep_sound, objects_go_onward, opening_is_mirrored, sound_is_safe, the_image_is_kept,
-};
+use kmip_protocol::amid_laws::{sound_stays_so_amid_others, the_image_is_kept_amid_others};
+use kmip_protocol::laws::{opening_is_mirrored, sound_is_safe};
 use kmip_protocol::settling_laws::sound_is_ready;
 use kmip_ttlv::NoMemory;
 use std::alloc::Global;
@@ -61,9 +60,8 @@ pub(crate) fn laws_of_runs()
     steps_have_places();
     onward_is_an_order();
     truth_is_for_good();
-    deliveries_keep_sound();
-    objects_go_onward();
-    the_image_is_kept();
+    sound_stays_so_amid_others();
+    the_image_is_kept_amid_others();
     opening_is_mirrored();
     sound_is_safe();
     sound_is_ready();

@@ -19,9 +19,8 @@ use kmip_client::laws::{
 };
 use kmip_progress::laws::texts_are_read_back;
 use kmip_protocol::Link;
-use kmip_protocol::laws::{
-    deliveries_keep_sound, deliveries_keep_the_requests, objects_go_onward, the_image_is_kept,
-};
+use kmip_protocol::amid_laws::{sound_stays_so_amid_others, the_image_is_kept_amid_others};
+use kmip_protocol::laws::deliveries_keep_the_requests;
 use kmip_protocol::losing_laws::{late_arrivals_add_nothing, left_is_bounded};
 use kmip_protocol::settling_laws::{needs_are_bounded, who_needs_nothing_is_finished};
 use kmip_ttlv::NoMemory;
@@ -77,10 +76,9 @@ fn laws_below()
     truth_is_for_good();
     what_is_known_was_heard();
     what_is_true_is_no_conflict();
-    deliveries_keep_sound();
+    sound_stays_so_amid_others();
+    the_image_is_kept_amid_others();
     deliveries_keep_the_requests();
-    objects_go_onward();
-    the_image_is_kept();
     needs_are_bounded();
     who_needs_nothing_is_finished();
     left_is_bounded();

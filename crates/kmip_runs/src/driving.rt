@@ -21,10 +21,8 @@ use kmip_client::laws::{
 use kmip_client::{Client, HearFault, Heard, Part, Question, Verdict};
 use kmip_plan::chain_laws::states_have_places;
 use kmip_plan::laws::keys_have_names;
-use kmip_protocol::laws::{
-    answers_are_true, deliveries_keep_sound, exchanges_keep_sound, objects_go_onward,
-    prolonged_plans_are_sound, the_image_is_kept,
-};
+use kmip_protocol::amid_laws::{sound_stays_so_amid_others, the_image_is_kept_amid_others};
+use kmip_protocol::laws::{answers_are_true, prolonged_plans_are_sound};
 use kmip_protocol::losing_laws::{a_losing_turn_is_bounded, left_is_bounded};
 use kmip_protocol::settling_laws::{
     a_calm_turn_is_nearer, needs_are_bounded, nothing_made_is_ready,
@@ -45,8 +43,9 @@ use std::alloc::Global;
 /// Each key that a message asks about and that no reply of what comes back answers is looked at again: where
 /// nothing comes, where it is no message, and where its replies are to other questions or teach nothing.
 ///
-/// Below, all is good (`IsGood`) where the link is honest for the plan's names, all that has happened over it
-/// is sound, and what the client knows is true.
+/// Below, all is good (`IsGood`) where the link is honest among others of the plan, all that has happened over
+/// it is sound, and what the client knows is true. So other clients of the plan may ask at any moment, each as
+/// it is written here.
 pub fn drive<L: Link>(
     alloc: Global,
     client: &mut Client<'_>,
@@ -79,11 +78,9 @@ fn laws_below()
     what_is_known_was_heard();
     the_settled_are_not_worked_on();
     what_is_true_is_no_conflict();
-    exchanges_keep_sound();
+    sound_stays_so_amid_others();
+    the_image_is_kept_amid_others();
     answers_are_true();
-    deliveries_keep_sound();
-    objects_go_onward();
-    the_image_is_kept();
     nothing_made_is_ready();
     a_calm_turn_is_nearer();
     needs_are_bounded();

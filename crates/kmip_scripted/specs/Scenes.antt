@@ -79,11 +79,13 @@ abbrev pub seen_in : Scene → Seen
 seen_in s = record {
   past = past_in s;
   honest = λ names. ⊤;
+  amid = λ keys. ⊤;
   calm = λ names. s.words ≡ [];
   failures = 0;
   disturbances = disturbances_in s;
   ended = s.ended;
   calm_is_honest = λ names none. tt;
+  honest_is_amid = λ keys honest. tt;
   may_fail = λ names none. refl;
   fewer = λ names few among. (λ honest. honest, λ none. none);
 }

@@ -1,5 +1,7 @@
 //! The link in memory as a link.
-ghost use Rattle.std.specs.Prelude.{◌≡◌, ◌≢◌, [], length, true, Err, IfOk, OnErr, OnOk, option_map};
+ghost use Rattle.std.specs.Prelude.{◌≡◌, ◌≢◌, [], List, length, true, Err, IfOk, OnErr, OnOk, option_map};
+ghost use Rattle.kmip_plan.specs.declared.key.Key.{Key};
+ghost use Rattle.kmip_protocol.specs.Amid.{ExchangedAmid, PassedAmid};
 ghost use Rattle.kmip_protocol.specs.Calm.{CalmlyEnded, CalmlyExchanged};
 ghost use Rattle.kmip_protocol.specs.Clean.{Counted, IsRoomy};
 ghost use Rattle.kmip_protocol.specs.Ending.{Ended};
@@ -12,6 +14,7 @@ ghost use Rattle.kmip_scripted.specs.Scenes.{disturbances_in, past_in};
 ghost use Rattle.kmip_scripted.specs.Words.{AreBegun, IsBegun, after_run, exchange};
 
 use crate::scripted::Scripted;
+use kmip_protocol::amid_laws::what_is_honest_is_amid;
 use kmip_protocol::{Link, LinkFault};
 use kmip_server::Records;
 use kmip_ttlv::NoMemory;
@@ -43,6 +46,9 @@ impl<S: Records> Link for Scripted<S> {
         // For any names, it is an exchange over an honest link.
         ensures honest { (names : Names) → Exchanged names (past_in self.old) request.now
             (answer_in (λ v. v.items) result) (past_in self.new) }
+        // So it is one among others of any plan, of whom none asks.
+        ensures amid { (keys : List Key) → ExchangedAmid keys (past_in self.old) request.now
+            (answer_in (λ v. v.items) result) (past_in self.new) }
         // Where no word was left, none is left, and it is an exchange over a calm link.
         ensures calm { (names : Names) → self.old.words ≡ [] → (self.new.words ≡ [])
             × CalmlyExchanged names (past_in self.old) request.now
@@ -68,6 +74,7 @@ impl<S: Records> Link for Scripted<S> {
         ensures followed { IsInMemory (answer_in (λ v. v.items) result)
             → Follows self.old self.new }
     {
+        what_is_honest_is_amid();
         match self.follow(alloc, request) {
             Ok(answer) => Ok(answer),
             Err(NoMemory) => Err(LinkFault::NoMemory),
@@ -81,6 +88,9 @@ impl<S: Records> Link for Scripted<S> {
         // For any names, no more happened than may over an honest link.
         ensures honest { (names : Names)
             → Delivered names (past_in self.old) (past_in self.new) }
+        // So it is for others of any plan, of whom none asks.
+        ensures amid { (keys : List Key)
+            → PassedAmid keys (past_in self.old) (past_in self.new) }
         // Where no word was left, none is left, and nothing happened, unless memory ran out.
         ensures calm { (names : Names) → self.old.words ≡ [] → (self.new.words ≡ [])
             × CalmlyEnded names result (past_in self.old) (past_in self.new) }
@@ -98,6 +108,7 @@ impl<S: Records> Link for Scripted<S> {
         // Unless memory ran out, the link is what this end of a run made of it.
         ensures followed { IsInMemory result → Follows self.old self.new }
     {
+        what_is_honest_is_amid();
         match self.finish_run(alloc) {
             Ok(()) => Ok(()),
             Err(NoMemory) => Err(LinkFault::NoMemory),

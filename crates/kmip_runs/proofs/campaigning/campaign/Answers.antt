@@ -37,6 +37,7 @@ returns g c =
         onward = (all.well good nothing).campaigned.on;
         outlasts = (all.well good nothing).outlasts;
       };
+      honest = all.stays_honest (is_planned keys);
       order = all.order;
       complete = all.complete;
       fewer = all.fewer;

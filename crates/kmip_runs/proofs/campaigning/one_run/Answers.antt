@@ -125,7 +125,7 @@ returns-in_err-close_run g c =
       suits = search rules;
       well = λ standing holds.
           let all =
-          closed l keys driven old mid new after.runs.items after.saved.items lawful driven_keys (λ names honest. (c.close_run.ensures.honestly names honest).honest)
+          closed l keys driven old mid new after.runs.items after.saved.items lawful driven_keys c.close_run.ensures.amid
           (stood l keys client begun driven old mid c.drive-driven.result.0 end.runs.items after.runs.items end.saved.items after.saved.items
           lawful c.requires.keys c.begin.ensures.keys driven_keys (begins holds)
           (λ good. (drives.well good).good) (λ good. (drives.well good).onward) (λ good. (drives.well good).no_conflict)
@@ -138,7 +138,7 @@ returns-in_err-close_run g c =
                 (further_then l.twice keys old mid new _ _ (λ is. c.in_ok-ending.ensures.is.end_is.in_memory)
                 (driven_further keys carried client begun old mid c.drive-driven.result.0 end.runs.items end.saved.items c.requires.keys c.begin.ensures.keys
                 (begins holds) (λ good. (drives.well good).further) standing)
-                (further_closed l keys mid new c.close_run.result (λ names honest. (c.close_run.ensures.honestly names honest).honest) c.close_run.ensures.calm));
+                (further_closed l keys mid new c.close_run.result c.close_run.ensures.amid c.close_run.ensures.calm));
             settles = search rules;
             outlasts = search rules;
           };
@@ -193,7 +193,7 @@ returns g c =
           subst (λ saved. All P saved) (sym c.note.ensures.saved) (all_saved P ending.saved c.ending_of.new.end.saved.items before own);
       well = λ standing holds.
           let all =
-          closed l keys driven old mid new after.runs.items after.saved.items lawful driven_keys (λ names honest. (c.close_run.ensures.honestly names honest).honest)
+          closed l keys driven old mid new after.runs.items after.saved.items lawful driven_keys c.close_run.ensures.amid
           (stood l keys client begun driven old mid c.drive-driven.result.0 end.runs.items after.runs.items end.saved.items after.saved.items
           lawful c.requires.keys c.begin.ensures.keys driven_keys (begins holds)
           (λ good. (drives.well good).good) (λ good. (drives.well good).onward) (λ good. (drives.well good).no_conflict)
@@ -207,18 +207,18 @@ returns g c =
                 (further_then l.twice keys old mid new _ _ (λ is. memory)
                 (driven_further keys carried client begun old mid c.drive-driven.result.0 end.runs.items end.saved.items c.requires.keys c.begin.ensures.keys
                 (begins holds) (λ good. (drives.well good).further) standing)
-                (further_closed l keys mid new c.close_run.result (λ names honest. (c.close_run.ensures.honestly names honest).honest) c.close_run.ensures.calm));
+                (further_closed l keys mid new c.close_run.result c.close_run.ensures.amid c.close_run.ensures.calm));
             settles = λ calmly.
                 if_ok c.close_run.result (search rules)
                 (settled_run keys l c.args.run client begun driven old mid new c.drive-driven.result end.runs.items after.runs.items end.saved.items
                 c.close_run.result c.requires.keys c.begin.ensures.keys driven_keys (begins holds) (λ good. (drives.well good).good)
                 (λ settling. (drives.calmly settling).settles) (λ settling. (drives.calmly settling).calm) memory ended.noted
                 c.close_run.ensures.calm standing calmly);
-            outlasts =
-                let still = drives.honest (is_planned client.keys) standing.good.honest_for in
+            outlasts = λ honest.
+                let still = drives.honest (is_planned keys) honest in
                 outlasted_run keys c.args.run client begun driven old mid new c.drive-driven.result end.runs.items after.runs.items end.saved.items
                 c.requires.keys c.begin.ensures.keys driven_keys (begins holds) (λ good. (drives.well good).outlasts) memory ended.noted
-                (c.close_run.ensures.honestly (is_planned client.keys) still).undisturbed standing;
+                (c.close_run.ensures.honestly (is_planned keys) still).undisturbed standing honest;
           };
       honest = λ names honest. (c.close_run.ensures.honestly names (drives.honest names honest)).honest.0;
       ran =

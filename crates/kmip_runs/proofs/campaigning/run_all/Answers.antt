@@ -28,7 +28,7 @@ returns g c =
             record {
               campaigned = well.campaigned;
               further = further_if keys old new _ _ whole well.further;
-              outlasts = λ is. well.outlasts (whole is);
+              outlasts = λ honest is. well.outlasts honest (whole is);
             };
         order = all.order;
         complete = λ is. all.complete (whole is);

@@ -39,7 +39,7 @@ returns-then-is_empty g c =
             record {
               campaigned = nothing.0;
               further = nothing.1;
-              outlasts = λ is.
+              outlasts = λ honest is.
                   subst (λ rs. AllOutlast keys rs end.runs.items old.disturbances old.disturbances) (sym none)
                   (outlast_none keys [] end.runs.items _ _ c.requires.no_end refl);
             };
@@ -75,7 +75,7 @@ returns-in_err-client g c =
             record {
               campaigned = nothing.0;
               further = nothing.1;
-              outlasts = λ is. no_ok c.from_residual.result tt failed is;
+              outlasts = λ honest is. no_ok c.from_residual.result tt failed is;
             };
         order = search rules;
         complete = λ is. no_ok c.from_residual.result tt failed is;
@@ -96,7 +96,7 @@ loop-place-init g c = record {
       running_none c.args.plan.now c.args.carried.now c.laws_of_runs.ensures c.in_ok-client.client (g.L.Link.seen c.args.link.now) c.args.runs.now c.args.end.now.runs.items
       c.args.end.now.saved.items c.in_ok-client.ensures.fresh c.in_ok-client.ensures.held c.requires.no_end c.requires.none_saved;
   ended = λ honest. join_none [] c.args.end.now.runs.items ⊤ _ _ _ _ c.requires.no_end refl (λ is. refl);
-  outlasted = λ good holds. outlast_none c.args.plan.now c.args.runs.now c.args.end.now.runs.items _ _ c.requires.no_end refl;
+  outlasted = λ good holds honest. outlast_none c.args.plan.now c.args.runs.now c.args.end.now.runs.items _ _ c.requires.no_end refl;
   followed = g.met.L.Link.itself c.args.link.now;
   turned = none_turned c.args.plan.now c.args.carried.now c.args.runs.now c.in_ok-client.client _ (g.L.Link.seen c.args.link.now).past c.args.end.now.runs.items
       c.args.end.now.saved.items c.in_ok-client.ensures.fresh c.requires.no_end c.requires.none_saved;
@@ -128,7 +128,7 @@ returns-in_err-one_run g c =
             after.runs.items end.saved.items after.saved.items c.keys.ensures.lawful c.one_run.ensures.keys_stay before
             (λ standing holds. let well = c.one_run.ensures.well standing holds in (well.standing, well.onward))
             (λ standing holds. further_if keys mid new _ _ (λ is. no_ok result tt failed is) (c.one_run.ensures.well standing holds).further) good holds in
-            record { campaigned = off.0; further = off.1; outlasts = λ is. no_ok result tt failed is };
+            record { campaigned = off.0; further = off.1; outlasts = λ honest is. no_ok result tt failed is };
         order = ends_same keys runs c.loop-place.place end.runs.items after.runs.items same before.each;
         complete = λ is. no_ok result tt failed is;
         fewer = λ not. let long = ap length same in omega (arith, below, long, before.as_many_ends);
@@ -164,7 +164,7 @@ loop-place-preserved g c =
           join_then [] c.loop-place.end.runs.items c.one_run.new.end.runs.items ⊤ ⊤ _ _ _ _ _ _ tt (c.loop-place.invariant.ended honest)
           (join_if c.loop-place.end.runs.items c.one_run.new.end.runs.items _ ⊤ _ _ _ _ (λ is. search rules)
           (c.one_run.ensures.ended (c.loop-place.invariant.running.honest_still (is_planned c.args.plan.now) honest)));
-      outlasted = λ good holds.
+      outlasted = λ good holds honest.
           let (standing, went) = c.loop-place.invariant.running.stands good holds in
           let now =
           carried_on c.args.plan.now c.args.carried.now c.laws_of_runs.ensures (g.L.Link.seen c.args.link.now) (g.L.Link.seen c.loop-place.link)
@@ -174,7 +174,8 @@ loop-place-preserved g c =
           (λ n. AllOutlast c.args.plan.now (take n c.args.runs.now) c.one_run.new.end.runs.items (g.L.Link.seen c.args.link.now).disturbances (g.L.Link.seen c.one_run.new.link).disturbances)
           (sym e)
           (outlast_more c.args.plan.now c.args.runs.now c.loop-place.place _ c.loop-place.end.runs.items c.one_run.new.end.runs.items _ _ _
-          (slice_get-get_or c.args.runs.now c.loop-place.place _ below) (c.loop-place.invariant.outlasted good holds) (c.in_ok-one_run.ensures.well standing now).outlasts);
+          (slice_get-get_or c.args.runs.now c.loop-place.place _ below) (c.loop-place.invariant.outlasted good holds honest)
+          ((c.in_ok-one_run.ensures.well standing now).outlasts (c.loop-place.invariant.running.honest_still (is_planned c.args.plan.now) honest)));
       followed = g.met.L.Link.twice c.args.link.now c.loop-place.link c.one_run.new.link c.loop-place.invariant.followed c.in_ok-one_run.ensures.followed;
       turned =
           more_turned c.args.plan.now c.args.carried.now c.args.runs.now c.loop-place.client c.one_run.new.client _ _ (g.L.Link.seen c.args.link.now).past
@@ -202,8 +203,8 @@ returns g c =
         well = λ good holds. record {
           campaigned = campaigned keys c.loop-place.client old new end.runs.items end.saved.items before.keys_are (before.stands good holds);
           further = further_if keys old new ⊤ _ (λ is. tt) (before.further good holds);
-          outlasts = λ is.
-              subst (λ rs. AllOutlast keys rs end.runs.items old.disturbances new.disturbances) all (c.loop-place.invariant.outlasted good holds);
+          outlasts = λ honest is.
+              subst (λ rs. AllOutlast keys rs end.runs.items old.disturbances new.disturbances) all (c.loop-place.invariant.outlasted good holds honest);
         };
         order = ends_all keys runs c.loop-place.place end.runs.items before.each;
         complete = λ is.

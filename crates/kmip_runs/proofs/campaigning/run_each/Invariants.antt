@@ -18,6 +18,7 @@ invariant-loop-place g l = record {
   ended : (g.L.Link.seen l.fn.link).honest (is_planned l.fn.plan)
       → EndsJoin [] l.end.runs.items ⊤ (length (g.L.Link.seen l.fn.link).past.sent) (length (g.L.Link.seen l.link).past.sent) (g.L.Link.seen l.fn.link).ended (g.L.Link.seen l.link).ended;
   outlasted : GoodLink l.fn.plan (g.L.Link.seen l.fn.link) → All (TrueProgress (g.L.Link.seen l.fn.link).past.objects l.fn.plan) l.fn.carried
+      → (g.L.Link.seen l.fn.link).honest (is_planned l.fn.plan)
       → AllOutlast l.fn.plan (take l.place l.runs) l.end.runs.items (g.L.Link.seen l.fn.link).disturbances (g.L.Link.seen l.link).disturbances;
   followed : g.L.Link.follows l.fn.link l.link;
   turned : TurnedSoFar l.fn.plan l.fn.carried l.runs l.client ((g.L.Link.seen l.fn.link).honest (is_planned l.fn.plan)) (g.L.Link.seen l.fn.link).past (g.L.Link.seen l.link).past

@@ -37,22 +37,23 @@ returns g c =
     let stands = stands_last next close.result done.result.0 last end.whole end.stop end.fault made.stops_for_its_reason in
     let ended =
     carried_closed laws before between new done.result.0 last close.result done.result.1 lawful
-    (λ names honest. (close.ensures.honestly names honest).honest) close.ensures.calm end.whole end.stop end.fault first in
+    (λ names honest. (close.ensures.honestly names honest).honest) close.ensures.amid close.ensures.calm end.whole end.stop end.fault first in
     let carried = carried_kept before unshut (kept shut.new.self) last shut.result done.result.1 shut.ensures.kept shut.ensures.lasts ended in
     record {
       well = λ good.
-          let paid : IsInMemory last → ArePaid done.result.1 (left_for client old.past) (left_for next new.past) old.disturbances new.disturbances =
-          λ memory.
+          let paid : old.honest names → IsInMemory last → ArePaid done.result.1 (left_for client old.past) (left_for next new.past) old.disturbances new.disturbances =
+          λ honest memory.
           paid_closed laws next mid new done.result.1 (left_for client old.past) old.disturbances
           (subst IsLawful (sym first.went.keeps.keys_stay) lawful) (first.went.good good)
+          (subst (λ ks. mid.honest (is_planned ks)) (sym first.went.keeps.keys_stay) (first.went.learns honest).0)
           (λ names honest. (close.ensures.honestly names honest).honest) (λ names honest. (close.ensures.honestly names honest).undisturbed)
-          (made.losing good (memory_before close.result done.result.0 last end.whole end.stop end.fault memory)) in
+          (made.losing good honest (memory_before close.result done.result.0 last end.whole end.stop end.fault memory)) in
           record {
             good = carried.went.good good;
             onward = carried.went.onward good;
             losing = paid;
-            outlasts = λ patient whole enough.
-                outlasted laws client next old new last done.result.1 c.args.limit lawful good (carried.went.good good) paid stands
+            outlasts = λ honest patient whole enough.
+                outlasted laws client next old new last done.result.1 c.args.limit lawful good (carried.went.good good) (paid honest) stands
                 (λ is. unless_given_up _ _ _ _ done.ensures.limit patient (limit is)) whole enough;
             no_conflict = good_end laws before after last done.result.1 carried.went stands good;
           };

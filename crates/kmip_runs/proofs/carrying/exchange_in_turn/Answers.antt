@@ -1,5 +1,5 @@
 -- Exchange by exchange.
-use Rattle.std.proofs.Common.{◌≡◌, ◌∙◌, Ok, ap, length, sym, refl, rules, arith}
+use Rattle.std.proofs.Common.{◌≡◌, ◌∙◌, Ok, ap, length, sym, subst, refl, rules, arith}
 use Rattle.kmip_protocol.specs.Past.{is_planned}
 use Rattle.kmip_runs.specs.Losing.{left_for}
 use Rattle.kmip_runs.specs.declared.stop.Stop.TheVariants as stops
@@ -18,7 +18,7 @@ loop-made-init g c = record {
   patient = refl;
   counted = omega arith;
   ended = λ honest. refl;
-  paid = λ good. paid_none (left_for c.args.client.now (g.L.Link.seen c.args.link.now).past) (g.L.Link.seen c.args.link.now).disturbances;
+  paid = λ good honest. paid_none (left_for c.args.client.now (g.L.Link.seen c.args.link.now).past) (g.L.Link.seen c.args.link.now).disturbances;
 }
 
 pub returns-then-not-is_at_limit : goal.returns-then-not-is_at_limit
@@ -36,9 +36,10 @@ returns-then-not-is_at_limit g c =
         counted = search rules;
         output = λ is. rises_from _ _ _ before.counted (made.output is);
         stops_for_its_reason = search rules;
-        losing = λ good memory.
-            let first = before.paid good in
-            let second = made.losing (before.carried.went.good good) memory in
+        losing = λ good honest memory.
+            let first = before.paid good honest in
+            let second = made.losing (before.carried.went.good good) 
+            (subst (λ ks. (g.L.Link.seen c.loop-made.link).honest (is_planned ks)) (sym before.carried.went.keeps.keys_stay) (before.carried.went.learns honest).0) memory in
             omega (arith, first, second);
       };
       limit = search rules;
@@ -72,9 +73,11 @@ loop-made-preserved g c =
       ended = λ honest.
           let still = (c.loop-made.invariant.carried.went.learns honest).0 in
           step.ensures.ended (is_planned c.args.client.now.keys) still ∙ c.loop-made.invariant.ended honest;
-      paid = λ good.
-          let first = c.loop-made.invariant.paid good in
-          let second = made.losing (c.loop-made.invariant.carried.went.good good) (limit_in_memory step.result.0 limit) in
+      paid = λ good honest.
+          let first = c.loop-made.invariant.paid good honest in
+          let second = made.losing (c.loop-made.invariant.carried.went.good good)
+              (subst (λ ks. (g.L.Link.seen c.loop-made.link).honest (is_planned ks)) (sym c.loop-made.invariant.carried.went.keeps.keys_stay)
+              (c.loop-made.invariant.carried.went.learns honest).0) (limit_in_memory step.result.0 limit) in
           let one = step.ensures.limit limit in
           omega (arith, first, second, one);
     }
@@ -109,9 +112,11 @@ returns-then-not-go_on g c =
         counted = search rules;
         output = search rules;
         stops_for_its_reason = search rules;
-        losing = λ good memory.
-            let first = c.loop-made.invariant.paid good in
-            let second = made.losing (c.loop-made.invariant.carried.went.good good) (limit_in_memory step.result.0 limit) in
+        losing = λ good honest memory.
+            let first = c.loop-made.invariant.paid good honest in
+            let second = made.losing (c.loop-made.invariant.carried.went.good good)
+              (subst (λ ks. (g.L.Link.seen c.loop-made.link).honest (is_planned ks)) (sym c.loop-made.invariant.carried.went.keeps.keys_stay)
+              (c.loop-made.invariant.carried.went.learns honest).0) (limit_in_memory step.result.0 limit) in
             let one = step.ensures.limit limit in
             omega (arith, first, second, one);
       };
@@ -134,8 +139,8 @@ returns g c =
         counted = search rules;
         output = search rules;
         stops_for_its_reason = search rules;
-        losing = λ good memory.
-            let paid = c.loop-made.invariant.paid good in
+        losing = λ good honest memory.
+            let paid = c.loop-made.invariant.paid good honest in
             omega (arith, made, paid);
       };
       limit = search rules;

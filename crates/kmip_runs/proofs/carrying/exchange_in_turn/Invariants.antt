@@ -15,6 +15,6 @@ invariant-loop-made g l = record {
   patient : g.P.Patience.has_given_up l.patience ≡ g.P.Patience.has_given_up l.fn.patience;
   counted : (g.K.Keeper.kept l.fn.keeper).refusals ≤ (g.K.Keeper.kept l.keeper).refusals;
   ended : (g.L.Link.seen l.fn.link).honest (is_planned l.fn.client.keys) → (g.L.Link.seen l.link).ended ≡ (g.L.Link.seen l.fn.link).ended;
-  paid : IsGood l.fn.client (g.L.Link.seen l.fn.link)
+  paid : IsGood l.fn.client (g.L.Link.seen l.fn.link) → (g.L.Link.seen l.fn.link).honest (is_planned l.fn.client.keys)
       → ArePaid l.made (left_for l.fn.client (g.L.Link.seen l.fn.link).past) (left_for l.client (g.L.Link.seen l.link).past) (g.L.Link.seen l.fn.link).disturbances (g.L.Link.seen l.link).disturbances;
 }

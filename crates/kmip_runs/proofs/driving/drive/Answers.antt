@@ -40,7 +40,7 @@ pub loop-made-init : goal.loop-made-init
 loop-made-init g c = record {
   driven = driven_none c.laws_below.ensures c.args.client.now (g.L.Link.seen c.args.link.now);
   ended = λ names honest. refl;
-  paid = λ good. paid_none (left_for c.args.client.now (g.L.Link.seen c.args.link.now).past) (g.L.Link.seen c.args.link.now).disturbances;
+  paid = λ good honest. paid_none (left_for c.args.client.now (g.L.Link.seen c.args.link.now).past) (g.L.Link.seen c.args.link.now).disturbances;
   turned = turned_none _ c.args.client.now (g.L.Link.seen c.args.link.now).past;
   followed = g.met.L.Link.itself c.args.link.now;
 }
@@ -53,14 +53,15 @@ returns-in-Ok-false g c = record {
         went_then c.laws_below.ensures c.args.client.now.keys (g.L.Link.seen c.args.link.now).past (g.L.Link.seen c.loop-made.link).past (g.L.Link.seen c.turn.new.link).past (c.loop-made.invariant.driven.onward good)
         (subst (λ ks. WentOn ks (g.L.Link.seen c.loop-made.link).past (g.L.Link.seen c.turn.new.link).past) c.loop-made.invariant.driven.keeps.keys_stay (c.turn.ensures.well (c.loop-made.invariant.driven.good good)).onward);
     -- a last turn that asked nothing
-    losing = λ memory.
+    losing = λ honest memory.
         let last =
         subst (λ asked. ArePaid (one_if asked) (left_for c.loop-made.client (g.L.Link.seen c.loop-made.link).past) (left_for c.turn.new.client (g.L.Link.seen c.turn.new.link).past)
         (g.L.Link.seen c.loop-made.link).disturbances (g.L.Link.seen c.turn.new.link).disturbances) c.in-Ok-false.field-0-test
-        (c.in-Ok-false.ensures.tries.paid (c.loop-made.invariant.driven.good good)) in
-        let first = c.loop-made.invariant.paid good in
+        (c.in-Ok-false.ensures.tries.paid (c.loop-made.invariant.driven.good good)
+        (still_honest (g.L.Link.seen c.args.link.now) (g.L.Link.seen c.loop-made.link) c.args.client.now c.loop-made.client c.loop-made.invariant.driven.keeps (c.loop-made.invariant.driven.honest_still (is_planned c.args.client.now.keys)) honest)) in
+        let first = c.loop-made.invariant.paid good honest in
         omega (arith, first, last);
-    outlasts = λ memory enough.
+    outlasts = λ honest memory enough.
         let still = (c.turn.ensures.well (c.loop-made.invariant.driven.good good)).good in
         finished_stop c.turn.new.client.keys c.turn.new.client.knowns c.stop_of.result
         (paid_end c.laws_below.ensures c.turn.new.client (g.L.Link.seen c.turn.new.link) still (c.in-Ok-false.ensures.settled c.in-Ok-false.field-0-test))
@@ -177,8 +178,8 @@ returns-in-Err g c = record {
     onward =
         went_then c.laws_below.ensures c.args.client.now.keys (g.L.Link.seen c.args.link.now).past (g.L.Link.seen c.loop-made.link).past (g.L.Link.seen c.turn.new.link).past (c.loop-made.invariant.driven.onward good)
         (subst (λ ks. WentOn ks (g.L.Link.seen c.loop-made.link).past (g.L.Link.seen c.turn.new.link).past) c.loop-made.invariant.driven.keeps.keys_stay (c.turn.ensures.well (c.loop-made.invariant.driven.good good)).onward);
-    losing = λ memory. absurd (memory refl);
-    outlasts = λ memory enough. absurd (memory refl);
+    losing = λ honest memory. absurd (memory refl);
+    outlasts = λ honest memory enough. absurd (memory refl);
     no_conflict = search rules;
     further = (further_last c.laws_below.ensures c.args.client.now c.loop-made.client c.turn.new.client (g.L.Link.seen c.args.link.now) (g.L.Link.seen c.loop-made.link) (g.L.Link.seen c.turn.new.link) c.loop-made.made _ c.loop-made.invariant.driven (λ good. further_if c.loop-made.client.keys (g.L.Link.seen c.loop-made.link) (g.L.Link.seen c.turn.new.link) _ _ (λ is. absurd (is refl)) (c.turn.ensures.well good).further)) good;
   };
@@ -256,11 +257,12 @@ loop-made-preserved g c =
           });
       ended = λ names honest.
           c.turn.ensures.tries.ended names (c.loop-made.invariant.driven.honest_still names honest) ∙ c.loop-made.invariant.ended names honest;
-      paid = λ good.
-          paid_then c.loop-made.made 1 _ _ _ _ _ _ (c.loop-made.invariant.paid good)
+      paid = λ good honest.
+          paid_then c.loop-made.made 1 _ _ _ _ _ _ (c.loop-made.invariant.paid good honest)
           (subst (λ asked. ArePaid (one_if asked) (left_for c.loop-made.client (g.L.Link.seen c.loop-made.link).past) (left_for c.turn.new.client (g.L.Link.seen c.turn.new.link).past)
           (g.L.Link.seen c.loop-made.link).disturbances (g.L.Link.seen c.turn.new.link).disturbances) c.in-Ok-true.field-0-test
-          (c.in-Ok-true.ensures.tries.paid (c.loop-made.invariant.driven.good good)));
+          (c.in-Ok-true.ensures.tries.paid (c.loop-made.invariant.driven.good good)
+          (still_honest (g.L.Link.seen c.args.link.now) (g.L.Link.seen c.loop-made.link) c.args.client.now c.loop-made.client c.loop-made.invariant.driven.keeps (c.loop-made.invariant.driven.honest_still (is_planned c.args.client.now.keys)) honest)));
       turned =
           turned_more _ _ c.loop-made.made c.args.client.now c.loop-made.client c.turn.new.client (g.L.Link.seen c.args.link.now).past (g.L.Link.seen c.loop-made.link).past (g.L.Link.seen c.turn.new.link).past
           (still_honest (g.L.Link.seen c.args.link.now) (g.L.Link.seen c.loop-made.link) c.args.client.now c.loop-made.client c.loop-made.invariant.driven.keeps
@@ -277,15 +279,15 @@ returns g c = record {
   well = λ good. record {
     good = c.loop-made.invariant.driven.good good;
     onward = c.loop-made.invariant.driven.onward good;
-    losing = λ memory.
+    losing = λ honest memory.
         let made = all_made c.loop-made.made c.args.limit c.loop-made-test.false c.loop-made.auto.made-end in
-        let paid = c.loop-made.invariant.paid good in
+        let paid = c.loop-made.invariant.paid good honest in
         omega (arith, made, paid);
-    outlasts = λ memory enough.
+    outlasts = λ honest memory enough.
         let made = all_made c.loop-made.made c.args.limit c.loop-made-test.false c.loop-made.auto.made-end in
         let paid =
         subst (λ n. ArePaid n (left_for c.args.client.now (g.L.Link.seen c.args.link.now).past) (left_for c.loop-made.client (g.L.Link.seen c.loop-made.link).past) (g.L.Link.seen c.args.link.now).disturbances
-        (g.L.Link.seen c.loop-made.link).disturbances) made (c.loop-made.invariant.paid good) in
+        (g.L.Link.seen c.loop-made.link).disturbances) made (c.loop-made.invariant.paid good honest) in
         finished_stop c.loop-made.client.keys c.loop-made.client.knowns c.stop_of-2.result
         (paid_limit c.laws_below.ensures c.args.client.now c.loop-made.client (g.L.Link.seen c.args.link.now) (g.L.Link.seen c.loop-made.link) c.args.limit
         c.plan-plan.ensures.lawful good (c.loop-made.invariant.driven.good good) paid enough)

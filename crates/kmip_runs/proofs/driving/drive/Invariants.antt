@@ -11,7 +11,7 @@ abbrev pub invariant-loop-made : goal.invariant-loop-made
 invariant-loop-made g l = record {
   driven : Driven l.fn.client l.client (g.L.Link.seen l.fn.link) (g.L.Link.seen l.link) l.made;
   ended : (names : Names) → (g.L.Link.seen l.fn.link).honest names → (g.L.Link.seen l.link).ended ≡ (g.L.Link.seen l.fn.link).ended;
-  paid : IsGood l.fn.client (g.L.Link.seen l.fn.link)
+  paid : IsGood l.fn.client (g.L.Link.seen l.fn.link) → (g.L.Link.seen l.fn.link).honest (is_planned l.fn.client.keys)
       → ArePaid l.made (left_for l.fn.client (g.L.Link.seen l.fn.link).past) (left_for l.client (g.L.Link.seen l.link).past) (g.L.Link.seen l.fn.link).disturbances (g.L.Link.seen l.link).disturbances;
   turned : HasTurned ((g.L.Link.seen l.fn.link).honest (is_planned l.fn.client.keys)) l.made l.fn.client l.client (g.L.Link.seen l.fn.link).past (g.L.Link.seen l.link).past;
   followed : g.L.Link.follows l.fn.link l.link;

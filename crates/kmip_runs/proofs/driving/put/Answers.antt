@@ -50,7 +50,7 @@ returns-in_default g c =
       well = λ good just.
           let may = subst (λ bytes. JustifiedMessage client.keys old.past.objects bytes) (sym c.as_slice.ensures) just in
           let stays =
-          left l client old new c.as_slice.result.now _ lawful good may (λ names honest. (c.exchange.ensures.honestly names honest).honest) in
+          left l client old new c.as_slice.result.now _ lawful good may c.exchange.ensures.amid in
           let left =
           good_left client next old new stays c.lose_each.ensures.kept.keys_stay (c.lose_each.ensures.held new.past.objects stays.held) in
           record {
@@ -58,7 +58,7 @@ returns-in_default g c =
             onward = left.1;
             further =
                 further_asked l client old new c.as_slice.result.now _ c.requires.places c.args.question.now _ lawful c.requires.about c.as_slice.ensures
-                (λ names honest. (c.exchange.ensures.honestly names honest).honest) (λ names calm. (c.exchange.ensures.calmly names calm).calm)
+                c.exchange.ensures.amid (λ names calm. (c.exchange.ensures.calmly names calm).calm)
                 (λ is. absurd cc) may good;
           };
       honestly = λ honest. record {
@@ -96,11 +96,11 @@ returns g c =
             (nearer_one l client next old new c.as_slice.result.now _ question _ lawful c.requires c.as_slice.ensures
             (λ names calm. (c.exchange.ensures.calmly names calm).calm) (sym c.in-Ok.ensures) settling c.learn.ensures.kept.keys_stay)
             c.learn.ensures.taught;
-        paid = λ good.
+        paid = λ good honest.
             on_ok c.learn.result
             (paid_one l client next old new c.as_slice.result.now _ question _ lawful c.requires c.as_slice.ensures
             (λ names honest. (c.exchange.ensures.honestly names honest).honest) (λ names honest. (c.exchange.ensures.honestly names honest).disturbed)
-            (sym c.in-Ok.ensures) good c.learn.ensures.kept.keys_stay)
+            (sym c.in-Ok.ensures) good honest c.learn.ensures.kept.keys_stay)
             c.learn.ensures.taught;
         honest = λ names honest. (c.exchange.ensures.honestly names honest).honest.0;
         ended = search rules;
@@ -109,10 +109,10 @@ returns g c =
       well = λ good just.
           let may = subst (λ bytes. JustifiedMessage client.keys old.past.objects bytes) (sym c.as_slice.ensures) just in
           let stays =
-          left l client old new c.as_slice.result.now _ lawful good may (λ names honest. (c.exchange.ensures.honestly names honest).honest) in
+          left l client old new c.as_slice.result.now _ lawful good may c.exchange.ensures.amid in
           let so =
           told l client.keys old.past new.past c.as_slice.result.now _ _ stays.sound (sym c.in-Ok.ensures)
-          (c.exchange.ensures.honestly names good.honest_for).honest.1 in
+          (c.exchange.ensures.amid client.keys good.amid_for).1 in
           let left =
           good_left client next old new stays c.learn.ensures.kept.keys_stay
           (c.learn.ensures.held new.past.objects stays.held (if_handed _ c.in-Ok.answer (λ v. v.items) so)) in
@@ -121,7 +121,7 @@ returns g c =
             onward = left.1;
             further =
                 further_asked l client old new c.as_slice.result.now _ c.requires.places question _ lawful c.requires.about c.as_slice.ensures
-                (λ names honest. (c.exchange.ensures.honestly names honest).honest) (λ names calm. (c.exchange.ensures.calmly names calm).calm)
+                c.exchange.ensures.amid (λ names calm. (c.exchange.ensures.calmly names calm).calm)
                 (λ is. (_, sym c.in-Ok.ensures)) may good;
           };
       honestly = λ honest. record {

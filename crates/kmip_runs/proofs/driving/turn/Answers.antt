@@ -45,7 +45,7 @@ returns-in_err-question g c =
       tries = record {
         keeps = subst (λ s. Keeps client s) (sym same) (keeps_itself client);
         nearer = λ settling. if_err _ result failed;
-        paid = λ good. if_err _ result failed;
+        paid = λ good honest. if_err _ result failed;
         honest = λ names honest. honest;
         ended = λ names honest. refl;
         followed = search rules;
@@ -78,13 +78,13 @@ returns-in_default g c =
       tries = record {
         keeps = keeps_asked client c.ask.new.self turn;
         nearer = nearer_asked client c.ask.new.self link turn;
-        paid = λ good. subst (λ s. ArePaid 0 left (left_for s link.past) lost lost) (sym turn) (paid_none left lost);
+        paid = λ good honest. subst (λ s. ArePaid 0 left (left_for s link.past) lost lost) (sym turn) (paid_none left lost);
         honest = λ names honest. honest;
         ended = λ names honest. refl;
         followed = g.met.L.Link.itself c.args.link.now;
       };
       well = λ good. record {
-        good = subst (λ s. IsGood s link) (sym turn) (record { honest_for = good.honest_for; sound = good.sound; held = good.held });
+        good = subst (λ s. IsGood s link) (sym turn) (record { amid_for = good.amid_for; sound = good.sound; held = good.held });
         onward = went_nowhere c.laws_below.ensures client.keys link.past;
         further = further_nowhere c.laws_below.ensures.itself client.keys link _;
       };
@@ -122,7 +122,7 @@ returns-in_err-put g c =
       tries = record {
         keeps = keeps_then client asked next (keeps_asked client asked turn) c.put.ensures.tries.keeps;
         nearer = λ settling. if_err _ result failed;
-        paid = λ good. if_err _ result failed;
+        paid = λ good honest. if_err _ result failed;
         honest = c.put.ensures.tries.honest;
         ended = c.put.ensures.tries.ended;
         followed = search rules;
@@ -174,8 +174,9 @@ returns g c =
         nearer = λ settling.
             let first = nearer_asked client asked link turn settling in
             nearer_then client asked next link link new 0 1 (asks_one client asked (keeps_asked client asked turn)) first (put.tries.nearer first.settling);
-        paid = λ good.
-            subst (λ s. ArePaid 1 (left_for s link.past) (left_for next new.past) link.disturbances new.disturbances) turn (put.tries.paid (may good).0);
+        paid = λ good honest.
+            subst (λ s. ArePaid 1 (left_for s link.past) (left_for next new.past) link.disturbances new.disturbances) turn
+            (put.tries.paid (may good).0 (subst (λ (s : ClientState). link.honest (is_planned s.keys)) (sym turn) honest));
         honest = put.tries.honest;
         ended = put.tries.ended;
         followed = put.tries.followed;

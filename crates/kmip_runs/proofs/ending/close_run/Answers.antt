@@ -10,6 +10,7 @@ returns-in-Ok g c = record {
     ended = search rules;
     unended = search rules;
   };
+  amid = search rules;
   calm = search rules;
   followed = search rules;
   wanting = search rules;

@@ -31,6 +31,7 @@ returns g c =
             (λ opening. went.mirrored (r.opening keys old opening), went.mirrored);
         no_conflict = (all.good begun).noted.no_conflict;
         sound = (all.good begun).good;
+        honest = (all.good begun).honest;
         true_saved = (all.good begun).noted.true_saved;
         onward = (all.good begun).went;
       };

@@ -6,7 +6,7 @@ use Rattle.kmip_simulation.proofs.simulation.campaign_over.Goals as goal
 pub returns : goal.returns
 returns c =
     let keys = c.args.plan.now in
-    let good : GoodLink keys (seen_in c.args.link.now) = record { honest_for = tt; sound = c.requires.sound } in
+    let good : GoodLink keys (seen_in c.args.link.now) = record { amid_for = tt; sound = c.requires.sound } in
     record {
       safe = (c.campaign.ensures.well good).safe;
       machine = (c.campaign.ensures.well good).machine.1;
@@ -18,7 +18,7 @@ returns c =
       complete = c.campaign.ensures.complete;
       known = c.campaign.ensures.known;
       settles = c.campaign.ensures.settles;
-      outlasts = (c.campaign.ensures.well good).outlasts;
+      outlasts = (c.campaign.ensures.well good).outlasts tt;
       ended = c.campaign.ensures.ended tt;
       followed = c.campaign.ensures.followed;
     }

@@ -1,6 +1,7 @@
 -- The end of a run counts nothing.
 use Rattle.std.proofs.Common.{true, ap, refl, ◌∙◌}
-use Rattle.kmip_scripted.specs.Scenes.{disturbances_in}
+use Rattle.kmip_protocol.specs.Past.{is_planned}
+use Rattle.kmip_scripted.specs.Scenes.{disturbances_in, past_in}
 use Rattle.kmip_scripted.proofs.CallLemmas.{follows_end}
 use Rattle.kmip_scripted.proofs.CountLemmas.{begun_keep, run_keeps}
 use Rattle.kmip_scripted.proofs.link.ScriptedLink.end_run.Goals as goal
@@ -16,3 +17,11 @@ returns-in-Ok-clause-followed g c = λ memory. follows_end c.args.self.now c.fin
 
 pub returns-in-Err-clause-followed : goal.returns-in-Err-clause-followed
 returns-in-Err-clause-followed g c = λ memory. absurd (memory refl)
+
+pub returns-in-Ok-clause-amid : goal.returns-in-Ok-clause-amid
+returns-in-Ok-clause-amid g c = λ keys.
+    c.what_is_honest_is_amid.ensures.deliveries keys (past_in c.args.self.now) (past_in c.finish_run.new.self) (c.finish_run.ensures.delivered (is_planned keys))
+
+pub returns-in-Err-clause-amid : goal.returns-in-Err-clause-amid
+returns-in-Err-clause-amid g c = λ keys.
+    c.what_is_honest_is_amid.ensures.deliveries keys (past_in c.args.self.now) (past_in c.finish_run.new.self) (c.finish_run.ensures.delivered (is_planned keys))

@@ -1,7 +1,9 @@
 -- The counts stay until an exchange is handed over; and where no word is left, and the server has room, then too. An exchange ends no run.
-use Rattle.std.proofs.Common.{Ok, ap, refl, subst, ◌∙◌}
+use Rattle.std.proofs.Common.{Err, Ok, ap, option_map, refl, subst, ◌∙◌}
 use Rattle.kmip_protocol.specs.Clean.{IsRoomy}
-use Rattle.kmip_scripted.specs.Scenes.{disturbances_in}
+use Rattle.kmip_protocol.specs.Past.{is_planned}
+use Rattle.kmip_protocol.specs.declared.link_fault.LinkFault.TheVariants.{NoMemory}
+use Rattle.kmip_scripted.specs.Scenes.{disturbances_in, past_in}
 use Rattle.kmip_scripted.proofs.CallLemmas.{follows_exchange}
 use Rattle.kmip_scripted.proofs.CountLemmas.{calm_is_kept, exchange_begun_keeps, no_fewer}
 use Rattle.kmip_scripted.proofs.EndingLemmas.{begun_ended, exchange_ended}
@@ -27,3 +29,13 @@ returns-in-Ok-clause-followed g c = λ memory. follows_exchange c.args.request.n
 
 pub returns-in-Err-clause-followed : goal.returns-in-Err-clause-followed
 returns-in-Err-clause-followed g c = λ memory. absurd (memory refl)
+
+pub returns-in-Ok-clause-amid : goal.returns-in-Ok-clause-amid
+returns-in-Ok-clause-amid g c = λ keys.
+    c.what_is_honest_is_amid.ensures.exchanges keys (past_in c.args.self.now) (past_in c.follow.new.self) c.args.request.now
+    (Ok (option_map (λ v. v.items) c.in-Ok.answer)) (c.in-Ok.ensures.hands (is_planned keys))
+
+pub returns-in-Err-clause-amid : goal.returns-in-Err-clause-amid
+returns-in-Err-clause-amid g c = λ keys.
+    c.what_is_honest_is_amid.ensures.exchanges keys (past_in c.args.self.now) (past_in c.follow.new.self) c.args.request.now (Err NoMemory)
+    (c.in-Err.ensures.want (is_planned keys))
