@@ -1,7 +1,5 @@
 -- What the clients of a company do between two moments is what may pass over a link that is honest among others.
 use Rattle.std.proofs.Common.{◌≡◌, ◌++◌, ◌∷◌, [], List, ap, refl, slice_get, subst, sym, ◌∙◌}
-use Rattle.std.specs.List.{All}
-use Rattle.kmip_client.specs.Clients.{ClientState}
 use Rattle.kmip_messages.specs.Items.{requests_in}
 use Rattle.kmip_plan.specs.Plans.{IsLawful}
 use Rattle.kmip_plan.specs.declared.key.Key.{Key}

@@ -1,5 +1,5 @@
 -- Among others the past stays sound, and an image of the plan machine, by each thing that happens in turn.
-use Rattle.std.proofs.Common.{◌≡◌, ℕ, List, [], ◌∷◌, Option, None, Result, Ok, Err, refl, sym, ap, subst, ◌∙◌, inl, inr}
+use Rattle.std.proofs.Common.{◌≡◌, ℕ, List, [], ◌∷◌, Option, None, Result, Ok, Err, refl, sym, subst, ◌∙◌, inl, inr}
 use Rattle.kmip_messages.specs.Items.{requests_in}
 use Rattle.kmip_plan.specs.declared.key.Key.{Key}
 use Rattle.kmip_client.specs.Justified.{JustifiedMessage}
@@ -7,7 +7,7 @@ use Rattle.kmip_client.specs.Places.{Onward}
 use Rattle.kmip_protocol.specs.declared.link_fault.LinkFault.{LinkFault}
 use Rattle.kmip_protocol.specs.declared.link_fault.LinkFault.TheVariants.{Io, Frame, NoMemory}
 use Rattle.kmip_protocol.specs.Amid.{AllMayBe, ExchangedAmid, HandsOverAmid, Occurs, MayBe, Meanwhile, OthersAsk, PassedAmid, after_all, after_meanwhile}
-use Rattle.kmip_protocol.specs.Exchanges.{Exchanged, HandsOver, with_asked, with_exchange}
+use Rattle.kmip_protocol.specs.Exchanges.{Exchanged, HandsOver, with_asked}
 use Rattle.kmip_protocol.specs.Machine.{IsMirrored}
 use Rattle.kmip_protocol.specs.Moves.{AllMayHappen, Delivered, Move, after_move, after_moves}
 use Rattle.kmip_protocol.specs.Past.{Past, is_planned}
@@ -93,7 +93,7 @@ exchanged_mirrors l keys old new sent (Err NoMemory) sound image just done = eli
 
 -- ---- where nobody else asks
 
-all_happen : List Move → List Meanwhile
+abbrev all_happen : List Move → List Meanwhile
 all_happen [] = []
 all_happen (move ∷ moves) = Occurs move ∷ all_happen moves
 

@@ -12,7 +12,7 @@ use Rattle.kmip_progress.specs.Suiting.{Suits}
 use Rattle.kmip_progress.specs.declared.known.Known.{Known}
 use Rattle.kmip_client.specs.Clients.{ClientState, fresh}
 use Rattle.kmip_client.specs.Held.{Held, TrueProgress}
-use Rattle.kmip_protocol.specs.Past.{Names, Past, is_planned}
+use Rattle.kmip_protocol.specs.Past.{Names, Past}
 use Rattle.kmip_protocol.specs.Seen.{Seen}
 use Rattle.kmip_runs.specs.Campaign.{CalmLink, IsEnd, Settles, saves}
 use Rattle.kmip_runs.specs.Headline.{GoodLink}

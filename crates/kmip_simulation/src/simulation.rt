@@ -46,7 +46,8 @@ pub struct Simulation {
 
 /// Makes the runs of a script for a plan, over a link to a new server that follows the script. The
 /// server has no object, and room for 10,000. Where memory runs out in a run, the end says so and has
-/// the runs before it.
+/// the runs before it. A word `crash` ends its run without a crash: the next run goes on with what was known
+/// (`simulate_with_crashes` plays it).
 ///
 /// # Errors
 /// Where there is no memory for the list of the runs, or for the words of the script.
@@ -164,7 +165,7 @@ fn campaign_over(
 
 /// Makes the runs of a script with one `prolong` over a link to a new server that follows the script:
 /// those before that word for the first of two plans, and those after it for the second. Where memory
-/// runs out in a run, the end says so and has the runs before it.
+/// runs out in a run, the end says so and has the runs before it. A word `crash` ends its run without a crash.
 ///
 /// # Errors
 /// Where there is no memory for the lists of the runs, or for the words of the script.

@@ -38,7 +38,7 @@ returns-then-not-is_at_limit g c =
         stops_for_its_reason = search rules;
         losing = λ good honest memory.
             let first = before.paid good honest in
-            let second = made.losing (before.carried.went.good good) 
+            let second = made.losing (before.carried.went.good good)
             (subst (λ ks. (g.L.Link.seen c.loop-made.link).honest (is_planned ks)) (sym before.carried.went.keeps.keys_stay) (before.carried.went.learns honest).0) memory in
             omega (arith, first, second);
       };
@@ -76,8 +76,8 @@ loop-made-preserved g c =
       paid = λ good honest.
           let first = c.loop-made.invariant.paid good honest in
           let second = made.losing (c.loop-made.invariant.carried.went.good good)
-              (subst (λ ks. (g.L.Link.seen c.loop-made.link).honest (is_planned ks)) (sym c.loop-made.invariant.carried.went.keeps.keys_stay)
-              (c.loop-made.invariant.carried.went.learns honest).0) (limit_in_memory step.result.0 limit) in
+          (subst (λ ks. (g.L.Link.seen c.loop-made.link).honest (is_planned ks)) (sym c.loop-made.invariant.carried.went.keeps.keys_stay)
+          (c.loop-made.invariant.carried.went.learns honest).0) (limit_in_memory step.result.0 limit) in
           let one = step.ensures.limit limit in
           omega (arith, first, second, one);
     }
@@ -115,8 +115,8 @@ returns-then-not-go_on g c =
         losing = λ good honest memory.
             let first = c.loop-made.invariant.paid good honest in
             let second = made.losing (c.loop-made.invariant.carried.went.good good)
-              (subst (λ ks. (g.L.Link.seen c.loop-made.link).honest (is_planned ks)) (sym c.loop-made.invariant.carried.went.keeps.keys_stay)
-              (c.loop-made.invariant.carried.went.learns honest).0) (limit_in_memory step.result.0 limit) in
+            (subst (λ ks. (g.L.Link.seen c.loop-made.link).honest (is_planned ks)) (sym c.loop-made.invariant.carried.went.keeps.keys_stay)
+            (c.loop-made.invariant.carried.went.learns honest).0) (limit_in_memory step.result.0 limit) in
             let one = step.ensures.limit limit in
             omega (arith, first, second, one);
       };

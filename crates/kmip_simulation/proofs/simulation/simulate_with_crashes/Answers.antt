@@ -1,5 +1,5 @@
 -- Nothing has happened yet over the new link, so what the campaign makes of it is good.
-use Rattle.std.proofs.Common.{◌≡◌, ◌+◌, length, refl, rules, subst, sym, ap, ◌∙◌}
+use Rattle.std.proofs.Common.{◌≡◌, ◌+◌, length, refl, rules, subst, ap, ◌∙◌}
 use Rattle.kmip_protocol.specs.Sound.{Opening}
 use Rattle.kmip_scripted.specs.Runs.{crashing_runs_of}
 use Rattle.kmip_scripted.specs.Scenes.{past_in, seen_in}
