@@ -1,6 +1,7 @@
 -- The text that is written is its head, the lines of the keys and its end.
-use Rattle.std.proofs.Common.{◌≡◌, ◌≤◌, ℕ, suc, List, [], ◌∷◌, ◌++◌, length, drop, map, codes, refl, sym, ◌∙◌, ap, append_assoc}
-use Rattle.std.proofs.lemmas.List.{drop_all, append-nil}
+use Rattle.std.proofs.Common.{◌≡◌, ◌<◌, ◌≤◌, ◌+◌, ℕ, suc, List, [], ◌∷◌, ◌++◌, length, drop, slice_index, map, codes, refl, sym, ◌∙◌, ap, append_assoc}
+use Rattle.std.proofs.lemmas.List.{drop_all, drop_more, append-nil}
+use Rattle.hex.specs.Hex.{encode_lower, encode_with}
 use Rattle.kmip_plan.specs.declared.key.Key.{Key}
 use Rattle.kmip_progress.specs.declared.format.Format.{Format}
 use Rattle.kmip_progress.specs.declared.format.Format.TheVariants.{Two}
@@ -40,3 +41,26 @@ whole keys progress suits =
     ap (λ more. codes "kmip-progress 2" ++ 10 ∷ more)
     (ap (λ n. key_lines keys progress ++ (end_line n ++ 10 ∷ [])) (sym (as_many_lines Two keys progress suits))
     ∙ sym (lines_then keys progress (end_line (length (entries_for Two keys progress)))))
+
+-- the words of a line, as they are pushed
+pub words_joined : (old a b c d e : List ℕ)
+    → old ++ (a ++ 32 ∷ []) ++ (b ++ 32 ∷ []) ++ (c ++ 32 ∷ []) ++ (d ++ 32 ∷ []) ++ e ++ 10 ∷ []
+    ≡ old ++ (line_of (a ∷ b ∷ c ∷ d ∷ e ∷ []) ++ 10 ∷ [])
+words_joined old a b c d e = simp append_assoc refl
+
+-- one byte more is written in hexadecimal
+pub byte_written : (text old bytes : List ℕ) (i : ℕ) → i < length bytes
+    → text ++ encode_lower (drop i bytes) ≡ old ++ encode_lower bytes
+    → (text ++ encode_lower (slice_index bytes i ∷ [])) ++ encode_lower (drop (i + 1) bytes) ≡ old ++ encode_lower bytes
+unfolding encode_with
+byte_written text old bytes i h same =
+    append_assoc text (encode_lower (slice_index bytes i ∷ [])) (encode_lower (drop (i + 1) bytes))
+    ∙ ap (λ more. text ++ more) (sym (ap encode_lower (drop_more bytes i 0 h)))
+    ∙ same
+
+-- every byte is written in hexadecimal
+pub bytes_written : (text old bytes : List ℕ) (i : ℕ) → length bytes ≤ i
+    → text ++ encode_lower (drop i bytes) ≡ old ++ encode_lower bytes → text ≡ old ++ encode_lower bytes
+unfolding encode_with
+bytes_written text old bytes i end same =
+    sym (append-nil text) ∙ ap (λ more. text ++ encode_lower more) (sym (drop_all i bytes end)) ∙ same
