@@ -1,7 +1,14 @@
 -- The text that is written is its head, the lines of the keys and its end.
-use Rattle.std.proofs.Common.{◌≡◌, ◌<◌, ◌≤◌, ◌+◌, ℕ, suc, List, [], ◌∷◌, ◌++◌, length, drop, slice_index, map, codes, refl, sym, ◌∙◌, ap, append_assoc}
-use Rattle.std.proofs.lemmas.List.{drop_all, drop_more, append-nil}
-use Rattle.hex.specs.Hex.{encode_lower, encode_with}
+use Rattle.std.proofs.Common.{◌≡◌, ◌≤◌, ℕ, suc, nat_lt, true, Result, Ok, Err, IsOk, List, [], ◌∷◌, ◌++◌, length, drop, map, codes, refl, sym, ◌∙◌, ap, append_assoc}
+use Rattle.std.proofs.lemmas.List.{drop_all, append-nil}
+use Rattle.std.proofs.lemmas.Bool.{and_parts, ltb-true}
+use Rattle.std.proofs.lemmas.Str.{IsUtf8-from_ascii}
+use Rattle.std.proofs.lemmas.Str.Ascii.{IsAscii-nil, IsAscii-cons}
+use Rattle.std.specs.List.{list_all}
+use Rattle.std.specs.Result.{MatchResult}
+use Rattle.std.specs.Str.{IsAscii, IsUtf8}
+use Rattle.hex.proofs.HexLemmas.{IsAscii-encode_with}
+use Rattle.hex.specs.Hex.{encode_lower, lower_digits}
 use Rattle.kmip_plan.specs.declared.key.Key.{Key}
 use Rattle.kmip_progress.specs.declared.format.Format.{Format}
 use Rattle.kmip_progress.specs.declared.format.Format.TheVariants.{Two}
@@ -48,19 +55,18 @@ pub words_joined : (old a b c d e : List ℕ)
     ≡ old ++ (line_of (a ∷ b ∷ c ∷ d ∷ e ∷ []) ++ 10 ∷ [])
 words_joined old a b c d e = simp append_assoc refl
 
--- one byte more is written in hexadecimal
-pub byte_written : (text old bytes : List ℕ) (i : ℕ) → i < length bytes
-    → text ++ encode_lower (drop i bytes) ≡ old ++ encode_lower bytes
-    → (text ++ encode_lower (slice_index bytes i ∷ [])) ++ encode_lower (drop (i + 1) bytes) ≡ old ++ encode_lower bytes
-unfolding encode_with
-byte_written text old bytes i h same =
-    append_assoc text (encode_lower (slice_index bytes i ∷ [])) (encode_lower (drop (i + 1) bytes))
-    ∙ ap (λ more. text ++ more) (sym (ap encode_lower (drop_more bytes i 0 h)))
-    ∙ same
+-- bytes that pass the test are ASCII
+all_ascii : (bytes : List ℕ) → list_all (λ b. nat_lt b 128) bytes ≡ true → IsAscii bytes
+all_ascii [] h = IsAscii-nil
+all_ascii (b ∷ bytes) h =
+    let p = and_parts (nat_lt b 128) (list_all (λ b. nat_lt b 128) bytes) h in
+    IsAscii-cons b bytes (ltb-true b 128 p.0) (all_ascii bytes p.1)
 
--- every byte is written in hexadecimal
-pub bytes_written : (text old bytes : List ℕ) (i : ℕ) → length bytes ≤ i
-    → text ++ encode_lower (drop i bytes) ≡ old ++ encode_lower bytes → text ≡ old ++ encode_lower bytes
-unfolding encode_with
-bytes_written text old bytes i end same =
-    sym (append-nil text) ∙ ap (λ more. text ++ encode_lower more) (sym (drop_all i bytes end)) ∙ same
+-- hexadecimal is a text
+pub hex_is_text : (bytes : List ℕ) → IsUtf8 (encode_lower bytes)
+hex_is_text bytes = IsUtf8-from_ascii (encode_lower bytes) (IsAscii-encode_with lower_digits bytes (all_ascii lower_digits refl))
+
+-- what is refused only where something fails that holds is not refused
+pub not_refused : {T E : Type 0} {A : Type 0} (P : T → Type 0) (Q : E → Type 0) (r : Result T E) → A → MatchResult r P (λ e. (A → ⊥) × Q e) → IsOk r
+not_refused P Q (Ok x) a m = refl
+not_refused P Q (Err e) a m = absurd (m.0 a)

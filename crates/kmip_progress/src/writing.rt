@@ -1,8 +1,8 @@
 //! A progress as a text.
-ghost use Rattle.std.specs.Prelude.{◌≡◌, ◌<◌, ◌++◌, ◌∷◌, [], IfOk, OnOk, IsTrue, string_bytes, length, slice_index};
-ghost use Rattle.hex.specs.Hex.{encode_lower, lower_digits};
+ghost use Rattle.std.specs.Prelude.{◌≡◌, ◌≤◌, ◌++◌, ◌∷◌, [], IfOk, OnOk, IsTrue, string_bytes, length};
+ghost use Rattle.hex.specs.Hex.{encode_lower};
 ghost use Rattle.kmip_progress.specs.declared.format.Format.TheVariants as formats;
-ghost use Rattle.kmip_progress.specs.Suiting.{Suits, has_text, are_texts};
+ghost use Rattle.kmip_progress.specs.Suiting.{Suits, is_known, has_text, are_texts};
 ghost use Rattle.kmip_progress.specs.Private.{key_line, key_lines};
 ghost use Rattle.kmip_progress.specs.Texts.{end_line, progress_text, reason_for};
 ghost use Rattle.kmip_progress.specs.Words.{reason_word, identifier_word};
@@ -65,6 +65,7 @@ fn push_lines(text: &mut String, keys: &[Key], known: &[Known]) -> Result<(), Al
 
 /// Writes the line of a key, with its line feed.
 fn push_line(text: &mut String, key: &Key, known: &Known) -> Result<(), AllocError>
+    requires { IsTrue (is_known known.now) }
     ensures text { OnOk result (string_bytes text.new
         ≡ string_bytes text.old ++ (key_line key.now known.now ++ 10 ∷ [])) }
     ensures utf8 { OnOk result (IsTrue (has_text known.now)) }
@@ -103,6 +104,7 @@ fn push_reason(text: &mut String, key: &Key) -> Result<(), AllocError>
 
 /// Writes an identifier in lower-case hexadecimal; a hyphen where none is known.
 fn push_identifier(text: &mut String, known: &Known) -> Result<(), AllocError>
+    requires { IsTrue (is_known known.now) }
     ensures word { OnOk result (string_bytes text.new
         ≡ string_bytes text.old ++ identifier_word known.now.identifier) }
     ensures utf8 { OnOk result (IsTrue (has_text known.now)) }
@@ -114,35 +116,18 @@ fn push_identifier(text: &mut String, known: &Known) -> Result<(), AllocError>
     Ok(())
 }
 
-/// Writes bytes in lower-case hexadecimal.
+/// Writes the bytes of an identifier in lower-case hexadecimal.
 fn push_hex(text: &mut String, bytes: &[u8]) -> Result<(), AllocError>
+    requires { length bytes.now ≤ 64 }
     ensures { OnOk result (string_bytes text.new
         ≡ string_bytes text.old ++ encode_lower bytes.now) }
 {
-    for byte in bytes {
-        push_digits(text, *byte)?;
-    }
+    // The room for the longest identifier. That neither call fails is proved.
+    let mut digits = [0u8; 128];
+    let spelt = &mut digits[..2 * bytes.len()];
+    hex::encode_to_slice(bytes, spelt).unwrap();
+    text.push_str(std::str::from_utf8(spelt).unwrap())?;
     Ok(())
-}
-
-/// Writes the two digits of a byte.
-#[tactic(auto, unfolding(hex::specs::Hex::encode_with))]
-fn push_digits(text: &mut String, byte: u8) -> Result<(), AllocError>
-    ensures { OnOk result (string_bytes text.new
-        ≡ string_bytes text.old ++ encode_lower (byte ∷ [])) }
-{
-    text.push(digit_of(byte / 16))?;
-    text.push(digit_of(byte % 16))?;
-    Ok(())
-}
-
-/// The digit of a number below 16.
-fn digit_of(number: u8) -> char
-    requires { number < 16 }
-    ensures digit { result ≡ slice_index lower_digits number }
-    ensures ascii { result < 128 }
-{
-    char::from(b"0123456789abcdef"[usize::from(number)])
 }
 
 /// Writes the last line, with its line feed.
