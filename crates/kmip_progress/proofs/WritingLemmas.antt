@@ -1,6 +1,14 @@
 -- The text that is written is its head, the lines of the keys and its end.
-use Rattle.std.proofs.Common.{◌≡◌, ◌≤◌, ℕ, suc, List, [], ◌∷◌, ◌++◌, length, drop, map, codes, refl, sym, ◌∙◌, ap, append_assoc}
+use Rattle.std.proofs.Common.{◌≡◌, ◌≤◌, ℕ, suc, nat_lt, true, Result, Ok, Err, IsOk, List, [], ◌∷◌, ◌++◌, length, drop, map, codes, refl, sym, ◌∙◌, ap, append_assoc}
 use Rattle.std.proofs.lemmas.List.{drop_all, append-nil}
+use Rattle.std.proofs.lemmas.Bool.{and_parts, ltb-true}
+use Rattle.std.proofs.lemmas.Str.{IsUtf8-from_ascii}
+use Rattle.std.proofs.lemmas.Str.Ascii.{IsAscii-nil, IsAscii-cons}
+use Rattle.std.specs.List.{list_all}
+use Rattle.std.specs.Result.{MatchResult}
+use Rattle.std.specs.Str.{IsAscii, IsUtf8}
+use Rattle.hex.proofs.HexLemmas.{IsAscii-encode_with}
+use Rattle.hex.specs.Hex.{encode_lower, lower_digits}
 use Rattle.kmip_plan.specs.declared.key.Key.{Key}
 use Rattle.kmip_progress.specs.declared.format.Format.{Format}
 use Rattle.kmip_progress.specs.declared.format.Format.TheVariants.{Two}
@@ -40,3 +48,25 @@ whole keys progress suits =
     ap (λ more. codes "kmip-progress 2" ++ 10 ∷ more)
     (ap (λ n. key_lines keys progress ++ (end_line n ++ 10 ∷ [])) (sym (as_many_lines Two keys progress suits))
     ∙ sym (lines_then keys progress (end_line (length (entries_for Two keys progress)))))
+
+-- the words of a line, as they are pushed
+pub words_joined : (old a b c d e : List ℕ)
+    → old ++ (a ++ 32 ∷ []) ++ (b ++ 32 ∷ []) ++ (c ++ 32 ∷ []) ++ (d ++ 32 ∷ []) ++ e ++ 10 ∷ []
+    ≡ old ++ (line_of (a ∷ b ∷ c ∷ d ∷ e ∷ []) ++ 10 ∷ [])
+words_joined old a b c d e = simp append_assoc refl
+
+-- bytes that pass the test are ASCII
+all_ascii : (bytes : List ℕ) → list_all (λ b. nat_lt b 128) bytes ≡ true → IsAscii bytes
+all_ascii [] h = IsAscii-nil
+all_ascii (b ∷ bytes) h =
+    let p = and_parts (nat_lt b 128) (list_all (λ b. nat_lt b 128) bytes) h in
+    IsAscii-cons b bytes (ltb-true b 128 p.0) (all_ascii bytes p.1)
+
+-- hexadecimal is a text
+pub hex_is_text : (bytes : List ℕ) → IsUtf8 (encode_lower bytes)
+hex_is_text bytes = IsUtf8-from_ascii (encode_lower bytes) (IsAscii-encode_with lower_digits bytes (all_ascii lower_digits refl))
+
+-- what is refused only where something fails that holds is not refused
+pub not_refused : {T E : Type 0} {A : Type 0} (P : T → Type 0) (Q : E → Type 0) (r : Result T E) → A → MatchResult r P (λ e. (A → ⊥) × Q e) → IsOk r
+not_refused P Q (Ok x) a m = refl
+not_refused P Q (Err e) a m = absurd (m.0 a)
