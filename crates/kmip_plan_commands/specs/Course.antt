@@ -72,7 +72,8 @@ pub record Came (limit most : ℕ) (good : List Key → Type 0) (old new : RunSt
   -- That a text could not be written is told only where the keeper's count of refusals has risen, or
   -- stands at its last value.
   pub unwritten : outcome.result ≡ Err faults.Output → HasRisen old.keeper.refusals new.keeper.refusals
-  -- Where all was good and nobody else asks, with no premise of calm: the plan's bound, one exchange for each key, and what
+  -- Where all was good and nobody else asks, with no premise of calm: the plan's bound, one exchange for each
+  -- key, and what
   -- the link counted of the run's disturbed exchanges are enough for every key. That too is said where
   -- each text could be kept, memory did not run out, and patience has not given up.
   pub outlasts : good keys → old.link.honest (is_planned keys) → new.is_tired ≡ false → IsWhole outcome.result → IsEnough keys limit old.link.disturbances new.link.disturbances → outcome.result ≡ Ok stops.AllFinished

@@ -14,7 +14,8 @@ use std::alloc::Global;
 /// what it carries.
 ///
 /// What is proved over it is proved for any link. A contract sees of a link its past, for which names it is
-/// honest and for which it is calm, for which plans it is honest among others, and what it counts (`Seen`). What makes it honest or calm each link says
+/// honest and for which it is calm, for which plans it is honest among others, and what it counts (`Seen`).
+/// What makes it honest or calm each link says
 /// for itself, and it owes the clauses below for it. That requests are served by the step of the server is
 /// part of both.
 pub trait Link {

@@ -42,15 +42,15 @@ pub record CarriesOutWell (most : ℕ) (old : Stage) (stopped : Result Stop Save
   -- Where all was good (`IsGood`), the objects have gone onward. A past that was an image of the plan
   -- machine is one still.
   pub onward : WentOn old.client.keys old.link.past new.link.past
-  -- Where all was good (`IsGood`) and nobody else asks, with no premise of calm: the exchanges that were made and those that
-  -- are left are no more than were left, and what disturbed exchanges cost. That is said unless it
+  -- Where all was good (`IsGood`) and nobody else asks, with no premise of calm: the exchanges that were
+  -- made and those that are left are no more than were left, and what disturbed exchanges cost. That is said unless it
   -- stops for want of memory, and also where the text of the last one was not saved. What arrives at
   -- the end of the run adds nothing.
   pub losing : old.link.honest (is_planned old.client.keys) → IsInMemory stopped
       → ArePaid made (left_for old.client old.link.past) (left_for new.client new.link.past)
       old.link.disturbances new.link.disturbances
-  -- Where all was good (`IsGood`) and nobody else asks, it stops with `AllFinished`, unless patience has given up, memory
-  -- ran out or a text was not saved. It asks for a limit of at least the plan's bound, one exchange for
+  -- Where all was good (`IsGood`) and nobody else asks, it stops with `AllFinished`, unless patience has
+  -- given up, memory ran out or a text was not saved. It asks for a limit of at least the plan's bound, one exchange for
   -- each key, and what the disturbed exchanges of the call cost.
   pub outlasts : old.link.honest (is_planned old.client.keys) → new.is_tired ≡ false → IsWhole stopped
       → IsEnough old.client.keys most old.link.disturbances new.link.disturbances

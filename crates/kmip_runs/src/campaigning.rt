@@ -37,7 +37,7 @@ use std::alloc::Global;
 /// Want of memory ends the campaign and keeps what was done. A run that it stopped has no end, and `fault`
 /// says that memory ran out.
 ///
-/// Below, a link is good (`GoodLink`) where it is honest for the plan's names, and all that has happened over
+/// Below, a link is good (`GoodLink`) where it is honest among others of the plan, and all that has happened over
 /// it is sound. What is said of a good link is so whatever the runs are, and wherever memory ran out. What is
 /// said of any link asks nothing of it. The head of lib.rt explains these words, one by one.
 pub fn campaign<L: Link>(alloc: Global, plan: &Plan, link: &mut L, runs: &[Run]) -> CampaignEnd

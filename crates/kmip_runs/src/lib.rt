@@ -17,7 +17,8 @@
 //! 4. A link is honest for some names where each exchange adds the requests of its message to those asked.
 //!    Then there is a delivery, and the exchange hands over nothing, or a message whose replies were all
 //!    given some time (`Exchanged`, and the clause `honest` of `Link::exchange`). The end of a run is a
-//!    delivery.
+//!    delivery. A link is honest among others of a plan where other clients may ask meanwhile what is
+//!    justified (`ExchangedAmid`, and the clause `amid`). One that is honest for the plan's names is so too.
 //! 5. A past is sound for a plan where no two objects, of whatever names, have one name or one identifier.
 //!    Each planned name has at most one object, which is the plan's. The effects on it are the first steps of
 //!    its chain, as many as its state says. Each request ever asked may be asked still, and each reply ever
@@ -31,12 +32,12 @@
 //!    that was reported done is among these. A request that comes again after its step took effect changes no
 //!    object, whichever way the server answers it.
 //!
-//! So the clause `safe`, aloud: take any runs, and any link that is honest for the plan's names and over
+//! So the clause `safe`, aloud: take any runs, and any link that is honest among others of the plan and over
 //! which all was sound before. After the campaign the past is safe for all that the campaign has reported,
 //! wherever memory ran out.
 //!
-//! The premises, once more. No two objects of the server have one name or one identifier. Nobody else uses
-//! the planned names. The server serves by its steps or refuses at will, keeps its objects and never frees a
+//! The premises, once more. No two objects of the server have one name or one identifier. Nobody
+//! but clients of the plan uses its names. The server serves by its steps or refuses at will, keeps its objects and never frees a
 //! name. The network invents nothing. A saved progress is one that a run of this campaign saved.
 //!
 //! Carries out a plan over a link, and saves what is known after each exchange.
