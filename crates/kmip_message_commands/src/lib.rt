@@ -16,6 +16,7 @@
 mod answerer;
 mod answering;
 mod command_fault;
+mod decoding;
 mod encoding;
 mod exit_status;
 mod finishing;
