@@ -6,3 +6,4 @@ mod StreamingLemmas
 mod AdvancingLemmas
 mod MessagesLemmas
 pub mod ForCallers
+mod DecodingLemmas

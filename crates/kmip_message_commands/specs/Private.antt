@@ -60,12 +60,12 @@ abbrev pub TakesLine : List ℕ → List ℕ → Option (List ℕ) → NextLine 
 TakesLine input kept rest (Line has_more) = TakesFirst input kept rest
 TakesLine input kept rest End = (input ≡ []) × (rest ≡ Some [])
 
--- What is judged, as a contract sees it.
-abbrev pub judge : Judged → Saying
-judge Empty = nothing
-judge Long = too_long
-judge NotHex = no_hex
-judge (Message bytes) = message bytes.items
+-- What is judged, as a contract sees it, beside the bytes that a message has.
+abbrev pub judge : Judged → List ℕ → Saying
+judge Empty bytes = nothing
+judge Long bytes = too_long
+judge NotHex bytes = no_hex
+judge Message bytes = message bytes
 
 -- A command failed. It was for want of memory, and nothing was printed; or by the fault of its
 -- printer, which then holds what it held if it takes all or nothing.

@@ -115,5 +115,5 @@ pub(crate) fn push_reply(
     ensures after { OnOk result (server.new ≡ stock_after_batch server.old message.now) }
 {
     let reply = server.handle(alloc, message, NOW)?;
-    push_hex(alloc, reply.as_slice(), text)
+    push_hex(reply.as_slice(), text)
 }

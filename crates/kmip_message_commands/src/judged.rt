@@ -1,7 +1,7 @@
 //! What a line says.
 
 /// What a line says.
-#[derive(Drop)]
+#[derive(Clone, Copy)]
 pub enum Judged {
     /// Nothing: the line is empty.
     Empty,
@@ -9,6 +9,6 @@ pub enum Judged {
     Long,
     /// No message: the digits are odd in number, or a byte is no digit.
     NotHex,
-    /// The message that the digits spell.
-    Message(Vec<u8>),
+    /// A message, which the digits spell.
+    Message,
 }

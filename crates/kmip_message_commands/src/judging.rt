@@ -3,19 +3,19 @@ ghost use Rattle.std.specs.Prelude.{◌≡◌, IfOk};
 ghost use Rattle.kmip_message_commands.specs.Private.{judge};
 ghost use Rattle.kmip_message_commands.specs.Judging.{saying_of};
 
+use crate::decoding::read_digits;
 use crate::judged::Judged;
 use crate::lines::MOST_DIGITS;
-use hex::FromHexError;
 use kmip_ttlv::NoMemory;
-use std::alloc::Global;
 
-/// Says what a line is. The length is judged before the bytes are.
+/// Says what a line is. The length is judged before the bytes are. What the line spells is left in
+/// `message`; where it is no message, that means nothing.
 ///
 /// # Errors
 ///
 /// Where there is no memory for the message.
-pub fn judge(alloc: Global, line: &[u8]) -> Result<Judged, NoMemory>
-    ensures { IfOk result (λ j. judge j ≡ saying_of line.now) }
+pub fn judge(line: &[u8], message: &mut Vec<u8>) -> Result<Judged, NoMemory>
+    ensures { IfOk result (λ j. judge j message.new.items ≡ saying_of line.now) }
 {
     if line.is_empty() {
         return Ok(Judged::Empty);
@@ -23,13 +23,13 @@ pub fn judge(alloc: Global, line: &[u8]) -> Result<Judged, NoMemory>
     if line.len() > MOST_DIGITS {
         return Ok(Judged::Long);
     }
-    match hex::decode(alloc, line) {
-        Ok(message) => Ok(Judged::Message(message)),
-        Err(fault) => {
-            if fault == FromHexError::OutOfMemory {
-                return Err(NoMemory);
-            }
-            Ok(Judged::NotHex)
-        }
+    if line.len() % 2 != 0 {
+        return Ok(Judged::NotHex);
+    }
+    message.resize(line.len() / 2, 0)?;
+    if read_digits(line, message.as_mut_slice()) {
+        Ok(Judged::Message)
+    } else {
+        Ok(Judged::NotHex)
     }
 }

@@ -16,6 +16,8 @@
 mod answerer;
 mod answering;
 mod command_fault;
+mod decoding;
+mod encoding;
 mod exit_status;
 mod finishing;
 mod form;

@@ -5,8 +5,8 @@ ghost use Rattle.hex.specs.Hex.{encode_lower};
 ghost use Rattle.kmip_message_commands.specs.declared.command_fault.CommandFault.TheVariants.{Output};
 
 use crate::command_fault::CommandFault;
+use crate::encoding::write_digits;
 use kmip_ttlv::NoMemory;
-use std::alloc::Global;
 use std::io::Write;
 
 /// What is printed for a line that is too long.
@@ -34,13 +34,15 @@ pub fn push_text(bytes: &[u8], text: &mut Vec<u8>) -> Result<(), NoMemory>
 /// # Errors
 ///
 /// Where there is no memory for the text.
-pub fn push_hex(alloc: Global, bytes: &[u8], text: &mut Vec<u8>) -> Result<(), NoMemory>
+pub fn push_hex(bytes: &[u8], text: &mut Vec<u8>) -> Result<(), NoMemory>
     ensures { OnOk result (text.new.items ≡ text.old.items
         ++ (encode_lower bytes.now ++ 10 ∷ [])) }
 {
-    let mut digits = hex::encode(alloc, bytes)?;
-    digits.push('\n')?;
-    push_text(digits.as_bytes(), text)
+    let start = text.len();
+    text.resize(start.saturating_add(2 * bytes.len()), 0)?;
+    write_digits(bytes, &mut text.as_mut_slice()[start..]);
+    text.push(b'\n')?;
+    Ok(())
 }
 
 /// Writes a text by one write.

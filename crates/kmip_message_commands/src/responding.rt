@@ -39,6 +39,7 @@ pub(crate) fn respond_to_lines<C: Respond, R: BufRead, W: Write>(
 {
     C::stays_ready();
     let mut line = Vec::new(alloc);
+    let mut message = Vec::new(alloc);
     let mut text = Vec::new(alloc);
     let mut has_refused = false;
     for _ in 0..u64::MAX {
@@ -47,7 +48,7 @@ pub(crate) fn respond_to_lines<C: Respond, R: BufRead, W: Write>(
             return Ok(has_refused);
         };
         text.clear();
-        let is_refused = line_text(alloc, command, line.as_slice(), &mut text)?;
+        let is_refused = line_text(alloc, command, line.as_slice(), &mut message, &mut text)?;
         has_refused |= is_refused;
         let is_over = command.is_over();
         send(text.as_slice(), has_more && !is_over, writer)?;
@@ -78,13 +79,14 @@ pub(crate) fn respond_to_bytes<C: Respond>(
 {
     C::stays_ready();
     let mut rest = input;
+    let mut message = Vec::new(alloc);
     let mut text = Vec::new(alloc);
     let mut has_refused = false;
     while !rest.is_empty() {
         let (line, after) = first_line(rest);
         rest = after;
         text.clear();
-        let is_refused = line_text(alloc, command, line, &mut text)?;
+        let is_refused = line_text(alloc, command, line, &mut message, &mut text)?;
         has_refused |= is_refused;
         push_text(text.as_slice(), output)?;
         if command.is_over() {
@@ -94,11 +96,13 @@ pub(crate) fn respond_to_bytes<C: Respond>(
     Ok(has_refused)
 }
 
-/// Appends what is printed for a line, and says whether the line is refused.
+/// Appends what is printed for a line, and says whether the line is refused. `message` is room for
+/// what the line spells.
 fn line_text<C: Respond>(
     alloc: Global,
     command: &mut C,
     line: &[u8],
+    message: &mut Vec<u8>,
     text: &mut Vec<u8>,
 ) -> Result<bool, NoMemory>
     requires { C.IsReady (C.state command.old) }
@@ -109,7 +113,7 @@ fn line_text<C: Respond>(
     ensures refused { IfOk result (λ r. r
         ≡ is_saying_refused C.response.refuses (saying_of line.now)) }
 {
-    match judge(alloc, line)? {
+    match judge(line, message)? {
         Judged::Empty => Ok(false),
         Judged::Long => {
             push_text(REFUSED_LENGTH, text)?;
@@ -119,6 +123,6 @@ fn line_text<C: Respond>(
             push_text(REFUSED_HEX, text)?;
             Ok(true)
         }
-        Judged::Message(message) => command.respond(alloc, message.as_slice(), text),
+        Judged::Message => command.respond(alloc, message.as_slice(), text),
     }
 }

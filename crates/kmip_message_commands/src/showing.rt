@@ -136,7 +136,7 @@ fn push_item(alloc: Global, form: Form, item: &Item, text: &mut Vec<u8>) -> Resu
         Form::Canonical => {
             let mut bytes = Vec::new(alloc);
             write(item, &mut bytes)?;
-            push_hex(alloc, bytes.as_slice(), text)
+            push_hex(bytes.as_slice(), text)
         }
     }
 }
