@@ -4,11 +4,9 @@
 --     Moves      what may happen next, whatever the network and the server do
 --     Exchanges  what an exchange over an honest link does to the past
 --     Amid       what it does among other clients of the plan
---     Calm       what it does over a calm link
---     Clean      which exchanges go as they should, and what a link counts of the others
---     Ending     where runs were ended over a link
---     Faults     the faults of a link, and how many failures there may be
 --     Sound      what holds of the past for the keys of a plan at all times
+--     Clean      which exchanges go as they should, and what a link counts of the others
+--     Faults     the faults of a link, and how many failures there may be
 --     Seen       all that a contract sees of a link, as one value
 -- Source: own (law), over KMIP 2.1, Operations.
 use Rattle.std.specs.Prelude.{◌≡◌, ◌≤◌, ℕ, nat_eq, List, ◌∷◌, length, filter, take, Option, Some, None}
