@@ -1,6 +1,7 @@
 -- What an exchange over a link and the end of a run promise.
 -- Source: own (view).
 use Rattle.std.specs.Prelude.{Err, IfErr, List, None, Ok, Option, Result, length, ℕ, ◌<◌, ◌≡◌, ◌≤◌}
+use Rattle.kmip_client.specs.Justified.{JustifiedMessage}
 use Rattle.kmip_plan.specs.declared.key.Key.{Key}
 use Rattle.kmip_protocol.specs.Amid.{ExchangedAmid, PassedAmid}
 use Rattle.kmip_protocol.specs.Calm.{CalmlyEnded, CalmlyExchanged}
@@ -12,6 +13,7 @@ use Rattle.kmip_protocol.specs.Losses.{IsInMemory}
 use Rattle.kmip_protocol.specs.Moves.{Delivered}
 use Rattle.kmip_protocol.specs.Past.{Names}
 use Rattle.kmip_protocol.specs.Seen.{Seen}
+use Rattle.kmip_protocol.specs.Sound.{Sound}
 use Rattle.kmip_protocol.specs.declared.link_fault.LinkFault.{LinkFault}
 use Rattle.kmip_protocol.specs.declared.link_fault.LinkFault.TheVariants as faults
 
@@ -52,8 +54,9 @@ pub record MakesExchange {A : Type 0} (bytes : A → List ℕ) (old : Seen) (req
       → ExchangesHonestly names bytes old request answered new
   -- Over a link that is honest among others of a plan, the requests of the message join those asked, and what may
   -- happen and be asked by others happens. Then nothing is handed over, or a message whose replies were all given
-  -- some time. Where memory ran out, it is a beginning of this. The link is honest among others after it.
-  pub amid : (keys : List Key) → old.amid keys
+  -- some time. Where memory ran out, it is a beginning of this. The link is honest among others after it. The
+  -- others rely on whoever sends: all of this is so where the past is sound, and the message may be asked.
+  pub amid : (keys : List Key) → old.amid keys → Sound keys old.past → JustifiedMessage keys old.past.objects request
       → new.amid keys × ExchangedAmid keys old.past request (answer_in bytes answered) new.past
   -- Over a link that is calm for some names, both of this hold.
   pub calmly : (names : Names) → old.calm names
@@ -84,8 +87,8 @@ pub record EndsRun (old : Seen) (ended_so : Result (Unit {0}) LinkFault) (new : 
   -- Over a link that is honest for some names, all of this holds.
   pub honestly : (names : Names) → old.honest names → EndsHonestly names old ended_so new
   -- Over a link that is honest among others of a plan, what may happen and be asked by others happens, and the link
-  -- is honest among others after it.
-  pub amid : (keys : List Key) → old.amid keys → new.amid keys × PassedAmid keys old.past new.past
+  -- is honest among others after it. That is so where the past is sound.
+  pub amid : (keys : List Key) → old.amid keys → Sound keys old.past → new.amid keys × PassedAmid keys old.past new.past
   -- Over a link that is calm for some names nothing happens, and there is no fault but want of memory,
   -- where what may happen beside these names happened. The link is calm for them after it.
   pub calm : (names : Names) → old.calm names → new.calm names

@@ -242,11 +242,11 @@ stood l keys a b c x y stop ends nexts saved kept lawful a_keys b_keys c_keys be
 
 -- and closed
 pub closed : CampaignLaws → (keys : List Key) (c : ClientState) (x y z : Seen) (ends : List RunEnd) (saved : List (List Known)) → IsLawful keys → c.keys ≡ keys
-    → ((keys : List Key) → y.amid keys → z.amid keys × PassedAmid keys y.past z.past)
+    → ((keys : List Key) → y.amid keys → Sound keys y.past → z.amid keys × PassedAmid keys y.past z.past)
     → Standing keys c y ends saved × WentOn keys x.past y.past → Standing keys c z ends saved × WentOn keys x.past z.past
 closed l keys c x y z ends saved lawful c_keys ended (standing, went) =
     let sound = subst (λ ks. Sound ks y.past) c_keys standing.good.sound in
-    let step = ended keys (subst (λ ks. y.amid ks) c_keys standing.good.amid_for) in
+    let step = ended keys (subst (λ ks. y.amid ks) c_keys standing.good.amid_for) sound in
     let kept = l.passing keys y.past z.past sound step.1 in
     let on = kept.1 in (
       record {

@@ -317,7 +317,7 @@ carried_stop l a b stop m n lawful memory same before =
 -- and the end of the run
 pub carried_closed : {V E : Type 0} → CarryingLaws → (a b : Situation) (z : Seen) (result ended : Result Stop SaveFault) (closed : Result V E) (m : ℕ)
     → IsLawful a.client.keys → ((names : Names) → b.link.honest names → z.honest names × Delivered names b.link.past z.past)
-    → ((keys : List Key) → b.link.amid keys → z.amid keys × PassedAmid keys b.link.past z.past)
+    → ((keys : List Key) → b.link.amid keys → Sound keys b.link.past → z.amid keys × PassedAmid keys b.link.past z.past)
     → ((names : Names) → b.link.calm names → z.calm names × OnOk closed (z.past ≡ b.link.past)) → OnOk closed (ended ≡ result)
     → OnErr closed (OnOk result (ended ≡ Ok stops.NoMemory)) → OnErr result (ended ≡ result)
     → Carried a b result m → Carried a (record b { link = z }) ended m
@@ -328,7 +328,8 @@ carried_closed l a b z result ended closed m lawful delivers passes calms same s
     λ good knowns.
     l.known_for_good a.client.keys knowns b.link.past.objects z.past.objects lawful
     (l.passing a.client.keys b.link.past z.past (subst (λ ks. Sound ks b.link.past) first.went.keeps.keys_stay (first.went.good good).sound)
-    (passes a.client.keys (subst (λ ks. b.link.amid ks) first.went.keeps.keys_stay (first.went.good good).amid_for)).1).1 in
+    (passes a.client.keys (subst (λ ks. b.link.amid ks) first.went.keeps.keys_stay (first.went.good good).amid_for)
+    (subst (λ ks. Sound ks b.link.past) first.went.keeps.keys_stay (first.went.good good).sound)).1).1 in
     record {
       went = went_closed l a b z result ended closed m lawful delivers passes calms memory (λ is. cut_before closed result ended same stop fault is) whole first.went;
       saved = λ keeping.

@@ -54,13 +54,14 @@ calm_good keys x calmly = record {
 -- a question is asked
 asked_further : Lawbook → (keys further : List Key) (x y : Seen) (sent : List ℕ) (answered : Result (Option (List ℕ)) LinkFault) → IsLawful further
     → Prolongs further keys → JustifiedMessage keys x.past.objects sent
-    → ((keys : List Key) → x.amid keys → y.amid keys × ExchangedAmid keys x.past sent answered y.past)
+    → ((keys : List Key) → x.amid keys → Sound keys x.past → JustifiedMessage keys x.past.objects sent
+    → y.amid keys × ExchangedAmid keys x.past sent answered y.past)
     → GoodLink further x → GoodLink further y × WentOn further x.past y.past
 asked_further l keys further x y sent answered lawful prolongs just goes good =
     let asked =
     All-weaker (Justified keys x.past.objects) (Justified further x.past.objects)
     (λ request may. l.asked x.past.objects further keys request lawful prolongs may) (requests_in sent) just in
-    let step = goes further good.amid_for in
+    let step = goes further good.amid_for good.sound asked in
     let kept = l.exchanges further x.past y.past sent answered good.sound asked step.1 in (
       record { amid_for = step.0; sound = kept.0 },
       record {
@@ -72,7 +73,8 @@ asked_further l keys further x y sent answered lawful prolongs just goes good =
 -- and answered
 pub further_asked : Lawbook → (c : ClientState) (x y : Seen) (sent : List ℕ) (answered : Result (Option (List ℕ)) LinkFault) (places : List ℕ) (question : Question)
     (whole : Type 0) → IsLawful c.keys → IsAbout c.keys c.knowns places question → sent ≡ question.bytes
-    → ((keys : List Key) → x.amid keys → y.amid keys × ExchangedAmid keys x.past sent answered y.past)
+    → ((keys : List Key) → x.amid keys → Sound keys x.past → JustifiedMessage keys x.past.objects sent
+    → y.amid keys × ExchangedAmid keys x.past sent answered y.past)
     → ((names : Names) → x.calm names → y.calm names × CalmlyExchanged names x.past sent answered y.past)
     → (whole → (answer : Option (List ℕ)) × (or_loss answered ≡ Some answer))
     → JustifiedMessage c.keys x.past.objects sent → IsGood c x → KeepsFurther c.keys whole x y
@@ -99,11 +101,11 @@ further_asked l c x y sent answered places question whole lawful_keys about byte
 
 -- a run is closed: something is delivered, and nothing over a calm link
 pub further_closed : {E : Type 0} → CampaignLaws → (keys : List Key) (y z : Seen) (closed : Result (Unit {0}) E)
-    → ((keys : List Key) → y.amid keys → z.amid keys × PassedAmid keys y.past z.past)
+    → ((keys : List Key) → y.amid keys → Sound keys y.past → z.amid keys × PassedAmid keys y.past z.past)
     → ((names : Names) → y.calm names → z.calm names × OnOk closed (z.past ≡ y.past)) → KeepsFurther keys (closed ≡ Ok tt) y z
 further_closed l keys y z closed ended ended_calmly = record {
   good = λ further lawful prolongs good.
-      let step = ended further good.amid_for in
+      let step = ended further good.amid_for good.sound in
       let kept = l.passing further y.past z.past good.sound step.1 in (
         record { amid_for = step.0; sound = kept.0 },
         record {

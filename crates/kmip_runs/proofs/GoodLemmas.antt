@@ -91,9 +91,10 @@ pub record Left (c : ClientState) (old new : Seen) : Type 0 where
 
 pub left : (l : Lawbook) (c : ClientState) (old new : Seen) (sent : List ℕ) (answered : Result (Option (List ℕ)) LinkFault) → IsLawful c.keys
     → IsGood c old → JustifiedMessage c.keys old.past.objects sent
-    → ((keys : List Key) → old.amid keys → new.amid keys × ExchangedAmid keys old.past sent answered new.past) → Left c old new
+    → ((keys : List Key) → old.amid keys → Sound keys old.past → JustifiedMessage keys old.past.objects sent
+    → new.amid keys × ExchangedAmid keys old.past sent answered new.past) → Left c old new
 left l c old new sent answered lawful good just goes =
-    let step = goes c.keys good.amid_for in
+    let step = goes c.keys good.amid_for good.sound just in
     let kept = l.exchanges c.keys old.past new.past sent answered good.sound just step.1 in
     record {
       amid_for = step.0;

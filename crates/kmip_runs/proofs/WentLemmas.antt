@@ -17,6 +17,7 @@ use Rattle.kmip_protocol.specs.Laws.{DeliveriesKeepTheRequests}
 use Rattle.kmip_protocol.specs.Moves.{Delivered}
 use Rattle.kmip_protocol.specs.Past.{Names, Past, is_planned}
 use Rattle.kmip_protocol.specs.Seen.{Seen}
+use Rattle.kmip_protocol.specs.Sound.{Sound}
 use Rattle.kmip_protocol.specs.Ready.{IsReady}
 use Rattle.kmip_runs.specs.Driving.{AsksOne, IsGood, IsQuestion, Keeps, Learnt, LearntUntil, TakesNothingBack, WentOn, need}
 use Rattle.kmip_runs.specs.declared.stop.Stop.{Stop}
@@ -297,7 +298,7 @@ went_then l a b c stop result m n memory first second =
 -- the end of the run, after these exchanges
 pub went_closed : {V E : Type 0} → CarryingLaws → (a b : Situation) (z : Seen) (result ended : Result Stop SaveFault) (closed : Result V E) (m : ℕ) → IsLawful a.client.keys
     → ((names : Names) → b.link.honest names → z.honest names × Delivered names b.link.past z.past)
-    → ((keys : List Key) → b.link.amid keys → z.amid keys × PassedAmid keys b.link.past z.past)
+    → ((keys : List Key) → b.link.amid keys → Sound keys b.link.past → z.amid keys × PassedAmid keys b.link.past z.past)
     → ((names : Names) → b.link.calm names → z.calm names × OnOk closed (z.past ≡ b.link.past)) → (IsInMemory ended → IsInMemory result)
     → (ended ≡ Ok stops.NoMemory → (result ≡ Ok stops.NoMemory) ⊎ IsInMemory result)
     → (IsWhole ended → IsWhole result × (OnOk closed (z.past ≡ b.link.past) → z.past ≡ b.link.past)) → Went a b result m → Went a (record b { link = z }) ended m
@@ -350,7 +351,7 @@ went_closed l a b z result ended closed m lawful delivers passes calms memory cu
   where
     good_closed : IsGood b.client b.link → IsGood b.client z × WentOn b.client.keys b.link.past z.past
     good_closed good =
-        let step = passes b.client.keys good.amid_for in
+        let step = passes b.client.keys good.amid_for good.sound in
         let kept = l.passing b.client.keys b.link.past z.past good.sound step.1 in
         let on = kept.1 in (
           record {

@@ -10,6 +10,7 @@ use Rattle.kmip_protocol.specs.Moves.{Delivered}
 use Rattle.kmip_protocol.specs.Needs.{chains_and_looks}
 use Rattle.kmip_protocol.specs.Past.{Names, is_planned}
 use Rattle.kmip_protocol.specs.Seen.{Seen}
+use Rattle.kmip_protocol.specs.Sound.{Sound}
 use Rattle.kmip_runs.specs.Driving.{AsksOne, IsBorneOut, IsComplete, IsGood, IsSettling, IsUntouched, Keeps, KeepsFurther, Learnt, LearntUntil, Nearer, TakesNothingBack, WentOn, need}
 use Rattle.kmip_runs.specs.Losing.{ArePaid, IsEnough, left_for}
 use Rattle.kmip_runs.specs.Turning.{IsTurned}
@@ -137,8 +138,9 @@ pub record ClosesHonestly (names : Names) {E : Type 0} (old : Seen) (closed : Re
 pub record ClosesRun {E : Type 0} (old : Seen) (closed : Result (Unit {0}) E) (new : Seen) (follows : Type 0) : Type 0 where
   -- Over a link that is honest for some names, all of this holds.
   pub honestly : (names : Names) → old.honest names → ClosesHonestly names old closed new
-  -- A link that is honest among others of a plan is so after it. What happened in between may happen there.
-  pub amid : (keys : List Key) → old.amid keys → new.amid keys × PassedAmid keys old.past new.past
+  -- A link that is honest among others of a plan, and whose past is sound, is so after it. What happened in
+  -- between may happen there.
+  pub amid : (keys : List Key) → old.amid keys → Sound keys old.past → new.amid keys × PassedAmid keys old.past new.past
   -- A link that is calm for some names is so after it, and unless memory ran out nothing happened.
   pub calm : (names : Names) → old.calm names → new.calm names × OnOk closed (new.past ≡ old.past)
   -- Unless memory ran out, the link after it is what calls made of the link before, as the link itself

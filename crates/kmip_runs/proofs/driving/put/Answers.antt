@@ -112,7 +112,7 @@ returns g c =
           left l client old new c.as_slice.result.now _ lawful good may c.exchange.ensures.amid in
           let so =
           told l client.keys old.past new.past c.as_slice.result.now _ _ stays.sound (sym c.in-Ok.ensures)
-          (c.exchange.ensures.amid client.keys good.amid_for).1 in
+          (c.exchange.ensures.amid client.keys good.amid_for good.sound may).1 in
           let left =
           good_left client next old new stays c.learn.ensures.kept.keys_stay
           (c.learn.ensures.held new.past.objects stays.held (if_handed _ c.in-Ok.answer (λ v. v.items) so)) in
