@@ -1,46 +1,25 @@
 -- What the clients of a company do between two moments is what may pass over a link that is honest among others.
-use Rattle.std.proofs.Common.{◌≡◌, ◌++◌, ◌∷◌, [], List, ap, refl, slice_get, subst, sym, ◌∙◌}
+use Rattle.std.proofs.Common.{◌∷◌, [], List, refl, slice_get}
 use Rattle.kmip_messages.specs.Items.{requests_in}
 use Rattle.kmip_plan.specs.Plans.{IsLawful}
 use Rattle.kmip_plan.specs.declared.key.Key.{Key}
-use Rattle.kmip_protocol.specs.Amid.{AllMayBe, Meanwhile, Occurs, OthersAsk, PassedAmid, after_all, after_meanwhile}
-use Rattle.kmip_protocol.specs.Past.{Past}
+use Rattle.kmip_protocol.specs.Amid.{Occurs, OthersAsk, PassedAmid}
 use Rattle.kmip_company.specs.Companies.{AllMayOccur, Asks, Company, Event, Happens, Hears, Leaves, Loses, MayOccur, Reports, Resumes, Saves, SetsBatch, Starts, after_event, after_events}
 use Rattle.kmip_company.specs.PrivateLawbook.{Lawbook}
 use Rattle.kmip_company.specs.Safety.{IsGoodCompany, IsMember}
 use Rattle.kmip_company.proofs.EventLemmas.{about_there, good_event, justified_message, there}
 use Rattle.kmip_company.proofs.ListLemmas.{all_at}
 
--- nothing passes
-nothing : (keys : List Key) (p : Past) → PassedAmid keys p p
-nothing keys p = record { meanwhile = []; may = tt; is = refl }
-
--- one after the other
-may_both : (keys : List Key) (early late : List Meanwhile) (p : Past) → AllMayBe keys early p → AllMayBe keys late (after_all early p) → AllMayBe keys (early ++ late) p
-may_both keys [] late p may more = more
-may_both keys (one ∷ early) late p may more = (may.0, may_both keys early late (after_meanwhile one p) may.1 more)
-
-after_both : (early late : List Meanwhile) (p : Past) → after_all (early ++ late) p ≡ after_all late (after_all early p)
-after_both [] late p = refl
-after_both (one ∷ early) late p = after_both early late (after_meanwhile one p)
-
-passed_both : (keys : List Key) (old between new : Past) → PassedAmid keys old between → PassedAmid keys between new → PassedAmid keys old new
-passed_both keys old between new early late = record {
-  meanwhile = early.meanwhile ++ late.meanwhile;
-  may = may_both keys early.meanwhile late.meanwhile old early.may (subst (AllMayBe keys late.meanwhile) early.is late.may);
-  is = late.is ∙ ap (after_all late.meanwhile) early.is ∙ sym (after_both early.meanwhile late.meanwhile old);
-}
-
 -- an event of whomever
 passes_event : Lawbook → (keys : List Key) (event : Event) (w : Company) → IsLawful keys → MayOccur keys event w → IsGoodCompany keys w
     → PassedAmid keys w.past (after_event keys event w).past
-passes_event l keys Starts w lawful may good = nothing keys w.past
+passes_event l keys Starts w lawful may good = l.nothing keys w.past
 passes_event l keys (Resumes place) w lawful may good =
-    there (λ v. PassedAmid keys w.past v.past) (slice_get w.saved place) _ w (nothing keys w.past) (λ saved is. nothing keys w.past)
+    there (λ v. PassedAmid keys w.past v.past) (slice_get w.saved place) _ w (l.nothing keys w.past) (λ saved is. l.nothing keys w.past)
 passes_event l keys (SetsBatch place most) w lawful may good =
-    there (λ v. PassedAmid keys w.past v.past) (slice_get w.clients place) _ w (nothing keys w.past) (λ c is. nothing keys w.past)
+    there (λ v. PassedAmid keys w.past v.past) (slice_get w.clients place) _ w (l.nothing keys w.past) (λ c is. l.nothing keys w.past)
 passes_event l keys (Asks place question) w lawful may good =
-    there (λ v. PassedAmid keys w.past v.past) (slice_get w.clients place) _ w (nothing keys w.past)
+    there (λ v. PassedAmid keys w.past v.past) (slice_get w.clients place) _ w (l.nothing keys w.past)
     (λ c is.
     let m = all_at (IsMember keys w.past.objects) w.clients place c good.members is in
     record {
@@ -50,20 +29,20 @@ passes_event l keys (Asks place question) w lawful may good =
     })
 passes_event l keys (Happens move) w lawful may good = record { meanwhile = Occurs move ∷ []; may = (may, tt); is = refl }
 passes_event l keys (Hears place bytes) w lawful may good =
-    there (λ v. PassedAmid keys w.past v.past) (slice_get w.clients place) _ w (nothing keys w.past) (λ c is. nothing keys w.past)
+    there (λ v. PassedAmid keys w.past v.past) (slice_get w.clients place) _ w (l.nothing keys w.past) (λ c is. l.nothing keys w.past)
 passes_event l keys (Loses place key) w lawful may good =
-    there (λ v. PassedAmid keys w.past v.past) (slice_get w.clients place) _ w (nothing keys w.past) (λ c is. nothing keys w.past)
+    there (λ v. PassedAmid keys w.past v.past) (slice_get w.clients place) _ w (l.nothing keys w.past) (λ c is. l.nothing keys w.past)
 passes_event l keys (Saves place) w lawful may good =
-    there (λ v. PassedAmid keys w.past v.past) (slice_get w.clients place) _ w (nothing keys w.past) (λ c is. nothing keys w.past)
+    there (λ v. PassedAmid keys w.past v.past) (slice_get w.clients place) _ w (l.nothing keys w.past) (λ c is. l.nothing keys w.past)
 passes_event l keys (Reports place) w lawful may good =
-    there (λ v. PassedAmid keys w.past v.past) (slice_get w.clients place) _ w (nothing keys w.past) (λ c is. nothing keys w.past)
-passes_event l keys (Leaves place) w lawful may good = nothing keys w.past
+    there (λ v. PassedAmid keys w.past v.past) (slice_get w.clients place) _ w (l.nothing keys w.past) (λ c is. l.nothing keys w.past)
+passes_event l keys (Leaves place) w lawful may good = l.nothing keys w.past
 
 -- events in turn
 pub passes_events : Lawbook → (keys : List Key) (events : List Event) (w : Company) → IsLawful keys → IsGoodCompany keys w → AllMayOccur keys events w
     → PassedAmid keys w.past (after_events keys events w).past
-passes_events l keys [] w lawful good may = nothing keys w.past
+passes_events l keys [] w lawful good may = l.nothing keys w.past
 passes_events l keys (event ∷ events) w lawful good may =
     let next = after_event keys event w in
-    passed_both keys w.past next.past (after_events keys events next).past (passes_event l keys event w lawful may.0 good)
+    l.passes keys w.past next.past (after_events keys events next).past (passes_event l keys event w lawful may.0 good)
     (passes_events l keys events next lawful (good_event l keys event w lawful may.0 good).0 may.1)

@@ -4,6 +4,7 @@ use Rattle.kmip_client.specs.Laws.{AsksWhatItMay, HearingKeepsTheTruth, HeldForG
 use Rattle.kmip_messages.specs.Items.{ReadAreSaid}
 use Rattle.kmip_plan.specs.ChainLaws.{PlacesAndSteps, ReachedIsWithin}
 use Rattle.kmip_plan.specs.Laws.{BoundsAddUp, KeysAreFound}
+use Rattle.kmip_protocol.specs.AmidLaws.{NothingPasses, PassingJoins}
 use Rattle.kmip_protocol.specs.LosingLaws.{CleanTurnsAreNearer, DisturbedTurnsCostTwoEach, LateArrivalsAddNothing, NeedsAreLeft, OpeningLeavesTheBound}
 use Rattle.kmip_protocol.specs.SettlingLaws.{SoundIsReady, WhoNeedsNothingIsFinished}
 use Rattle.kmip_protocol.specs.Laws.{AnswersAreTrue, AskingKeepsSound, AskingKeepsTheImage, DeliveriesKeepSound, DeliveriesKeepTheImage, DeliveriesKeepTheRequests, ExchangesKeepSound, NothingDoneIsSound, ObjectsGoOnward, OpeningIsMirrored, SoundIsSafe}
@@ -36,6 +37,8 @@ pub record Lawbook : Type 0 where
   pub all_left : OpeningLeavesTheBound
   pub grows : DeliveriesKeepTheRequests
   pub exchanged : ExchangesKeepSound
+  pub nothing : NothingPasses
+  pub passes : PassingJoins
   pub bounds : BoundsAddUp
   pub ready : SoundIsReady
   pub needs_left : NeedsAreLeft

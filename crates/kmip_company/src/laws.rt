@@ -24,6 +24,7 @@ use kmip_client::laws::{
 use kmip_messages::laws::answer_laws;
 use kmip_plan::chain_laws::{states_have_places, steps_have_places};
 use kmip_plan::laws::{bounds_add_up, keys_have_names};
+use kmip_protocol::amid_laws::what_passes_passes_for_others;
 use kmip_protocol::laws::{
     answers_are_true, asking_keeps_sound, deliveries_keep_sound, deliveries_keep_the_requests,
     exchanges_keep_sound, nothing_done_is_sound, objects_go_onward, opening_is_mirrored,
@@ -58,6 +59,7 @@ fn laws_below()
     the_image_is_kept();
     deliveries_keep_the_requests();
     exchanges_keep_sound();
+    what_passes_passes_for_others();
     late_arrivals_add_nothing();
     a_losing_turn_is_bounded();
     left_is_bounded();

@@ -1,16 +1,20 @@
 -- Among others the past stays sound, and an image of the plan machine, by each thing that happens in turn.
-use Rattle.std.proofs.Common.{◌≡◌, ℕ, List, [], ◌∷◌, Option, None, Result, Ok, Err, refl, sym, subst, ◌∙◌, inl, inr}
+use Rattle.std.proofs.Common.{◌≡◌, ℕ, List, [], ◌∷◌, ◌++◌, ap, Option, None, Result, Ok, Err, refl, sym, subst, ◌∙◌, inl, inr}
+use Rattle.kmip_batch_items.specs.declared.reply.Reply.{Reply}
+use Rattle.kmip_batch_items.specs.declared.request.Request.{Request}
 use Rattle.kmip_messages.specs.Items.{requests_in}
+use Rattle.kmip_objects.specs.Objects.{Object}
+use Rattle.kmip_server.specs.declared.effect.Effect.{Effect}
 use Rattle.kmip_plan.specs.declared.key.Key.{Key}
 use Rattle.kmip_client.specs.Justified.{JustifiedMessage}
 use Rattle.kmip_client.specs.Places.{Onward}
 use Rattle.kmip_protocol.specs.declared.link_fault.LinkFault.{LinkFault}
 use Rattle.kmip_protocol.specs.declared.link_fault.LinkFault.TheVariants.{Io, Frame, NoMemory}
-use Rattle.kmip_protocol.specs.Amid.{AllMayBe, ExchangedAmid, HandsOverAmid, Occurs, MayBe, Meanwhile, OthersAsk, PassedAmid, after_all, after_meanwhile}
+use Rattle.kmip_protocol.specs.Amid.{AllMayBe, ExchangedAmid, HandsOverAmid, Occurs, MayBe, Meanwhile, OthersAsk, PassedAmid, after_all, after_meanwhile, seen_by_others, with_talk}
 use Rattle.kmip_protocol.specs.Exchanges.{Exchanged, HandsOver, with_asked}
 use Rattle.kmip_protocol.specs.Machine.{IsMirrored}
-use Rattle.kmip_protocol.specs.Moves.{AllMayHappen, Delivered, Move, after_move, after_moves}
-use Rattle.kmip_protocol.specs.Past.{Past, is_planned}
+use Rattle.kmip_protocol.specs.Moves.{AllMayHappen, Changes, Comes, Delivered, MayHappen, Move, Refuse, Serve, Serves, Unanswered, after_move, after_moves}
+use Rattle.kmip_protocol.specs.Past.{Names, Past, is_planned}
 use Rattle.kmip_protocol.specs.PrivateLawbook.{Lawbook}
 use Rattle.kmip_protocol.specs.Sound.{Sound}
 use Rattle.kmip_protocol.proofs.ExchangeLemmas.{asked_sound, handed_sound}
@@ -89,6 +93,115 @@ exchanged_mirrors l keys old new sent (Err Frame) sound image just done = handed
 exchanged_mirrors l keys old new sent (Err NoMemory) sound image just done = elim done [
   | inl before ↦ passed_mirrors l keys old new sound image before
   | inr later ↦ later_mirrors l keys old new sent sound image just later
+]
+
+-- ---- one after the other
+
+pub passed_nothing : (keys : List Key) (p : Past) → PassedAmid keys p p
+passed_nothing keys p = record { meanwhile = []; may = tt; is = refl }
+
+may_both : (keys : List Key) (early late : List Meanwhile) (p : Past) → AllMayBe keys early p → AllMayBe keys late (after_all early p) → AllMayBe keys (early ++ late) p
+may_both keys [] late p may more = more
+may_both keys (one ∷ early) late p may more = (may.0, may_both keys early late (after_meanwhile one p) may.1 more)
+
+after_both : (early late : List Meanwhile) (p : Past) → after_all (early ++ late) p ≡ after_all late (after_all early p)
+after_both [] late p = refl
+after_both (one ∷ early) late p = after_both early late (after_meanwhile one p)
+
+pub passed_both : (keys : List Key) (old between new : Past) → PassedAmid keys old between → PassedAmid keys between new → PassedAmid keys old new
+passed_both keys old between new early late = record {
+  meanwhile = early.meanwhile ++ late.meanwhile;
+  may = may_both keys early.meanwhile late.meanwhile old early.may (subst (AllMayBe keys late.meanwhile) early.is late.may);
+  is = late.is ∙ ap (after_all late.meanwhile) early.is ∙ sym (after_both early.meanwhile late.meanwhile old);
+}
+
+-- ---- whatever was sent and handed over
+
+served_blind : (p : Past) (sent : List (List ℕ)) (handed : List (Option (List ℕ))) (request : Request) (reply : Reply) (objects : List Object) (joined : Option Effect)
+    → Serves p request reply objects joined → Serves (with_talk sent handed p) request reply objects joined
+served_blind p sent handed request reply objects joined serves = record {
+  asked = serves.asked;
+  step = serves.step;
+  operation_is = serves.operation_is;
+  id_is = serves.id_is;
+  effects = serves.effects;
+}
+
+move_blind : (names : Names) (sent : List (List ℕ)) (handed : List (Option (List ℕ))) (move : Move) (p : Past) → MayHappen names move p
+    → MayHappen names move (with_talk sent handed p)
+move_blind names sent handed (Serve request reply objects joined) p may = served_blind p sent handed request reply objects joined may
+move_blind names sent handed (Unanswered request reply objects joined) p may = served_blind p sent handed request reply objects joined may
+move_blind names sent handed (Refuse reply) p may = may
+move_blind names sent handed (Comes o) p may = record { foreign = may.foreign; name_is_free = may.name_is_free; uid_is_free = may.uid_is_free }
+move_blind names sent handed (Changes front old new back) p may = record {
+  stands = may.stands;
+  was_foreign = may.was_foreign;
+  is_foreign = may.is_foreign;
+  names_differ = may.names_differ;
+  uids_differ = may.uids_differ;
+}
+
+one_blind : (keys : List Key) (sent : List (List ℕ)) (handed : List (Option (List ℕ))) (one : Meanwhile) (p : Past) → MayBe keys one p
+    → MayBe keys one (with_talk sent handed p)
+one_blind keys sent handed (OthersAsk requests) p may = may
+one_blind keys sent handed (Occurs move) p may = move_blind (is_planned keys) sent handed move p may
+
+after_move_blind : (sent : List (List ℕ)) (handed : List (Option (List ℕ))) (move : Move) (p : Past)
+    → after_move move (with_talk sent handed p) ≡ with_talk sent handed (after_move move p)
+after_move_blind sent handed (Serve request reply objects joined) p = refl
+after_move_blind sent handed (Unanswered request reply objects joined) p = refl
+after_move_blind sent handed (Refuse reply) p = refl
+after_move_blind sent handed (Comes o) p = refl
+after_move_blind sent handed (Changes front old new back) p = refl
+
+after_one_blind : (sent : List (List ℕ)) (handed : List (Option (List ℕ))) (one : Meanwhile) (p : Past)
+    → after_meanwhile one (with_talk sent handed p) ≡ with_talk sent handed (after_meanwhile one p)
+after_one_blind sent handed (OthersAsk requests) p = refl
+after_one_blind sent handed (Occurs move) p = after_move_blind sent handed move p
+
+all_blind : (keys : List Key) (sent : List (List ℕ)) (handed : List (Option (List ℕ))) (more : List Meanwhile) (p : Past) → AllMayBe keys more p
+    → AllMayBe keys more (with_talk sent handed p)
+all_blind keys sent handed [] p may = tt
+all_blind keys sent handed (one ∷ more) p may = (
+  one_blind keys sent handed one p may.0,
+  subst (AllMayBe keys more) (sym (after_one_blind sent handed one p)) (all_blind keys sent handed more (after_meanwhile one p) may.1),
+)
+
+after_all_blind : (sent : List (List ℕ)) (handed : List (Option (List ℕ))) (more : List Meanwhile) (p : Past)
+    → with_talk sent handed (after_all more p) ≡ after_all more (with_talk sent handed p)
+after_all_blind sent handed [] p = refl
+after_all_blind sent handed (one ∷ more) p =
+    after_all_blind sent handed more (after_meanwhile one p) ∙ ap (after_all more) (sym (after_one_blind sent handed one p))
+
+pub passed_blind : (keys : List Key) (sent : List (List ℕ)) (handed : List (Option (List ℕ))) (old new : Past) → PassedAmid keys old new
+    → PassedAmid keys (with_talk sent handed old) (with_talk sent handed new)
+passed_blind keys sent handed old new passed = record {
+  meanwhile = passed.meanwhile;
+  may = all_blind keys sent handed passed.meanwhile old passed.may;
+  is = ap (with_talk sent handed) passed.is ∙ after_all_blind sent handed passed.meanwhile old;
+}
+
+-- ---- an exchange is one of those of others
+
+later_passes : (keys : List Key) (old new : Past) (sent : List ℕ) → JustifiedMessage keys old.objects sent → PassedAmid keys (with_asked sent old) new
+    → PassedAmid keys (seen_by_others old) (seen_by_others new)
+later_passes keys old new sent just later =
+    let blind = passed_blind keys [] [] (with_asked sent old) new later in
+    record { meanwhile = OthersAsk (requests_in sent) ∷ blind.meanwhile; may = (just, blind.may); is = blind.is }
+
+handed_passes : (keys : List Key) (old new : Past) (sent : List ℕ) (answer : Option (List ℕ)) → JustifiedMessage keys old.objects sent
+    → HandsOverAmid keys old sent answer new → PassedAmid keys (seen_by_others old) (seen_by_others new)
+handed_passes keys old new sent answer just hands =
+    subst (λ p. PassedAmid keys (seen_by_others old) (seen_by_others p)) (sym hands.is) (later_passes keys old hands.between sent just hands.passed)
+
+pub exchanged_passes : (keys : List Key) (old new : Past) (sent : List ℕ) (answer : Result (Option (List ℕ)) LinkFault) → JustifiedMessage keys old.objects sent
+    → ExchangedAmid keys old sent answer new → PassedAmid keys (seen_by_others old) (seen_by_others new)
+exchanged_passes keys old new sent (Ok answer) just done = handed_passes keys old new sent answer just done
+exchanged_passes keys old new sent (Err Io) just done = handed_passes keys old new sent None just done
+exchanged_passes keys old new sent (Err Frame) just done = handed_passes keys old new sent None just done
+exchanged_passes keys old new sent (Err NoMemory) just done = elim done [
+  | inl before ↦ passed_blind keys [] [] old new before
+  | inr later ↦ later_passes keys old new sent just later
 ]
 
 -- ---- where nobody else asks

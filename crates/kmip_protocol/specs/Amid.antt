@@ -44,6 +44,14 @@ pub record PassedAmid (keys : List Key) (old new : Past) : Type 0 where
   pub may : AllMayBe keys meanwhile old
   pub is : new ≡ after_all meanwhile old
 
+-- The past with other lists of what was sent and handed over.
+abbrev pub with_talk : List (List ℕ) → List (Option (List ℕ)) → Past → Past
+with_talk sent handed p = record p { sent = sent; handed = handed }
+
+-- What others see of the past: nothing of what was sent and handed over here.
+abbrev pub seen_by_others : Past → Past
+seen_by_others p = with_talk [] [] p
+
 -- The requests of a message join those asked, things happen and others ask, and an answer is handed over: none, or
 -- a message whose replies were all given some time.
 pub record HandsOverAmid (keys : List Key) (old : Past) (sent : List ℕ) (answer : Option (List ℕ)) (new : Past) : Type 0 where

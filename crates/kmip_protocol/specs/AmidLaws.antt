@@ -5,7 +5,7 @@ use Rattle.kmip_client.specs.Justified.{JustifiedMessage}
 use Rattle.kmip_client.specs.Places.{Onward}
 use Rattle.kmip_plan.specs.declared.key.Key.{Key}
 use Rattle.kmip_protocol.specs.declared.link_fault.LinkFault.{LinkFault}
-use Rattle.kmip_protocol.specs.Amid.{ExchangedAmid, PassedAmid}
+use Rattle.kmip_protocol.specs.Amid.{ExchangedAmid, PassedAmid, seen_by_others, with_talk}
 use Rattle.kmip_protocol.specs.Exchanges.{Exchanged}
 use Rattle.kmip_protocol.specs.Machine.{IsMirrored}
 use Rattle.kmip_protocol.specs.Moves.{Delivered}
@@ -36,6 +36,29 @@ ExchangesAmidKeepTheImage =
     (keys : List Key) (old new : Past) (sent : List ℕ) (answer : Result (Option (List ℕ)) LinkFault) → Sound keys old
     → IsMirrored keys old → JustifiedMessage keys old.objects sent → ExchangedAmid keys old sent answer new
     → IsMirrored keys new
+
+-- nothing may pass among others
+abbrev pub NothingPasses : Type 0
+NothingPasses = (keys : List Key) (p : Past) → PassedAmid keys p p
+
+-- what may pass in turn may pass in one
+abbrev pub PassingJoins : Type 0
+PassingJoins =
+    (keys : List Key) (first second third : Past) → PassedAmid keys first second → PassedAmid keys second third
+    → PassedAmid keys first third
+
+-- what may pass may pass whatever was sent and handed over
+abbrev pub PassingIsBlind : Type 0
+PassingIsBlind =
+    (keys : List Key) (sent : List (List ℕ)) (handed : List (Option (List ℕ))) (old new : Past) → PassedAmid keys old new
+    → PassedAmid keys (with_talk sent handed old) (with_talk sent handed new)
+
+-- an exchange among others whose requests may be asked may itself pass over the links of others
+abbrev pub ExchangesPass : Type 0
+ExchangesPass =
+    (keys : List Key) (old new : Past) (sent : List ℕ) (answer : Result (Option (List ℕ)) LinkFault)
+    → JustifiedMessage keys old.objects sent → ExchangedAmid keys old sent answer new
+    → PassedAmid keys (seen_by_others old) (seen_by_others new)
 
 -- what may happen where nobody else asks, may happen among others
 abbrev pub DeliveriesAreAmid : Type 0

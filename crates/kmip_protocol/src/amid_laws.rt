@@ -5,6 +5,10 @@ ghost use Rattle.kmip_protocol.specs.AmidLaws.{
   ExchangesAmidKeepSound,
   ExchangesAmidKeepTheImage,
   ExchangesAreAmid,
+  ExchangesPass,
+  NothingPasses,
+  PassingIsBlind,
+  PassingJoins,
   PassingAmidKeepsSound,
   PassingAmidKeepsTheImage,
 };
@@ -30,6 +34,18 @@ pub fn the_image_is_kept_amid_others()
 {
     laws_below();
 }
+
+/// What passes among others passes over the link of each of them.
+pub fn what_passes_passes_for_others()
+    // Nothing may pass.
+    ensures nothing { NothingPasses }
+    // What may pass in turn may pass in one.
+    ensures joins { PassingJoins }
+    // What may pass may pass whatever was sent and handed over.
+    ensures blind { PassingIsBlind }
+    // An exchange whose requests may be asked may pass over the links of others: to them it is one of those that ask.
+    ensures exchanges { ExchangesPass }
+{}
 
 /// A link that is honest for the names of a plan does what one among others may do: nobody else asks.
 pub fn what_is_honest_is_amid()

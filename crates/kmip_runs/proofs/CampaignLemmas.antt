@@ -17,7 +17,7 @@ use Rattle.kmip_client.specs.Knowledge.{chain_length, verdict_of}
 use Rattle.kmip_client.specs.Places.{Onward, position}
 use Rattle.kmip_client.specs.Verdicts.{counts_of, verdicts_of}
 use Rattle.kmip_client.specs.declared.knowledge.Knowledge.{Knowledge}
-use Rattle.kmip_protocol.specs.Amid.{PassedAmid}
+use Rattle.kmip_protocol.specs.Amid.{PassedAmid, seen_by_others}
 use Rattle.kmip_protocol.specs.Laws.{IsReached}
 use Rattle.kmip_protocol.specs.Past.{Past}
 use Rattle.kmip_protocol.specs.Seen.{Seen}
@@ -33,6 +33,7 @@ use Rattle.kmip_runs.specs.declared.run_end.RunEnd.{RunEnd}
 use Rattle.kmip_runs.specs.declared.ending.Ending.{Ending}
 use Rattle.kmip_runs.specs.declared.stop.Stop.{Stop}
 use Rattle.kmip_runs.specs.declared.stop.Stop.TheVariants as stops
+use Rattle.kmip_runs.proofs.OnLemmas.{on_nowhere}
 
 -- ---- the keys of a plan
 
@@ -261,6 +262,7 @@ closed l keys c x y z ends saved lawful c_keys ended (standing, went) =
       record {
         onward = l.twice keys x.past.objects y.past.objects z.past.objects went.onward on;
         mirrored = λ image. l.images keys y.past z.past sound (went.mirrored image) step.1;
+        passed = l.joins keys (seen_by_others x.past) (seen_by_others y.past) (seen_by_others z.past) went.passed (l.blind_to keys [] [] y.past z.past step.1);
       },
     )
 
@@ -277,7 +279,7 @@ opened l keys c x ends saved c_keys held no_end none_saved good = (
     };
     noted = noted_none x.past.objects keys ends saved no_end none_saved;
   },
-  record { onward = l.itself keys x.past.objects; mirrored = λ image. image },
+  on_nowhere l.itself l.nothing keys x.past,
 )
 
 pub campaigned : (keys : List Key) (c : ClientState) (x y : Seen) (ends : List RunEnd) (saved : List (List Known)) → c.keys ≡ keys

@@ -1,17 +1,16 @@
 -- Runs of which a crash may end some: what a crash leaves is true, and takes back nothing of what its run began with.
 use Rattle.std.specs.Prelude.{IsSome}
-use Rattle.std.proofs.Common.{◌≡◌, ◌≢◌, ◌≤◌, ◌<◌, ℕ, false, get_or, IsTrue, zero, suc, List, [], ◌∷◌, ◌++◌, length, map, take, slice_get, None, Option, Some, Ok, Err, Result, OnErr, OnOk, inl, inr, refl, sym, subst, ap, ◌∙◌, ◌⊎◌, ⊎_elim, arith}
+use Rattle.std.proofs.Common.{◌≡◌, ◌≢◌, ◌≤◌, ◌<◌, ℕ, false, get_or, IsTrue, zero, suc, List, [], ◌∷◌, ◌++◌, length, map, take, slice_get, None, Some, Ok, Err, Result, OnErr, OnOk, inl, inr, refl, sym, subst, ap, ◌∙◌, ◌⊎◌, arith}
 use Rattle.std.specs.List.{All, AllZip}
 use Rattle.std.proofs.lemmas.List.{length-append}
-use Rattle.std.proofs.lemmas.List.Elements.{All-head, All-nil, All-push, All-tail}
+use Rattle.std.proofs.lemmas.List.Elements.{All-head, All-nil, All-tail}
 use Rattle.kmip_client.specs.Clients.{ClientState, fresh}
 use Rattle.kmip_client.specs.Held.{Held, TrueProgress}
-use Rattle.kmip_client.specs.Knowledge.{lost_phase}
 use Rattle.kmip_client.specs.Laws.{HeldIsNoConflict}
 use Rattle.kmip_client.specs.Saving.{knowledge_from, known_of, progress, resume}
 use Rattle.kmip_client.specs.Shapes.{IsKept}
 use Rattle.kmip_client.specs.declared.knowledge.Knowledge.{Knowledge}
-use Rattle.kmip_disk.specs.Views.{Content, DiskView}
+use Rattle.kmip_disk.specs.Views.{Content}
 use Rattle.kmip_disk.specs.Whole.{IsOneOf}
 use Rattle.kmip_messages.specs.Members.{may_have}
 use Rattle.kmip_objects.specs.Objects.{Object}
@@ -25,15 +24,14 @@ use Rattle.kmip_progress.specs.declared.progress_fault.ProgressFault.{ProgressFa
 use Rattle.kmip_protocol.specs.Past.{is_planned}
 use Rattle.kmip_protocol.specs.Seen.{Seen}
 use Rattle.kmip_runs.specs.Campaign.{IsEnd}
-use Rattle.kmip_runs.specs.Crashes.{AreMade, Between, CrashesWell, IsLeftBy, IsMade, MayCrash, at_first}
+use Rattle.kmip_runs.specs.Crashes.{AreMade, Between, CrashesWell, IsMade, MayCrash, at_first}
 use Rattle.kmip_runs.specs.Driving.{IsBorneOut, IsGood, SomeClash, WentOn}
 use Rattle.kmip_runs.specs.Headline.{reported}
 use Rattle.kmip_runs.specs.Lasting.{IsReadBack, Leaves}
-use Rattle.kmip_runs.specs.PrivateCampaignParts.{AreSame, CampaignLaws, CampaignStage, HasEnded, HasRun, IsBroken, IsEnding, Noted, RunsOne, Standing, begins_with}
+use Rattle.kmip_runs.specs.PrivateCampaignParts.{CampaignLaws, CampaignStage, HasEnded, HasRun, IsBroken, Noted, RunsOne}
 use Rattle.kmip_runs.specs.PrivateCrashes.{AreCrashing, BeginsWith, CrashStage, CrashesEach, CrashesGood, CrashesOne, HasCome, IsLeftOn, IsStanding, IsUnchanged, StandsOn, between}
-use Rattle.kmip_runs.specs.Remembering.{saved_after, start_knowns}
+use Rattle.kmip_runs.specs.Remembering.{start_knowns}
 use Rattle.kmip_runs.specs.Saved.{AreKept, Moment, Situation, grounds_in, text_at}
-use Rattle.kmip_runs.specs.declared.campaign_end.CampaignEnd.{CampaignEnd}
 use Rattle.kmip_runs.specs.declared.crashes_end.CrashesEnd.{CrashesEnd}
 use Rattle.kmip_runs.specs.declared.crash.Crash.{Crash}
 use Rattle.kmip_runs.specs.declared.crash_fault.CrashFault.{CrashFault}
@@ -49,6 +47,7 @@ use Rattle.kmip_ttlv.specs.declared.no_memory.NoMemory.{NoMemory}
 use Rattle.kmip_runs.proofs.CampaignLemmas.{campaigned, good_with, noted_none, opened, reported_reached, stood, true_onward}
 use Rattle.kmip_runs.proofs.OrderLemmas.{one_further}
 use Rattle.kmip_runs.proofs.WentLemmas.{kept_itself, kept_then}
+use Rattle.kmip_runs.proofs.OnLemmas.{on_nowhere, on_then}
 
 -- ---- what a crash leaves of one run
 
@@ -243,10 +242,7 @@ crashed_come keys run crash begun c old new driven left good whole begins within
 -- ---- runs in turn
 
 twice_on : CampaignLaws → (keys : List Key) (x y z : Seen) → WentOn keys x.past y.past → WentOn keys y.past z.past → WentOn keys x.past z.past
-twice_on l keys x y z first second = record {
-  onward = l.twice keys x.past.objects y.past.objects z.past.objects first.onward second.onward;
-  mirrored = λ image. second.mirrored (first.mirrored image);
-}
+twice_on l keys x y z first second = on_then l.twice l.joins keys x.past y.past z.past first second
 
 -- no run was made yet
 pub crashing_none : CampaignLaws → (keys : List Key) (runs : List CrashingRun) (client : ClientState) (x : Seen) (end : CrashesEnd) → client ≡ fresh keys
@@ -324,7 +320,7 @@ crashing_nothing l keys runs x end fault no_end none_saved none_left none = reco
   well = λ good. record {
     campaigned = record {
       good = good;
-      on = record { onward = l.itself keys x.past.objects; mirrored = λ image. image };
+      on = on_nowhere l.itself l.nothing keys x.past;
       noted = noted_none x.past.objects keys end.campaign.runs.items end.campaign.saved.items no_end none_saved;
     };
     true_left = rw none_left (All-nil (TrueProgress x.past.objects keys));
@@ -403,7 +399,7 @@ crashed_off l keys run old new begun result fault lawful old_keys begun_keys new
 
 -- where nothing has happened, the objects have gone onward
 pub on_itself : CampaignLaws → (keys : List Key) (x : Seen) → WentOn keys x.past x.past
-on_itself l keys x = record { onward = l.itself keys x.past.objects; mirrored = λ image. image }
+on_itself l keys x = on_nowhere l.itself l.nothing keys x.past
 
 -- all that is reported was reached, so what is sound is safe
 pub crashes_well : CampaignLaws → (keys : List Key) (old new : Seen) (ended end : CrashesEnd) → IsLawful keys → end.campaign.runs.items ≡ ended.campaign.runs.items

@@ -57,14 +57,14 @@ driven_none l c link = record {
   keeps = keeps_itself c;
   near = nearer_none c link;
   honest_still = λ names holds. holds;
-  further = λ good. further_nowhere l.itself c.keys link ⊤;
+  further = λ good. further_nowhere l.itself l.nothing c.keys link ⊤;
 }
 
 -- what is kept for a plan that prolongs the client's, by one more turn
 pub further_last : Lawbook → (a b c : ClientState) (x y z : Seen) (m : ℕ) (whole : Type 0) → Driven a b x y m
     → (IsGood b y → KeepsFurther b.keys whole y z) → IsGood a x → KeepsFurther a.keys whole x z
 further_last l a b c x y z m whole first last good =
-    further_then l.twice a.keys x y z ⊤ whole (λ is. tt) (first.further good)
+    further_then l.twice l.joins a.keys x y z ⊤ whole (λ is. tt) (first.further good)
     (subst (λ ks. KeepsFurther ks whole y z) first.keeps.keys_stay (last (first.good good)))
 
 -- where the turns were broken off, nothing is said of a calm link

@@ -1,5 +1,5 @@
 -- What is kept for a plan that prolongs the one that is carried out.
-use Rattle.std.proofs.Common.{◌≡◌, ◌≤◌, ℕ, ◌+◌, List, length, Option, Some, Result, Ok, OnOk, sym, subst, arith}
+use Rattle.std.proofs.Common.{◌≡◌, ◌≤◌, ℕ, ◌+◌, List, [], length, Option, Some, Result, Ok, OnOk, sym, subst, arith}
 use Rattle.std.proofs.lemmas.List.Elements.{All-weaker}
 use Rattle.kmip_messages.specs.Items.{requests_in}
 use Rattle.kmip_plan.specs.Plans.{IsLawful}
@@ -23,24 +23,25 @@ use Rattle.kmip_runs.specs.PrivateCampaignParts.{CampaignLaws}
 use Rattle.kmip_runs.specs.Driving.{IsGood, KeepsFurther, WentOn}
 use Rattle.kmip_runs.specs.PrivateLawbook.{Lawbook}
 use Rattle.kmip_protocol.specs.Losses.{or_loss}
+use Rattle.kmip_protocol.specs.AmidLaws.{NothingPasses, PassingJoins}
+use Rattle.kmip_runs.proofs.OnLemmas.{on_nowhere, on_then}
 use Rattle.kmip_runs.proofs.SettleLemmas.{calmly}
 
 -- where nothing is done
-pub further_nowhere : OnwardToItself → (keys : List Key) (link : Seen) (whole : Type 0) → KeepsFurther keys whole link link
-further_nowhere itself keys link whole = record {
-  good = λ further lawful prolongs good. (good, record { onward = itself further link.past.objects; mirrored = λ image. image });
+pub further_nowhere : OnwardToItself → NothingPasses → (keys : List Key) (link : Seen) (whole : Type 0) → KeepsFurther keys whole link link
+further_nowhere itself nothing keys link whole = record {
+  good = λ further lawful prolongs good. (good, on_nowhere itself nothing further link.past);
   calmly = λ is further lawful prolongs calmly. calmly;
 }
 
 -- one after the other
-pub further_then : OnwardTwice → (keys : List Key) (x y z : Seen) (first second : Type 0) → (second → first) → KeepsFurther keys first x y
+pub further_then : OnwardTwice → PassingJoins → (keys : List Key) (x y z : Seen) (first second : Type 0) → (second → first) → KeepsFurther keys first x y
     → KeepsFurther keys second y z → KeepsFurther keys second x z
-further_then twice keys x y z first second also a b = record {
+further_then twice joins keys x y z first second also a b = record {
   good = λ further lawful prolongs good.
       let before = a.good further lawful prolongs good in
       let after = b.good further lawful prolongs before.0 in
-      let on = twice further x.past.objects y.past.objects z.past.objects before.1.onward after.1.onward in
-      (after.0, record { onward = on; mirrored = λ image. after.1.mirrored (before.1.mirrored image) });
+      (after.0, on_then twice joins further x.past y.past z.past before.1 after.1);
   calmly = λ is further lawful prolongs calmly. b.calmly is further lawful prolongs (a.calmly (also is) further lawful prolongs calmly);
 }
 
@@ -67,6 +68,7 @@ asked_further l keys further x y sent answered lawful prolongs just goes good =
       record {
         onward = kept.1;
         mirrored = λ image. l.images further x.past y.past sent answered good.sound image asked step.1;
+        passed = l.pass further x.past y.past sent answered asked step.1;
       },
     )
 
@@ -111,6 +113,7 @@ further_closed l keys y z closed ended ended_calmly = record {
         record {
           onward = kept.1;
           mirrored = λ image. l.images further y.past z.past good.sound image step.1;
+          passed = l.blind_to further [] [] y.past z.past step.1;
         },
       );
   calmly = λ is further lawful prolongs far.

@@ -22,6 +22,7 @@ use Rattle.kmip_protocol.specs.declared.link_fault.LinkFault.TheVariants.{Io, Fr
 use Rattle.kmip_runs.specs.Driving.{IsGood, Keeps, WentOn}
 use Rattle.kmip_runs.specs.PrivateLawbook.{Lawbook}
 use Rattle.kmip_protocol.specs.Losses.{or_loss}
+use Rattle.kmip_runs.proofs.OnLemmas.{on_nowhere, on_then}
 
 -- ---- nothing is taken back
 
@@ -56,13 +57,10 @@ keeps_asked c next is = subst (λ n. Keeps c n) (sym is) (record { keys_stay = r
 -- ---- what goes on
 
 pub went_nowhere : (l : Lawbook) (keys : List Key) (p : Past) → WentOn keys p p
-went_nowhere l keys p = record { onward = l.itself keys p.objects; mirrored = λ image. image }
+went_nowhere l keys p = on_nowhere l.itself l.nothing keys p
 
 pub went_then : (l : Lawbook) (keys : List Key) (old between new : Past) → WentOn keys old between → WentOn keys between new → WentOn keys old new
-went_then l keys old between new first second = record {
-  onward = l.twice keys old.objects between.objects new.objects first.onward second.onward;
-  mirrored = λ image. second.mirrored (first.mirrored image);
-}
+went_then l keys old between new first second = on_then l.twice l.joins keys old between new first second
 
 -- what holds of the bytes that were handed over
 pub if_handed : {X : Type 0} (P : List ℕ → Type 0) (answer : Option X) (bytes : X → List ℕ) → IfSome (option_map bytes answer) P → IfSome answer (λ x. P (bytes x))
@@ -103,6 +101,7 @@ left l c old new sent answered lawful good just goes =
       on = record {
         onward = kept.1;
         mirrored = λ image. l.images c.keys old.past new.past sent answered good.sound image just step.1;
+        passed = l.pass c.keys old.past new.past sent answered just step.1;
       };
     }
 

@@ -2,6 +2,7 @@ pub mod PutLemmas
 pub mod FactLemmas
 pub mod KnownLemmas
 pub mod TurnLemmas
+pub mod OnLemmas
 pub mod GoodLemmas
 pub mod ReportLemmas
 pub mod SettleLemmas

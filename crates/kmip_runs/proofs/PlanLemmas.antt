@@ -37,6 +37,7 @@ use Rattle.kmip_runs.proofs.LastLemmas.{noted_for_both, noted_for_none, noted_fo
 use Rattle.kmip_runs.proofs.RememberLemmas.{flat_push}
 use Rattle.kmip_runs.proofs.RunLemmas.{known_if}
 use Rattle.kmip_runs.proofs.PartLemmas.{first_is, last_prolongs, last_short, next_prolongs, parts_all, parts_broken, parts_if, parts_long, parts_more, take_none}
+use Rattle.kmip_runs.proofs.OnLemmas.{on_nowhere, on_then}
 
 -- ---- what was saved, read for the next plan
 
@@ -186,7 +187,7 @@ module _ (plans : List (List Key)) (runs : List (List Run)) where
           good = record {
             good = record { amid_for = x.honest_is_amid (last_plan plans) start.honest_for; sound = l.sound (last_plan plans) (first_plan plans) x.past first_lawful lawful prolongs start.none_further start.sound };
             honest = start.honest_for;
-            went = record { onward = r.itself (last_plan plans) x.past.objects; mirrored = λ image. image };
+            went = on_nowhere r.itself r.nothing (last_plan plans) x.past;
             noted = noted_for_none (last_plan plans) x.past end.runs.items end.saved.items no_end none_saved;
           };
           sound = λ keys at lawful_keys. subst (λ ks. Sound ks x.past) (first_is plans keys at) start.sound;
@@ -275,10 +276,7 @@ module _ (plans : List (List Key)) (runs : List (List Run)) where
               record {
                 good = last;
                 honest = ran.all.stays_honest (is_planned (last_plan plans)) reached.good.honest;
-                went = record {
-                  onward = r.twice (last_plan plans) start.past.objects x.past.objects y.past.objects reached.good.went.onward went.onward;
-                  mirrored = λ image. went.mirrored (reached.good.went.mirrored image);
-                };
+                went = on_then r.twice r.joins (last_plan plans) start.past x.past y.past reached.good.went went;
                 noted = rw (ran.runs_are, ran.saved_are)
                     (noted_for_both (last_plan plans) y.past old.runs.items ran.part.runs.items old.saved.items ran.part.saved.items
                     (noted_for_onward r (last_plan plans) x.past y.past old.runs.items old.saved.items lawful went.onward reached.good.noted)

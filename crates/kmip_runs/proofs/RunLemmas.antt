@@ -26,6 +26,7 @@ use Rattle.kmip_runs.specs.declared.stop.Stop.{Stop}
 use Rattle.kmip_runs.specs.declared.stop.Stop.TheVariants as stops
 use Rattle.kmip_runs.proofs.CampaignLemmas.{campaigned, good_with, noted_none, opened, true_onward}
 use Rattle.kmip_runs.proofs.FurtherLemmas.{calm_good, further_nowhere, further_then}
+use Rattle.kmip_runs.proofs.OnLemmas.{on_nowhere, on_then}
 use Rattle.kmip_runs.proofs.OrderLemmas.{ends_more, saved_long, saves_more, zip_more}
 use Rattle.kmip_runs.proofs.RememberLemmas.{Recalled, recalled_more, recalled_none}
 
@@ -73,8 +74,8 @@ module _ (keys : List Key) (carried : List (List Known)) where
       let now = carried_on l start x lawful went holds in
       let (then, on) = stands standing now in (
         then,
-        record { onward = l.twice keys start.past.objects x.past.objects y.past.objects went.onward on.onward; mirrored = λ image. on.mirrored (went.mirrored image) },
-        further_then l.twice keys start x y ⊤ whole (λ is. tt) (before.further good holds) (further standing now),
+        on_then l.twice l.joins keys start.past x.past y.past went on,
+        further_then l.twice l.joins keys start x y ⊤ whole (λ is. tt) (before.further good holds) (further standing now),
       )
 
   pub ran_off : CampaignLaws → (a b : ClientState) (start x y : Seen) (runs : List Run) (at : ℕ) (whole : Type 0) (ends nexts : List RunEnd) (saved kept : List (List Known))
@@ -135,7 +136,7 @@ module _ (keys : List Key) (carried : List (List Known)) where
         suits = rw none_saved (All-nil (Suits keys));
         stands = λ good holds. opened l keys c x ends saved c_keys (held x.past.objects) no_end none_saved good;
         honest_still = λ names honestly. honestly;
-        further = λ good holds. further_nowhere l.itself keys x ⊤;
+        further = λ good holds. further_nowhere l.itself l.nothing keys x ⊤;
         each = rw no_end (none_each (IsEnd keys) runs);
         settled = λ calmly holds. (rw no_end (none_each (Settles keys) runs), calmly);
         as_many_ends = ap length no_end;
@@ -149,10 +150,10 @@ module _ (keys : List Key) (carried : List (List Known)) where
   ran_nothing l x whole ends saved no_end none_saved good = (
     record {
       good = good;
-      on = record { onward = l.itself keys x.past.objects; mirrored = λ image. image };
+      on = on_nowhere l.itself l.nothing keys x.past;
       noted = noted_none x.past.objects keys ends saved no_end none_saved;
     },
-    further_nowhere l.itself keys x whole,
+    further_nowhere l.itself l.nothing keys x whole,
   )
 
   -- a run is begun and driven

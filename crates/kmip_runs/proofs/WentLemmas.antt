@@ -25,6 +25,7 @@ use Rattle.kmip_runs.specs.declared.stop.Stop.TheVariants as stops
 use Rattle.kmip_runs.specs.PrivateCarried.{CarryingLaws, Went}
 use Rattle.kmip_runs.specs.Saved.{IsInMemory, IsWhole, Situation}
 use Rattle.kmip_runs.specs.declared.save_fault.SaveFault.{SaveFault}
+use Rattle.kmip_runs.proofs.OnLemmas.{on_nowhere, on_then}
 
 abbrev ok : Stop → Result Stop SaveFault
 ok stop = Ok stop
@@ -228,7 +229,7 @@ stop_is s t is = cc
 pub went_nowhere : CarryingLaws → (a : Situation) (result : Result Stop SaveFault) → IsInMemory result → Went a a result 0
 went_nowhere l a result memory = record {
   good = λ good. good;
-  onward = λ good. record { onward = l.itself a.client.keys a.link.past.objects; mirrored = λ image. image };
+  onward = λ good. on_nowhere l.itself l.nothing a.client.keys a.link.past;
   learns = λ holds. (holds, λ in_memory. learnt_nothing a.client.keys a.client.batch a.link.past a.client.knowns);
   broken = λ holds is. absurd (memory is);
   takes_nothing_back = λ holds. grown_itself a.link.past;
@@ -240,7 +241,7 @@ went_nowhere l a result memory = record {
 pub went_unbegun : CarryingLaws → (a : Situation) → Went a a (Ok stops.NoMemory) 0
 went_unbegun l a = record {
   good = λ good. good;
-  onward = λ good. record { onward = l.itself a.client.keys a.link.past.objects; mirrored = λ image. image };
+  onward = λ good. on_nowhere l.itself l.nothing a.client.keys a.link.past;
   learns = λ holds. (holds, λ memory. absurd (memory refl));
   broken = λ holds is. record {
     between = a.link.past;
@@ -263,10 +264,7 @@ went_then l a b c stop result m n memory first second =
       onward = λ good.
           let before = first.onward good in
           let after = subst (λ ks. WentOn ks b.link.past c.link.past) keys (second.onward (first.good good)) in
-          record {
-            onward = l.twice a.client.keys a.link.past.objects b.link.past.objects c.link.past.objects before.onward after.onward;
-            mirrored = λ image. after.mirrored (before.mirrored image);
-          };
+          on_then l.twice l.joins a.client.keys a.link.past b.link.past c.link.past before after;
       learns = λ holds.
           let before = first.learns holds in
           let after = second.learns (subst (λ ks. b.link.honest (is_planned ks)) (sym keys) before.0) in (
@@ -309,10 +307,7 @@ went_closed l a b z result ended closed m lawful delivers passes calms memory cu
       onward = λ good.
           let before = first.onward good in
           let after = subst (λ ks. WentOn ks b.link.past z.past) keys (good_closed (first.good good)).1 in
-          record {
-            onward = l.twice a.client.keys a.link.past.objects b.link.past.objects z.past.objects before.onward after.onward;
-            mirrored = λ image. after.mirrored (before.mirrored image);
-          };
+          on_then l.twice l.joins a.client.keys a.link.past b.link.past z.past before after;
       learns = λ holds.
           let before = first.learns holds in
           let step = delivers (is_planned a.client.keys) before.0 in (
@@ -359,5 +354,9 @@ went_closed l a b z result ended closed m lawful delivers passes calms memory cu
             sound = kept.0;
             held = l.known_for_good b.client.keys b.client.knowns b.link.past.objects z.past.objects (subst (λ ks. IsLawful ks) (sym first.keeps.keys_stay) lawful) on good.held;
           },
-          record { onward = on; mirrored = λ image. l.images b.client.keys b.link.past z.past good.sound image step.1 },
+          record {
+            onward = on;
+            mirrored = λ image. l.images b.client.keys b.link.past z.past good.sound image step.1;
+            passed = l.blind_to b.client.keys [] [] b.link.past z.past step.1;
+          },
         )

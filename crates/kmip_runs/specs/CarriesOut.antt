@@ -41,6 +41,7 @@ pub record CarriesOutWell (most : ℕ) (old : Stage) (stopped : Result Stop Save
   pub good : IsGood new.client new.link
   -- Where all was good (`IsGood`), the objects have gone onward. A past that was an image of the plan
   -- machine is one still.
+  -- And it may pass over the links of others of the plan (`WentOn`).
   pub onward : WentOn old.client.keys old.link.past new.link.past
   -- Where all was good (`IsGood`) and nobody else asks, with no premise of calm: the exchanges that were
   -- made and those that are left are no more than were left, and what disturbed exchanges cost. That is said unless it

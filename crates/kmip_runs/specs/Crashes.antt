@@ -104,6 +104,7 @@ pub record CrashesWell (old : Seen) (keys : List Key) (end : CrashesEnd) (new : 
   -- So is what each crash left.
   pub true_left : All (TrueProgress new.past.objects keys) end.left.items
   -- Over a good link the object of each planned name keeps its identifier and never goes back.
+  -- And it may pass over the links of others of the plan (`WentOn`).
   pub onward : WentOn keys old.past new.past
 
 -- The runs of a plan were made in turn over a link, and crashes ended some of them.

@@ -23,6 +23,7 @@ pub record DrivesWell (old : Seen) (client : ClientState) (most : ℕ) (driven :
   pub good : IsGood next new
   -- Where all was good before, the object of each planned name keeps its identifier and never goes back,
   -- and a past that was an image of the plan machine still is.
+  -- And it may pass over the links of others of the plan (`WentOn`).
   pub onward : WentOn client.keys old.past new.past
   -- Where all was good and nobody else asks, with no premise of calm, and unless memory ran out: the exchanges
   -- that were made and those that may be left are at most those that might be left before, and what the

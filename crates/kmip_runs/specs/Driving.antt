@@ -20,6 +20,7 @@ use Rattle.kmip_client.specs.Verdicts.{counts_of, verdicts_of}
 use Rattle.kmip_client.specs.declared.clash.Clash.{Clash}
 use Rattle.kmip_client.specs.declared.knowledge.Knowledge.{Knowledge}
 use Rattle.kmip_client.specs.declared.verdict.Verdict.TheVariants.{Finished, Conflict}
+use Rattle.kmip_protocol.specs.Amid.{PassedAmid, seen_by_others}
 use Rattle.kmip_protocol.specs.Machine.{IsMirrored}
 use Rattle.kmip_protocol.specs.Past.{Past, is_planned}
 use Rattle.kmip_protocol.specs.Seen.{Seen}
@@ -75,11 +76,12 @@ pub record Nearer (c next : ClientState) (x y : Seen) (made : ℕ) : Type 0 wher
   pub nearer : made + need next y.past ≤ need c x.past
   pub exactly : AsksOne c → made + need next y.past ≡ need c x.past
 
--- The objects have gone onward for each key, and a past that was an image of the plan machine still is. Own
--- (law).
+-- The objects have gone onward for each key, and a past that was an image of the plan machine still is. All of it
+-- may pass over the links of others of the plan, which see nothing of what was sent and handed over here. Own (law).
 pub record WentOn (keys : List Key) (old new : Past) : Type 0 where
   pub onward : Onward keys old.objects new.objects
   pub mirrored : IsMirrored keys old → IsMirrored keys new
+  pub passed : PassedAmid keys (seen_by_others old) (seen_by_others new)
 
 -- What is kept for a plan that prolongs this one, while this one is carried out. Over a link that is honest
 -- among others of it, what was sound for it stays so, its objects go onward, and an image of its machine stays

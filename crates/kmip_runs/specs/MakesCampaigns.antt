@@ -40,6 +40,7 @@ pub record RunsWell (old : Seen) (keys : List Key) (runs : List Run) (end : Camp
   pub true_saved : All (TrueProgress new.past.objects keys) end.saved.items
   -- Over a good link the object of each planned name keeps its identifier and never goes back, and a past
   -- that was an image of the plan machine still is.
+  -- And it may pass over the links of others of the plan (`WentOn`).
   pub onward : WentOn keys old.past new.past
   -- Over a good link where nobody else asks, unless memory ran out, each run finishes every key if it may make
   -- enough exchanges, whatever it began with. Enough are the plan's bound, one for each key, and what the disturbed ones of
@@ -116,6 +117,7 @@ pub record PlansRunWell (old : Seen) (plans : List (List Key)) (end : CampaignEn
   pub true_saved : All (IsTrueFor new.past.objects (last_plan plans)) end.saved.items
   -- Where the start is good, the object of each name of the last plan keeps its identifier and never goes
   -- back, and a past that was an image of that plan's machine still is.
+  -- And it may pass over the links of others of the plan (`WentOn`).
   pub onward : WentOn (last_plan plans) old.past new.past
 
 -- The lists of runs were made in turn over a link, each on its plan: what that makes of the link, and what is

@@ -16,7 +16,7 @@ use Rattle.kmip_client.specs.Saving.{known_of}
 use Rattle.kmip_client.specs.Shapes.{IsKept}
 use Rattle.kmip_client.specs.Verdicts.{AreWithin, counts_of, verdicts_of}
 use Rattle.kmip_client.specs.declared.knowledge.Knowledge.{Knowledge}
-use Rattle.kmip_protocol.specs.AmidLaws.{PassingAmidKeepsSound, PassingAmidKeepsTheImage}
+use Rattle.kmip_protocol.specs.AmidLaws.{NothingPasses, PassingAmidKeepsSound, PassingAmidKeepsTheImage, PassingIsBlind, PassingJoins}
 use Rattle.kmip_protocol.specs.Laws.{OpeningIsMirrored, SoundIsSafe}
 use Rattle.kmip_protocol.specs.Past.{Names, is_planned}
 use Rattle.kmip_protocol.specs.Seen.{Seen}
@@ -46,6 +46,9 @@ pub record CampaignLaws : Type 0 where
   pub known_for_good : HeldForGood
   pub passing : PassingAmidKeepsSound
   pub images : PassingAmidKeepsTheImage
+  pub nothing : NothingPasses
+  pub joins : PassingJoins
+  pub blind_to : PassingIsBlind
   pub opening : OpeningIsMirrored
   pub safe : SoundIsSafe
   pub ready : SoundIsReady

@@ -8,7 +8,7 @@ use Rattle.kmip_disk.specs.Whole.{IsWritten, LeavesOneOf}
 use Rattle.kmip_progress.specs.Reading.{read_text}
 use Rattle.kmip_progress.specs.Texts.{progress_text}
 use Rattle.kmip_client.specs.Laws.{OnwardToItself, OnwardTwice, HeldForGood, HeldIsNoConflict, HearingIsBlind}
-use Rattle.kmip_protocol.specs.AmidLaws.{PassingAmidKeepsSound, PassingAmidKeepsTheImage}
+use Rattle.kmip_protocol.specs.AmidLaws.{NothingPasses, PassingAmidKeepsSound, PassingAmidKeepsTheImage, PassingIsBlind, PassingJoins}
 use Rattle.kmip_protocol.specs.Laws.{DeliveriesKeepTheRequests}
 use Rattle.kmip_protocol.specs.Past.{Names, is_planned}
 use Rattle.kmip_protocol.specs.SettlingLaws.{NeedsAreBounded, WhoIsSettledNeedsNothing, WhoNeedsNothingIsFinished}
@@ -34,6 +34,9 @@ pub record CarryingLaws : Type 0 where
   pub blind : HearingIsBlind
   pub passing : PassingAmidKeepsSound
   pub images : PassingAmidKeepsTheImage
+  pub nothing : NothingPasses
+  pub joins : PassingJoins
+  pub blind_to : PassingIsBlind
   pub requests : DeliveriesKeepTheRequests
   pub bounded : NeedsAreBounded
   pub needless : WhoNeedsNothingIsFinished

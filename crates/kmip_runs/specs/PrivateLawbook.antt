@@ -3,7 +3,7 @@
 use Rattle.kmip_plan.specs.Laws.{FoundKeysStand, KeysAreFound}
 use Rattle.kmip_plan.specs.ChainLaws.{ReachedIsWithin}
 use Rattle.kmip_client.specs.Laws.{OnwardToItself, OnwardTwice, HeldForGood, HeldIsNoConflict, HearingIsBlind, JustifiedOfProlonged, LossesTeachNothing, SettledIsNotWorked}
-use Rattle.kmip_protocol.specs.AmidLaws.{ExchangesAmidKeepSound, ExchangesAmidKeepTheImage}
+use Rattle.kmip_protocol.specs.AmidLaws.{ExchangesAmidKeepSound, ExchangesAmidKeepTheImage, ExchangesPass, NothingPasses, PassingJoins}
 use Rattle.kmip_protocol.specs.Laws.{AnswersAreTrue, NamesOfProlonged}
 use Rattle.kmip_protocol.specs.SettlingLaws.{
   CalmTurnsAreNearer,
@@ -33,6 +33,9 @@ pub record Lawbook : Type 0 where
   pub exchanges : ExchangesAmidKeepSound
   pub answers : AnswersAreTrue
   pub images : ExchangesAmidKeepTheImage
+  pub nothing : NothingPasses
+  pub joins : PassingJoins
+  pub pass : ExchangesPass
   pub nearer : CalmTurnsAreNearer
   pub bounded : NeedsAreBounded
   pub needless : WhoNeedsNothingIsFinished

@@ -24,7 +24,9 @@ use kmip_plan::chain_laws::steps_have_places;
 use kmip_plan::laws::keys_have_names;
 use kmip_progress::Progress;
 use kmip_protocol::Link;
-use kmip_protocol::amid_laws::{sound_stays_so_amid_others, the_image_is_kept_amid_others};
+use kmip_protocol::amid_laws::{
+    sound_stays_so_amid_others, the_image_is_kept_amid_others, what_passes_passes_for_others,
+};
 use kmip_protocol::laws::{opening_is_mirrored, sound_is_safe};
 use kmip_protocol::settling_laws::sound_is_ready;
 use kmip_ttlv::NoMemory;
@@ -62,6 +64,7 @@ pub(crate) fn laws_of_runs()
     truth_is_for_good();
     sound_stays_so_amid_others();
     the_image_is_kept_amid_others();
+    what_passes_passes_for_others();
     opening_is_mirrored();
     sound_is_safe();
     sound_is_ready();

@@ -19,7 +19,9 @@ use kmip_client::laws::{
 };
 use kmip_progress::laws::texts_are_read_back;
 use kmip_protocol::Link;
-use kmip_protocol::amid_laws::{sound_stays_so_amid_others, the_image_is_kept_amid_others};
+use kmip_protocol::amid_laws::{
+    sound_stays_so_amid_others, the_image_is_kept_amid_others, what_passes_passes_for_others,
+};
 use kmip_protocol::laws::deliveries_keep_the_requests;
 use kmip_protocol::losing_laws::{late_arrivals_add_nothing, left_is_bounded};
 use kmip_protocol::settling_laws::{needs_are_bounded, who_needs_nothing_is_finished};
@@ -78,6 +80,7 @@ fn laws_below()
     what_is_true_is_no_conflict();
     sound_stays_so_amid_others();
     the_image_is_kept_amid_others();
+    what_passes_passes_for_others();
     deliveries_keep_the_requests();
     needs_are_bounded();
     who_needs_nothing_is_finished();

@@ -21,7 +21,9 @@ use kmip_client::laws::{
 use kmip_client::{Client, HearFault, Heard, Part, Question, Verdict};
 use kmip_plan::chain_laws::states_have_places;
 use kmip_plan::laws::keys_have_names;
-use kmip_protocol::amid_laws::{sound_stays_so_amid_others, the_image_is_kept_amid_others};
+use kmip_protocol::amid_laws::{
+    sound_stays_so_amid_others, the_image_is_kept_amid_others, what_passes_passes_for_others,
+};
 use kmip_protocol::laws::{answers_are_true, prolonged_plans_are_sound};
 use kmip_protocol::losing_laws::{a_losing_turn_is_bounded, left_is_bounded};
 use kmip_protocol::settling_laws::{
@@ -80,6 +82,7 @@ fn laws_below()
     what_is_true_is_no_conflict();
     sound_stays_so_amid_others();
     the_image_is_kept_amid_others();
+    what_passes_passes_for_others();
     answers_are_true();
     nothing_made_is_ready();
     a_calm_turn_is_nearer();

@@ -32,7 +32,7 @@ returns-in_err-begin g c =
       well = λ standing holds. record {
         standing = search rules;
         onward = search rules;
-        further = further_nowhere c.laws_of_runs.ensures.itself keys old _;
+        further = further_nowhere c.laws_of_runs.ensures.itself c.laws_of_runs.ensures.nothing keys old _;
         settles = search rules;
         outlasts = search rules;
       };
@@ -135,7 +135,7 @@ returns-in_err-close_run g c =
             onward = all.1;
             further =
                 further_if keys old new _ _ (λ is. no_ok result tt failed is)
-                (further_then l.twice keys old mid new _ _ (λ is. c.in_ok-ending.ensures.is.end_is.in_memory)
+                (further_then l.twice l.joins keys old mid new _ _ (λ is. c.in_ok-ending.ensures.is.end_is.in_memory)
                 (driven_further keys carried client begun old mid c.drive-driven.result.0 end.runs.items end.saved.items c.requires.keys c.begin.ensures.keys
                 (begins holds) (λ good. (drives.well good).further) standing)
                 (further_closed l keys mid new c.close_run.result c.close_run.ensures.amid c.close_run.ensures.calm));
@@ -204,7 +204,7 @@ returns g c =
             onward = all.1;
             further =
                 further_if keys old new _ _ (λ is. search rules)
-                (further_then l.twice keys old mid new _ _ (λ is. memory)
+                (further_then l.twice l.joins keys old mid new _ _ (λ is. memory)
                 (driven_further keys carried client begun old mid c.drive-driven.result.0 end.runs.items end.saved.items c.requires.keys c.begin.ensures.keys
                 (begins holds) (λ good. (drives.well good).further) standing)
                 (further_closed l keys mid new c.close_run.result c.close_run.ensures.amid c.close_run.ensures.calm));

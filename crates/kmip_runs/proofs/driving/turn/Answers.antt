@@ -53,7 +53,7 @@ returns-in_err-question g c =
       well = λ good. record {
         good = subst (λ s. IsGood s link) (sym same) good;
         onward = went_nowhere c.laws_below.ensures client.keys link.past;
-        further = further_nowhere c.laws_below.ensures.itself client.keys link _;
+        further = further_nowhere c.laws_below.ensures.itself c.laws_below.ensures.nothing client.keys link _;
       };
       honestly = λ honest. record {
         stays_honest = honest;
@@ -86,7 +86,7 @@ returns-in_default g c =
       well = λ good. record {
         good = subst (λ s. IsGood s link) (sym turn) (record { amid_for = good.amid_for; sound = good.sound; held = good.held });
         onward = went_nowhere c.laws_below.ensures client.keys link.past;
-        further = further_nowhere c.laws_below.ensures.itself client.keys link _;
+        further = further_nowhere c.laws_below.ensures.itself c.laws_below.ensures.nothing client.keys link _;
       };
       honestly = λ honest. record {
         stays_honest = honest;
