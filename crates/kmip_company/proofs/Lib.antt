@@ -5,3 +5,4 @@ pub mod AmongLemmas
 pub mod SuitLemmas
 pub mod ActLemmas
 pub mod AmidLemmas
+pub mod SharedLemmas

@@ -8,6 +8,8 @@ pub mod Safety
 pub mod Acting
 -- one client amid others, and how many exchanges it may still make
 pub mod Amid
+-- a link that another client of the plan uses too
+pub mod Sharing
 -- what holds of any company
 pub mod Laws
 -- private: the laws of the crates below that these rest on

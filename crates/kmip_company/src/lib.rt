@@ -3,6 +3,11 @@
 //! A company is what clients of one plan and their server are to each other at a moment. Each client begins from
 //! nothing, or from what any of them saved, and is killed at any moment. Their exchanges overlap as they like:
 //! one event is one move of the network or the server, or one thing that one client does.
+//!
+//! `Shared` is a link that another client uses too: over it a campaign of one is made among those of others.
 #![tactic(auto)]
 
 pub mod laws;
+mod shared;
+
+pub use shared::Shared;

@@ -14,3 +14,5 @@ mod event;
 mod line;
 #[cfg(test)]
 mod orders;
+#[cfg(test)]
+mod shared;

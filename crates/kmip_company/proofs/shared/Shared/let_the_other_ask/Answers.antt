@@ -1,0 +1,35 @@
+-- What the other client does may pass over this link.
+use Rattle.std.proofs.Common.{subst}
+use Rattle.kmip_company.specs.Sharing.{AreTogether, Sharing, past_of}
+use Rattle.kmip_protocol.specs.Amid.{PassedAmid, seen_by_others}
+use Rattle.kmip_protocol.specs.Sound.{Sound}
+use Rattle.kmip_scripted.specs.Scenes.{past_in, seen_in}
+use Rattle.kmip_company.proofs.SharedLemmas.{other_good, still_together}
+use Rattle.kmip_company.proofs.shared.Shared.let_the_other_ask.Goals as goal
+
+pub returns-clause-together : goal.returns-clause-together
+returns-clause-together g c = λ keys.
+    let other = c.self.inside.other in
+    let sent = c.self.inside.sent.items in
+    let handed = c.self.inside.handed.items in
+    let next = c.drive-driven.new.client in
+    let after : Sharing = record { scene = c.drive-driven.new.link; other = next; sent = sent; handed = handed } in
+    subst (λ (s : Sharing). AreTogether keys s → Sound keys (past_of s) → AreTogether keys after) c.self.view_is
+    (λ together sound.
+    let good = other_good keys other c.self.inside.link sent handed together sound in
+    still_together keys (past_in c.self.inside.link).objects other next (seen_in c.drive-driven.new.link) together (c.drive-driven.ensures.well good).good
+    c.drive-driven.ensures.forgets_nothing.keys_stay)
+
+pub returns-clause-passed : goal.returns-clause-passed
+returns-clause-passed g c = λ keys.
+    let other = c.self.inside.other in
+    let sent = c.self.inside.sent.items in
+    let handed = c.self.inside.handed.items in
+    let before : Sharing = record { scene = c.self.inside.link; other = other; sent = sent; handed = handed } in
+    let after : Sharing = record { scene = c.drive-driven.new.link; other = c.drive-driven.new.client; sent = sent; handed = handed } in
+    subst (λ (s : Sharing). AreTogether keys s → Sound keys (past_of s) → PassedAmid keys (past_of s) (past_of after)) c.self.view_is
+    (λ together sound.
+    let good = other_good keys other c.self.inside.link sent handed together sound in
+    subst (λ ks. PassedAmid ks (past_of before) (past_of after)) together.keys_are
+    (c.what_passes_passes_for_others.ensures.blind other.keys sent handed (seen_by_others (past_in c.self.inside.link)) (seen_by_others (past_in c.drive-driven.new.link))
+    (c.drive-driven.ensures.well good).onward.passed))
