@@ -1,14 +1,14 @@
 -- What goes over a link that is shared, seen with what this link alone sent and handed over.
-use Rattle.std.proofs.Common.{◌≡◌, ◌++◌, ◌∷◌, [], Err, IfSome, List, Ok, OnErr, Option, Result, None, Some, ap, inl, inr, option_to_list, refl, subst, sym, ◌∙◌, ◌⊎◌, ℕ}
+use Rattle.std.proofs.Common.{◌≡◌, ◌++◌, ◌∷◌, [], Err, IfSome, List, Ok, OnErr, Option, Result, None, Some, ap, inl, inr, subst, sym, ◌∙◌, ℕ}
 use Rattle.std.proofs.lemmas.List.Elements.{All-weaker, Contains-append_left}
-use Rattle.std.specs.List.{All, Contains}
+use Rattle.std.specs.List.{Contains}
 use Rattle.kmip_batch_items.specs.declared.reply.Reply.{Reply}
 use Rattle.kmip_messages.specs.Items.{replies_in}
 use Rattle.kmip_plan.specs.declared.key.Key.{Key}
 use Rattle.kmip_protocol.specs.Amid.{ExchangedAmid, HandsOverAmid, Meanwhile, Occurs, OthersAsk, PassedAmid, after_all, after_meanwhile, with_talk}
 use Rattle.kmip_protocol.specs.AmidLaws.{PassingIsBlind, PassingJoins}
 use Rattle.kmip_protocol.specs.Exchanges.{AreGiven, with_asked, with_exchange}
-use Rattle.kmip_protocol.specs.Moves.{Changes, Comes, Move, Refuse, Serve, Unanswered, after_move}
+use Rattle.kmip_protocol.specs.Moves.{Changes, Comes, Refuse, Serve, Unanswered}
 use Rattle.kmip_protocol.specs.Past.{Past}
 use Rattle.kmip_protocol.specs.Sound.{Sound}
 use Rattle.kmip_client.specs.Clients.{ClientState}
