@@ -1,11 +1,10 @@
 //! A link that another client of the plan uses too.
-ghost use Rattle.std.specs.Prelude.{◌≡◌, ◌≢◌, [], Err, IfOk, List, OnErr, option_map};
-ghost use Rattle.kmip_client.specs.Justified.{JustifiedMessage};
+ghost use Rattle.std.specs.Prelude.{◌≡◌, [], Err, IfOk, List, OnErr, option_map, ⊤};
 ghost use Rattle.kmip_plan.specs.declared.key.Key.{Key};
 ghost use Rattle.kmip_protocol.specs.Amid.{ExchangedAmid, HandsOverAmid, PassedAmid};
-ghost use Rattle.kmip_protocol.specs.Exchanges.{answer_in};
+ghost use Rattle.kmip_protocol.specs.Linking.{EndsRun, MakesExchange};
 ghost use Rattle.kmip_protocol.specs.Sound.{Sound};
-ghost use Rattle.kmip_company.specs.Sharing.{AreTogether, past_of};
+ghost use Rattle.kmip_company.specs.Sharing.{AreTogether, past_of, seen_of};
 
 use kmip_client::Client;
 use kmip_client::laws::truth_is_for_good;
@@ -24,8 +23,8 @@ use std::marker::Model;
 /// client makes one, by the same script. A contract sees the server and its script, the other client, and what went
 /// over the link itself.
 ///
-/// It is honest among others of a plan where the other client is one of the plan and knows the truth, and it is
-/// never honest for any names.
+/// It is honest among others of a plan where the other client is one of the plan and knows the truth. It is honest
+/// for no names, as that client asks too.
 #[derive(Drop)]
 pub struct Shared<'p, S: Records> {
     link: Scripted<S>,
@@ -134,14 +133,9 @@ impl<'p, S: Records> Link for Shared<'p, S> {
     ghost follows = { λ link next. ⊤ };
 
     fn exchange(&mut self, alloc: Global, request: &[u8]) -> Result<Option<Vec<u8>>, LinkFault>
-        // Where both clients are of one plan and know the truth, it is an exchange among others of the plan.
-        ensures amid { (keys : List Key) → AreTogether keys self.old
-            → Sound keys (past_of self.old)
-            → JustifiedMessage keys (past_of self.old).objects request.now
-            → AreTogether keys self.new × ExchangedAmid keys (past_of self.old) request.now
-            (answer_in (λ v. v.items) result) (past_of self.new) }
-        // It never ends with `Io`.
-        ensures never_io { result ≢ Err LinkFault.Io }
+        // It keeps what every link promises of an exchange.
+        ensures made { MakesExchange (λ v. v.items) (seen_of self.old) request.now result
+            (seen_of self.new) ⊤ }
     {
         truth_is_for_good();
         sound_stays_so_amid_others();
@@ -158,6 +152,8 @@ impl<'p, S: Records> Link for Shared<'p, S> {
 
     /// Nothing happens by it.
     fn end_run(&mut self, _alloc: Global) -> Result<(), LinkFault>
+        // It keeps what every link promises of the end of a run.
+        ensures ends { EndsRun (seen_of self.old) result (seen_of self.new) ⊤ }
         // It is as it was.
         ensures same { self.new ≡ self.old }
     {

@@ -35,7 +35,7 @@ use Rattle.kmip_runs.specs.Saved.{AreKept, Moment, Situation, grounds_in, text_a
 use Rattle.kmip_runs.specs.declared.crashes_end.CrashesEnd.{CrashesEnd}
 use Rattle.kmip_runs.specs.declared.crash.Crash.{Crash}
 use Rattle.kmip_runs.specs.declared.crash_fault.CrashFault.{CrashFault}
-use Rattle.kmip_runs.specs.declared.crash_fault.CrashFault.TheVariants.{Refused}
+use Rattle.kmip_runs.specs.declared.crash_fault.CrashFault.TheVariants.{NoMemory as Wanting, Refused}
 use Rattle.kmip_runs.specs.declared.left.Left.TheVariants.{Torn}
 use Rattle.kmip_runs.specs.declared.crashing_run.CrashingRun.{CrashingRun}
 use Rattle.kmip_runs.specs.declared.run.Run.{Run}

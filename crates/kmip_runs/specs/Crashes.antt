@@ -1,6 +1,6 @@
 -- Runs in turn, of which a crash of the machine may end some: what is left of each, and what the next goes on from.
 -- Source: own (view); what is own (choice) says so.
-use Rattle.std.specs.Prelude.{◌≡◌, ◌≢◌, ◌≤◌, ⊤, List, [], ◌∷◌, ◌++◌, false, IsSome, IsTrue, length, map, None, Option, slice_get, Some, take}
+use Rattle.std.specs.Prelude.{◌≡◌, ◌≢◌, ◌≤◌, ◌<◌, ⊤, List, [], ◌∷◌, ◌++◌, false, IsSome, IsTrue, length, map, None, Option, slice_get, Some, take}
 use Rattle.std.specs.List.{All, AllZip}
 use Rattle.kmip_client.specs.Clients.{fresh}
 use Rattle.kmip_client.specs.Held.{TrueProgress}
