@@ -25,6 +25,7 @@ from traits import Spoken, traits_of
 
 FOLDER = 'out/reference'
 NOT_EXERCISED = 'Exercised by no test and no row'
+MOST_WORDS = 3
 
 
 class Reference:
@@ -222,10 +223,18 @@ def exercised_by(exercised, function):
     """Which tests and rows exercise a call; nothing of a law, of a conversion, and of what the tests have in common."""
     if re.search(r'\)$|laws::\w+$', function.path) or function.path.startswith(('test_', 'rows_')):
         return ''
-    direct, kinds = exercised.of(function)
+    direct, kinds, rows = exercised.of(function)
     if direct:
-        return 'Exercised by ' + ', '.join(direct)
-    return f'Exercised through other calls, by {" and ".join(kinds)}' if kinds else NOT_EXERCISED
+        return 'Exercised by ' + ', '.join(direct) + said_of(rows)
+    return f'Exercised through other calls, by {" and ".join(kinds)}{said_of(rows)}' if kinds else NOT_EXERCISED
+
+
+def said_of(rows):
+    """The words of rows from which a call is reached, the nearest first, each with how many rows have it, and one."""
+    words = sorted(rows, key=lambda word: (rows[word][0], len(rows[word][1]), word))
+    told = [f'{word} ({len(rows[word][1])}, as {rows[word][1][0]})' for word in words[:MOST_WORDS]]
+    more = f', and {len(words) - MOST_WORDS} further words' if len(words) > MOST_WORDS else ''
+    return f'. Rows with {", ".join(told)}{more}' if words else ''
 
 
 def place(path, line):

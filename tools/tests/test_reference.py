@@ -49,6 +49,16 @@ class Reference(Scratch):
         self.assertNotIn('high::send', read(self.folder / 'index.html').text.split(lacking)[1].split())
         self.assertIn('Exercised by test_high::lib::sends', self.page('high'))
 
+    def test_the_rows_that_exercise_a_call(self):
+        self.write({
+            'crates.txt': CRATES['crates.txt'] + 'rows_high: high\n', 'crates/rows_high/args': 'some.rows\n',
+            'crates/rows_high/stdout': '2 rows, 0 wrong\n', 'crates/rows_high/data/some.rows': '# first\ngive 1\n    yes\n\n# second\ngive 2\n    no\n',
+            'crates/rows_high/src/main.rt': (
+                '//! Rows.\n\nfn take(word: &str) {\n    match word {\n        "give" => send(&mut carrier, 1),\n'
+                '        "take" => nothing(),\n    }\n}\n')})
+        printed(reference.main, ['out/reference'])
+        self.assertIn('Exercised by rows_high::main::take. Rows with rows_high give (2, as some.rows: first)', self.page('high'))
+
     def test_a_clause(self):
         self.assertEqual(self.between('high', '<div class="clause" id="send.safe">', '<details>'), (
             '<div class="clause" id="send.safe">\n<p>What was sent is carried.</p>\n'
