@@ -33,11 +33,12 @@ LAYERS = [
      'kmip_trace kmip_message_commands kmip_choices kmip_simulation kmip_plan_commands kmip_probe kmip_probe_command '
      'kmip_look_command kmip_json'),
     ('program', 'Program', 'over the sockets, files and streams of the machine',
-     'kmip_files kmip_explaining kmip_command_line kmip_account kmip_network kmip_program kmipctl'),
+     'kmip_files kmip_explaining kmip_trouble kmip_account kmip_run_files kmip_command_line kmip_network '
+     'kmip_program kmipctl'),
 ]
 TESTS = ('tests', 'Tests', 'no part of the program',
          'test_support rows_links rows_kmipctl rows_client rows_campaign test_memory test_items test_server '
-         'test_transport test_files test_disk test_crash test_company')
+         'test_transport test_files test_disk test_crash test_company test_json')
 
 # Sizes of the picture.
 BOX, GAP, MARGIN, HEAD, TESTS_BOX = (200, 28), 9, 14, 34, 226

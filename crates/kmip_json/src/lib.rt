@@ -16,20 +16,12 @@ mod json_lines;
 mod key_members;
 pub mod laws;
 mod listing;
-#[cfg(test)]
-mod look_tests;
 mod looking;
 mod member;
 mod optional;
-#[cfg(test)]
-mod probe_tests;
 mod probing;
 mod running;
-#[cfg(test)]
-mod sim_tests;
 mod simulating;
-#[cfg(test)]
-mod tests;
 
 pub use cause::Cause;
 pub use checking::{push_check, push_prolongs};

@@ -2,11 +2,10 @@
 ghost use Rattle.std.specs.Prelude.{◌≡◌, IfOk};
 ghost use Rattle.kmip_plan_commands.specs.RunText.{is_end_refused};
 
-use crate::cannot::Cannot;
-use crate::reporting::{push_reason, push_told};
 use kmip_account::Account;
 use kmip_json::{push_progress_fault, push_run};
 use kmip_plan_commands::RunEnd;
+use kmip_trouble::{Cannot, push_told};
 use kmip_ttlv::NoMemory;
 use std::alloc::Global;
 use std::io::Error;
@@ -48,7 +47,10 @@ fn push_unwritten(
 ) -> Result<(), NoMemory> {
     let fault = Cannot::Save.text();
     match failure {
-        Some(error) => push_reason(alloc, fault, path, error, text),
+        Some(error) => {
+            let why = format!(in alloc; "{error}")?;
+            push_told(alloc, fault, Some(path), Some(why.as_str()), text)
+        }
         None => push_told(alloc, fault, Some(path), None, text),
     }
 }

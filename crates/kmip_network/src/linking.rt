@@ -1,13 +1,11 @@
 //! Links to the server that was named.
 
-use crate::cannot::Cannot;
-use crate::obstacle::Obstacle;
 use crate::serving::new_server;
 use crate::telling_dial::TellingDial;
-use crate::trouble::Trouble;
 use kmip_account::Wire;
 use kmip_server::IndexedStore;
 use kmip_transport::{Loopback, StreamLink, Tcp, Unix};
+use kmip_trouble::{Cannot, Obstacle, Trouble};
 use std::net::{SocketAddr, SocketAddrV4};
 use std::os::unix::net;
 use std::time::Duration;

@@ -2,9 +2,6 @@
 
 use crate::asking_again::AskingAgain;
 use crate::linking::{loopback, tcp_link, unix_link};
-use crate::reporting::print_documents;
-use crate::told::standard_output;
-use crate::trouble::Trouble;
 use crate::watcher::Watcher;
 use kmip_choices::{Format, Peer, ProbeOptions};
 use kmip_json::JsonLines;
@@ -12,6 +9,7 @@ use kmip_message_commands::{CommandFault, ExitStatus};
 use kmip_probe_command::{PlainText, probe, run_probe};
 use kmip_protocol::Link;
 use kmip_runs::Observed;
+use kmip_trouble::{Trouble, print_documents, standard_output};
 use kmip_ttlv::NoMemory;
 use std::io::BufWriter;
 use std::time::Duration;

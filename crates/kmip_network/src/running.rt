@@ -2,24 +2,17 @@
 ghost use Rattle.std.specs.Prelude.{IsTrue};
 ghost use Rattle.kmip_messages.specs.Members.{may_have};
 
-use crate::believing::progress_to_begin_with;
 use crate::ending::push_end;
-use crate::file_keeper::FileKeeper;
 use crate::linking::{loopback, tcp_link, unix_link};
-use crate::locking::locked;
-use crate::metrics_file::MetricsFile;
-use crate::plan_file::PlanFile;
-use crate::reading::plan_at;
-use crate::reporting::print_documents;
-use crate::told::standard_output;
-use crate::trouble::Trouble;
 use kmip_account::{Account, Teller, Watch};
 use kmip_choices::{Format, Peer, RunOptions};
 use kmip_files::ProgressFile;
 use kmip_message_commands::ExitStatus;
 use kmip_plan_commands::{RunInput, batch_of, run_to_end};
 use kmip_protocol::Link;
+use kmip_run_files::{FileKeeper, MetricsFile, PlanFile, locked, plan_at, progress_to_begin_with};
 use kmip_runs::Observed;
+use kmip_trouble::{Trouble, print_documents, standard_output};
 use kmip_ttlv::NoMemory;
 use std::alloc::Global;
 use std::io::BufWriter;

@@ -1,6 +1,5 @@
 //! The program `serve`, over sockets.
 
-use crate::causes::tell_why;
 use crate::hearing::Hearing;
 use crate::overheard::Overheard;
 use crate::saying::Saying;
@@ -10,6 +9,7 @@ use kmip_message_commands::{CommandFault, ExitStatus};
 use kmip_server::{IndexedStore, Server};
 use kmip_store::{MOST_ROOM, SEED};
 use kmip_transport::{StreamEnd, serve_stream};
+use kmip_trouble::tell_why;
 use std::fmt::Display;
 use std::io::{self, Error, ErrorKind, Read, Write};
 use std::net::{Ipv4Addr, Net, OpenListener, OpenStream, SocketAddr, SocketAddrV4};

@@ -88,7 +88,11 @@ keeps_safe : (limit : ℕ) (old new : Stage) (r : Result Stop SaveFault) (made :
 keeps_safe limit old new r made good carries =
     let well = carries.well good in
     let link : GoodLink new.client.keys new.link = record { amid_for = well.good.amid_for; sound = well.good.sound } in
-    record { stays_good = subst (λ keys. GoodLink keys new.link) carries.forgets_nothing.keys_stay link; went_on = well.onward }
+    record {
+      stays_good = subst (λ keys. GoodLink keys new.link) carries.forgets_nothing.keys_stay link;
+      honest = λ honest. (carries.honestly honest).learns.0;
+      went_on = well.onward;
+    }
 
 -- what carrying out a plan promises of its link and its file, where memory did not run out
 over : HeldForGood → (limit : ℕ) (old new : Stage) (r : Result Stop SaveFault) (made : ℕ) → IsLawful old.client.keys → IsInMemory r → CarriesOut limit old r made new

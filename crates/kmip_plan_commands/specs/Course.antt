@@ -44,8 +44,8 @@ run_state link keeper is_tired = record { link = link; keeper = keeper; is_tired
 
 -- What came of exchanges over a link, each about at most `most` keys, and no more than `limit`. `old` is the
 -- state at first, `new` the state then. `knowns` is what was known at first, and `outcome` says what is known
--- then, why no more were made, and how many were. `good` is that the link was honest, all was sound, and what
--- was known was true.
+-- then, why no more were made, and how many were. `good` is that the link was honest among others of the plan,
+-- all was sound, and what was known was true.
 pub record Came (limit most : ℕ) (good : List Key → Type 0) (old new : RunState) (keys : List Key) (knowns : List Knowledge) (outcome : Outcome) : Type 0 where
   -- No identifier or count is taken back.
   pub forgets_nothing : AllZip IsKept knowns outcome.knowns
@@ -73,9 +73,8 @@ pub record Came (limit most : ℕ) (good : List Key → Type 0) (old new : RunSt
   -- stands at its last value.
   pub unwritten : outcome.result ≡ Err faults.Output → HasRisen old.keeper.refusals new.keeper.refusals
   -- Where all was good and nobody else asks, with no premise of calm: the plan's bound, one exchange for each
-  -- key, and what
-  -- the link counted of the run's disturbed exchanges are enough for every key. That too is said where
-  -- each text could be kept, memory did not run out, and patience has not given up.
+  -- key, and what the link counted of the run's disturbed exchanges are enough for every key. That too is said
+  -- where each text could be kept, memory did not run out, and patience has not given up.
   pub outlasts : good keys → old.link.honest (is_planned keys) → new.is_tired ≡ false → IsWhole outcome.result → IsEnough keys limit old.link.disturbances new.link.disturbances → outcome.result ≡ Ok stops.AllFinished
 
 -- The text of a progress, where there is one, says what is true of these objects.
@@ -97,11 +96,14 @@ LeavesTrue keys old new =
     old.keeper.disk.lawful → ((c : Content) → old.keeper.disk.may_leave c → IsTrueText old.link.past.objects keys c)
     → LeavesOnly old.keeper.disk new.keeper.disk (IsTrueText new.link.past.objects keys)
 
--- Own (law): over a link that was honest and sound for the keys, from nothing or from what was true, the
--- link is so still. The objects have gone onward, and a past that was an image of the plan machine is one
--- still.
+-- Own (law): the link was honest among others of the plan, its past was sound, and the run began with nothing
+-- or with what was true. What holds of the link then.
 pub record KeepsSafe (keys : List Key) (old new : Seen) : Type 0 where
+  -- The link is honest among others of the plan still, and its past is sound.
   pub stays_good : GoodLink keys new
+  -- A link that was honest for the names of the plan is so still.
+  pub honest : old.honest (is_planned keys) → new.honest (is_planned keys)
+  -- The objects have gone onward, and a past that was an image of the plan machine is one still.
   pub went_on : WentOn keys old.past new.past
 
 -- Own (law): each message that was sent asks about one of these keys or more, at most `most` of them, and

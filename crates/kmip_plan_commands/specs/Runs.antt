@@ -98,12 +98,12 @@ CameOf start change =
 abbrev pub EndsRead : Result (List Key) PlanFault → RunStart → RunChange → Result RunEnd PlanFault → Type 0
 EndsRead read start change = EndsRun change.untouched (CameOf start change) read start.saved start.limit
 
--- What a run over these keys promises of its link and its file. `good` is that the link is honest for the keys, that all
--- that has happened over it is sound, and that what the run begins with is true.
+-- What a run over these keys promises of its link and its file. `good` is that the link is honest among others of
+-- the plan, that all that has happened over it is sound, and that what the run begins with is true.
 pub record RunsOver (good : Type 0) (keys : List Key) (most : ℕ) (old new : RunState) (Whole : Type 0 → Type 0) : Type 0 where
-  -- It asks that the link is honest for the names of the plan, that all that has happened over it is sound,
-  -- and that the progress, if any, is true. Then the link is honest and all is sound after it too, however it
-  -- ends. The objects have gone onward, and a past that was an image of the plan machine is one still.
+  -- It asks that the link is honest among others of the plan, that all that has happened over it is sound,
+  -- and that the progress, if any, is true. Then all of that holds of the link after the run too, however it
+  -- ends (`KeepsSafe`).
   pub safe : good → KeepsSafe keys old.link new.link
   -- It asks that too, and that the keeper's disk keeps the rules, and that what a crash might have left before
   -- is true. Then whatever a crash at any moment of the run leaves is true, however it ends: so the next run

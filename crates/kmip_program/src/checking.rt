@@ -4,8 +4,8 @@ ghost use Rattle.kmip_plan.specs.Reading.{plan_read};
 ghost use Rattle.kmip_plan_commands.specs.Checking.{IsRefusedAfter, is_plan_refused};
 
 use kmip_json::{push_check, push_prolongs};
-use kmip_network::push_refused_plan;
 use kmip_plan::{Plan, prolongs, read_plan};
+use kmip_trouble::push_refused_plan;
 use kmip_ttlv::NoMemory;
 use std::alloc::Global;
 

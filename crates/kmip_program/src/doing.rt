@@ -7,12 +7,12 @@ use kmip_choices::{Choice, Detail, Format, Shell};
 use kmip_command_line::completions;
 use kmip_explaining::{tell_prolonging, tell_refusal};
 use kmip_message_commands::{ExitStatus, Form, run_answer, run_answer_stream, run_show};
-use kmip_network::{
-    PlanFile, Trouble, batch_of, list_progress, look_at_server, plan_at, plan_name, plan_text_at,
-    print_documents, probe_server, run_plan, serve, standard_input, standard_output,
-    tell_of_terminal, text_at,
+use kmip_network::{look_at_server, probe_server, run_plan, serve};
+use kmip_plan_commands::{
+    SimInput, batch_of, check_after_bytes, run_check, run_check_after, run_sim,
 };
-use kmip_plan_commands::{SimInput, check_after_bytes, run_check, run_check_after, run_sim};
+use kmip_run_files::{PlanFile, list_progress, plan_at, plan_name, plan_text_at, text_at};
+use kmip_trouble::{Trouble, print_documents, standard_input, standard_output, tell_of_terminal};
 use kmip_ttlv::NoMemory;
 use std::io;
 use std::io::{BufReader, BufWriter};

@@ -7,7 +7,7 @@ use crate::wrong_address::WrongAddress;
 use kmip_choices::{Choice, Format};
 use kmip_command_line::{Environment, chosen, status_of};
 use kmip_message_commands::{CommandFault, ExitStatus};
-use kmip_network::Trouble;
+use kmip_trouble::Trouble;
 use kmip_ttlv::NoMemory;
 use std::fmt::Display;
 use std::io::ErrorKind;

@@ -3,8 +3,8 @@
 use kmip_choices::Detail;
 use kmip_json::push_sim_end;
 use kmip_message_commands::ExitStatus;
-use kmip_network::{Trouble, batch_of, print_documents, push_refused_plan};
-use kmip_plan_commands::{SimEnd, SimInput, sim_to_end};
+use kmip_plan_commands::{SimEnd, SimInput, batch_of, sim_to_end};
+use kmip_trouble::{Trouble, print_documents, push_refused_plan};
 use kmip_ttlv::NoMemory;
 use std::alloc::Global;
 

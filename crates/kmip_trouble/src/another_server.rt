@@ -6,12 +6,12 @@ use std::alloc::Global;
 /// A progress file that was kept against another server.
 #[derive(Drop)]
 pub struct AnotherServer {
-    pub(crate) path: String,
+    pub path: String,
     /// The server that it was kept against, and the one of this run.
-    pub(crate) before: String,
-    pub(crate) now: String,
+    pub before: String,
+    pub now: String,
     /// The name of a key that it knows to be destroyed, where there is one.
-    pub(crate) destroyed: Option<String>,
+    pub destroyed: Option<String>,
 }
 
 impl AnotherServer {

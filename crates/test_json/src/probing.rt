@@ -1,8 +1,8 @@
 //! Lines of a probe that were worked out by hand.
 
-use crate::JsonLines;
-use crate::tests::assert_lines;
+use crate::asserting::assert_lines;
 use kmip_batch_items::Outcome;
+use kmip_json::JsonLines;
 use kmip_objects::{Step, Texts};
 use kmip_probe::{Attribute, Finding, Findings, Flaw};
 use kmip_probe_command::{PREMISES, ProbeForm, finding_of};

@@ -1,11 +1,9 @@
 //! A progress file, and where it was kept.
 
-use crate::cannot::Cannot;
-use crate::obstacle::Obstacle;
 use crate::origin::Origin;
-use crate::trouble::Trouble;
 use kmip_files::{MOST_PROGRESS_BYTES, ProgressFile};
 use kmip_plan::Key;
+use kmip_trouble::{Cannot, Obstacle, Trouble};
 use std::io::ErrorKind;
 
 /// The progress file at this path.

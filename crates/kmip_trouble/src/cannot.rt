@@ -1,4 +1,6 @@
 //! What cannot be done with a file or a socket.
+ghost use Rattle.std.specs.Prelude.{◌≡◌};
+ghost use Rattle.kmip_trouble.specs.Words.{cannot_word};
 
 /// What cannot be done with a file or a socket.
 #[derive(Clone, Copy)]
@@ -19,7 +21,9 @@ pub enum Cannot {
 
 impl Cannot {
     /// What standard output says of it before the path.
-    pub(crate) fn text(self) -> &'static str {
+    pub fn text(self) -> &'static str
+        ensures { result.now ≡ cannot_word self }
+    {
         match self {
             Cannot::Read => "cannot read",
             Cannot::Begin | Cannot::Save | Cannot::Last | Cannot::Measure => "cannot write",

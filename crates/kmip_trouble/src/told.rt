@@ -4,7 +4,7 @@ use crate::causes::tell_why;
 use std::io::{self, Error, ErrorKind, Input, IsTerminal, Printer, Read, Write};
 
 /// What standard input is called.
-pub(crate) const STANDARD_INPUT: &str = "standard input";
+pub const STANDARD_INPUT: &str = "standard input";
 
 const STANDARD_OUTPUT: &str = "standard output";
 

@@ -45,7 +45,7 @@ impl From<AllocError> for Trouble {
 
 impl Trouble {
     /// That something cannot be done at a path; want of memory is no such failure.
-    pub(crate) fn at(rt: &HostRuntime, cannot: Cannot, path: &str, error: Error) -> Trouble {
+    pub fn at(rt: &HostRuntime, cannot: Cannot, path: &str, error: Error) -> Trouble {
         if error.kind() == ErrorKind::OutOfMemory {
             return Trouble::Io(error);
         }
@@ -56,7 +56,7 @@ impl Trouble {
     }
 
     /// That a file is not read that may have so many bytes.
-    pub(crate) fn unread(rt: &HostRuntime, path: &str, most_bytes: u64, error: Error) -> Trouble {
+    pub fn unread(rt: &HostRuntime, path: &str, most_bytes: u64, error: Error) -> Trouble {
         let kind = error.kind();
         if kind != ErrorKind::FileTooLarge && kind != ErrorKind::InvalidData {
             return Trouble::at(rt, Cannot::Read, path, error);

@@ -1,8 +1,8 @@
 //! Lines of a look that were worked out by hand: a key of each kind.
 
-use crate::push_look;
-use crate::tests::{assert_lines, key};
+use crate::asserting::{assert_lines, key};
 use kmip_client::{Clash, Knowledge, Phase};
+use kmip_json::push_look;
 use kmip_look::{Looked, Shown, Why};
 use kmip_plan::Target;
 use kmip_ttlv::{NoMemory, Text};

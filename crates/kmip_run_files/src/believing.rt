@@ -3,12 +3,12 @@
 use crate::kept::Kept;
 use crate::origin::server_of;
 use crate::plan_file::PlanFile;
-use crate::trouble::Trouble;
 use kmip_choices::{RunOptions, Trust};
 use kmip_client::Client;
 use kmip_files::ProgressFile;
 use kmip_plan::{Step, chain};
 use kmip_plan_commands::begin;
+use kmip_trouble::Trouble;
 
 /// The text of the progress that a run begins with, none where it begins from nothing.
 ///
@@ -17,7 +17,7 @@ use kmip_plan_commands::begin;
 ///
 /// # Errors
 /// Why it is not to begin.
-pub(crate) fn progress_to_begin_with(
+pub fn progress_to_begin_with(
     rt: &HostRuntime,
     options: &RunOptions,
     file: &PlanFile,

@@ -1,12 +1,11 @@
 //! The file that a collector of metrics reads of a run.
 
-use crate::cannot::Cannot;
-use crate::causes::{tell_cause, tell_why};
 use crate::origin::now;
 use crate::plan_file::PlanFile;
 use kmip_account::{Account, Metrics};
 use kmip_choices::RunOptions;
 use kmip_files::PublicFile;
+use kmip_trouble::{Cannot, tell_cause, tell_why};
 use kmip_ttlv::NoMemory;
 use sha2::{Digest, Sha256};
 use std::alloc::{AllocError, Global};
@@ -23,7 +22,7 @@ const ANOTHER_FILE: &str =
 /// The file that a collector of metrics reads of a run. That it cannot be written changes nothing of the
 /// run: it is told on standard error, once.
 #[derive(Drop)]
-pub(crate) struct MetricsFile<'a> {
+pub struct MetricsFile<'a> {
     rt: &'a HostRuntime,
     /// The path that it was named by.
     path: &'a str,
@@ -39,7 +38,7 @@ pub(crate) struct MetricsFile<'a> {
 impl<'a> MetricsFile<'a> {
     /// That of a run of this plan; none where none is asked for, and where it is told why there can be
     /// none.
-    pub(crate) fn of(
+    pub fn of(
         rt: &'a HostRuntime,
         options: &'a RunOptions,
         plan: &PlanFile,
@@ -85,12 +84,12 @@ impl<'a> MetricsFile<'a> {
     }
 
     /// Writes that the run begins.
-    pub(crate) fn begin(&self, account: &Account<'_>) {
+    pub fn begin(&self, account: &Account<'_>) {
         self.tell_failure(account, self.write_begin(account));
     }
 
     /// Writes that the run has ended, with all keys finished or not.
-    pub(crate) fn end(&self, account: &Account<'_>, is_finished: bool) {
+    pub fn end(&self, account: &Account<'_>, is_finished: bool) {
         self.tell_failure(account, self.write_end(account, is_finished));
     }
 

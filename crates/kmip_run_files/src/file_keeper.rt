@@ -2,18 +2,17 @@
 ghost use Rattle.std.specs.Prelude.{◌≡◌, ◌≤◌};
 ghost use Rattle.kmip_runs.specs.Refusals.{HasRisen};
 
-use crate::cannot::Cannot;
-use crate::causes::tell_cause;
 use kmip_account::Account;
 use kmip_files::ProgressFile;
 use kmip_runs::{Keeper, SaveFault};
+use kmip_trouble::{Cannot, tell_cause};
 use std::alloc::Global;
 use std::io::{self, Error, ErrorKind};
 
 /// Keeps what is known in a file. No clause speaks of a file's bytes, nor of what a crash may leave of them:
 /// that the disk keeps its rules is a premise. `WholeFile` is proved over every disk that does.
 #[derive(Drop)]
-pub(crate) struct FileKeeper<'a> {
+pub struct FileKeeper<'a> {
     file: ProgressFile<'a, HostRuntime>,
     account: &'a Account<'a>,
     /// The text that was written last; empty where none was.
@@ -30,7 +29,7 @@ pub(crate) struct FileKeeper<'a> {
 
 impl<'a> FileKeeper<'a> {
     /// Keeps what is known in this file. `is_new` says that there is none yet.
-    pub(crate) fn new(
+    pub fn new(
         file: ProgressFile<'a, HostRuntime>,
         account: &'a Account<'a>,
         is_new: bool,
@@ -47,17 +46,19 @@ impl<'a> FileKeeper<'a> {
     }
 
     /// The account of the run.
-    pub(crate) fn account(&self) -> &'a Account<'a> {
+    pub fn account(&self) -> &'a Account<'a> {
         self.account
     }
 
     /// How often the file could not be written, or not made to last, up to 2^64 - 1.
-    pub(crate) fn refusals(&self) -> u64 {
+    pub fn refusals(&self) -> u64
+        ensures { result ≡ self.now.refusals }
+    {
         self.refusals
     }
 
     /// Why the file could not be written, the last time.
-    pub(crate) fn failure(&self) -> Option<&Error> {
+    pub fn failure(&self) -> Option<&Error> {
         self.failure.as_ref()
     }
 

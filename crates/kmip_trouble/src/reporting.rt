@@ -1,8 +1,8 @@
 //! What a command prints in JSON: made in memory as a whole, and then printed.
-ghost use Rattle.std.specs.Prelude.{◌≡◌, Ok};
+ghost use Rattle.std.specs.Prelude.{◌≡◌, ◌++◌, None, Ok, OnOk};
 ghost use Rattle.std.specs.Io.KnownBytes.{Appends};
 ghost use Rattle.kmip_message_commands.specs.Printing.{FailsBy, IfFailed, IfWhole, UnlessOutput};
-ghost use Rattle.kmip_json.specs.FaultJson.{no_memory_line};
+ghost use Rattle.kmip_json.specs.FaultJson.{fault_line, no_memory_line};
 
 use crate::told::standard_output;
 use kmip_json::laws::no_memory_is_a_document;
@@ -81,14 +81,17 @@ pub(crate) fn push_reason<D: Display + Drop>(
 /// Appends the document of a fault, with its path and its reason where they are known.
 ///
 /// # Errors
-/// Where there is no memory for it.
-pub(crate) fn push_told<'a>(
+/// Where there is no memory for it. A part may have been appended then.
+pub fn push_told<'a>(
     alloc: Global,
     fault: &'a str,
     at: Option<&'a str>,
     why: Option<&'a str>,
     text: &mut Vec<u8>,
-) -> Result<(), NoMemory> {
+) -> Result<(), NoMemory>
+    // What is appended is exactly the line of this fault, which nothing stands in the way of.
+    ensures { OnOk result (text.new.items ≡ text.old.items ++ fault_line (record { fault = fault; at = at; why = why; cause = None })) }
+{
     let fault = Fault {
         fault,
         at,

@@ -6,11 +6,11 @@ use std::fmt::Display;
 use std::io::Error;
 
 /// Tells on standard error why something cannot be done with a file, a socket or a stream.
-pub(crate) fn tell_why<P: Display + Drop, D: Display + Drop>(rt: &HostRuntime, place: P, why: D) {
+pub fn tell_why<P: Display + Drop, D: Display + Drop>(rt: &HostRuntime, place: P, why: D) {
     let _ = rt.eprintln(format_args!("{place}: {why}"));
 }
 
 /// Tells on standard error the word of the system for what cannot be done at a path, and what to do.
-pub(crate) fn tell_cause(rt: &HostRuntime, path: &str, cannot: Cannot, error: &Error) {
+pub fn tell_cause(rt: &HostRuntime, path: &str, cannot: Cannot, error: &Error) {
     tell_why(rt, path, Cause { cannot, error });
 }

@@ -1,10 +1,8 @@
 //! The progress file, of one run at a time.
 
-use crate::cannot::Cannot;
-use crate::obstacle::Obstacle;
 use crate::recalling::progress_file_at;
-use crate::trouble::Trouble;
 use kmip_files::{LockFault, ProgressFile, ProgressLock};
+use kmip_trouble::{Cannot, Obstacle, Trouble};
 use std::thread;
 use std::time::Duration;
 
@@ -20,7 +18,7 @@ const ASKS_A_SECOND: u64 = 1_000 / LOCK_PAUSE;
 ///
 /// # Errors
 /// Where it cannot be had.
-pub(crate) fn locked<'a>(
+pub fn locked<'a>(
     rt: &'a HostRuntime,
     path: &'a str,
     most_seconds: u64,

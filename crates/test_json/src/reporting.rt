@@ -1,36 +1,18 @@
 //! Lines that were worked out by hand from RFC 8259, for names that JSON has to escape.
 
-use crate::{
+use crate::asserting::{PLAN, assert_lines, key};
+use kmip_client::Client;
+use kmip_json::{
     Cause, Fault, NO_MEMORY_LINE, push_check, push_fault, push_list, push_plan_fault,
     push_progress_fault, push_prolongs, push_run,
 };
-use kmip_client::Client;
-use kmip_objects::KeyAttrs;
-use kmip_plan::{Key, Plan, PlanFault, Target, read_plan};
+use kmip_plan::{Plan, PlanFault, Target, read_plan};
 use kmip_plan_commands::RunTally;
 use kmip_progress::{Known, Progress, ProgressFault, suits};
 use kmip_runs::Stop;
 use kmip_ttlv::{NoMemory, Text};
 use std::alloc::Global;
-use std::process::Abort;
 use std::test::Fail;
-
-/// A plan of two keys. The name of the first has a quotation mark and a backslash.
-pub(crate) const PLAN: &str = r#"
-[[key]]
-name = 'a"b\c'
-algorithm = "AES"
-length = 256
-usage = ["encrypt", "decrypt"]
-target = "active"
-
-[[key]]
-name = "second"
-algorithm = "HMAC-SHA256"
-length = 256
-usage = ["mac-generate"]
-target = "discarded"
-"#;
 
 const CHECK_LINES: [&str; 3] = [
     r#"{"key":"a\"b\\c\u001f","algorithm":"AES","length":256,"usage":12,"target":"active","steps":["Create","Activate"]}"#,
@@ -58,45 +40,6 @@ const FAULT_LINES: [&str; 6] = [
     r#"{"fault":"no answer","at":null,"why":null,"cause":"refused"}"#,
     r#"{"fault":"no memory"}"#,
 ];
-
-/// Each line stands in the text, in this order and with a line feed, and nothing else does.
-pub(crate) fn assert_lines(
-    rt: &impl Abort,
-    alloc: Global,
-    text: &[u8],
-    lines: &[&str],
-) -> Result<(), NoMemory> {
-    let mut expected = Vec::new(alloc);
-    for line in lines {
-        expected.extend_from_slice(line.as_bytes())?;
-        expected.push(b'\n')?;
-    }
-    assert!(rt; text == expected.as_slice(), "in {text:?}");
-    Ok(())
-}
-
-/// A key with this name, of which the Revocation Reason Code is 0.
-pub(crate) fn key(
-    alloc: Global,
-    name: &str,
-    algorithm: u32,
-    length: i32,
-    usage: i32,
-    target: Target,
-) -> Result<Key, NoMemory> {
-    let name = Text::copied(alloc, name)?;
-    let attrs = KeyAttrs {
-        name,
-        algorithm,
-        length,
-        usage,
-    };
-    Ok(Key {
-        attrs,
-        target,
-        reason: 0,
-    })
-}
 
 #[test]
 fn writes_what_is_checked(rt: HostRuntime) -> Result<(), Fail> {

@@ -1,12 +1,10 @@
 //! The texts of files and of standard input, and of plans among them.
 ghost use Rattle.std.specs.Prelude.{◌≡◌, ◌≢◌, codes};
 
-use crate::obstacle::Obstacle;
 use crate::plan_file::PlanFile;
-use crate::told::{STANDARD_INPUT, tell_of_terminal};
-use crate::trouble::Trouble;
 use kmip_files::{MOST_FILE_BYTES, text_of, text_of_input};
 use kmip_plan::{PlanFault, read_plan};
+use kmip_trouble::{Obstacle, STANDARD_INPUT, Trouble, tell_of_terminal};
 use std::io::{Error, ErrorKind};
 
 /// The path of a plan that stands for standard input.

@@ -2,8 +2,8 @@
 ghost use Rattle.std.specs.Prelude.{IsTrue};
 ghost use Rattle.kmip_messages.specs.Members.{may_have};
 
-use crate::push_sim_end;
-use crate::tests::{PLAN, assert_lines};
+use crate::asserting::{PLAN, assert_lines};
+use kmip_json::push_sim_end;
 use kmip_plan::PlanFault;
 use kmip_plan_commands::{Detail, SimEnd, SimInput, sim_to_end};
 use kmip_ttlv::{NoMemory, Text};

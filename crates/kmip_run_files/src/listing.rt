@@ -2,14 +2,11 @@
 ghost use Rattle.std.specs.Prelude.{◌≡◌, ◌++◌, IfOk, OnOk};
 ghost use Rattle.kmip_progress.specs.Reading.{read_text};
 ghost use Rattle.kmip_plan_commands.specs.Listing.{is_progress_refused};
-ghost use Rattle.kmip_network.specs.PrivateDocuments.{listing_documents};
+ghost use Rattle.kmip_run_files.specs.PrivateDocuments.{listing_documents};
 
 use crate::plan_file::PlanFile;
 use crate::reading::{plan_at, plan_name, text_within};
 use crate::recalling::{judge_attributes, origin_of, progress_file_at};
-use crate::reporting::print_documents;
-use crate::told::standard_output;
-use crate::trouble::Trouble;
 use kmip_choices::{Format, ListOptions};
 use kmip_explaining::tell_other_plan;
 use kmip_files::{MOST_PROGRESS_BYTES, ProgressFile};
@@ -18,6 +15,7 @@ use kmip_message_commands::ExitStatus;
 use kmip_plan::Plan;
 use kmip_plan_commands::run_list;
 use kmip_progress::{Progress, ProgressFault};
+use kmip_trouble::{Trouble, print_documents, standard_output};
 use kmip_ttlv::NoMemory;
 use std::alloc::Global;
 use std::io::BufWriter;

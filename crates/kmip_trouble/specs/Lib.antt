@@ -1,0 +1,4 @@
+-- What the program says of what keeps a command from its work.
+
+-- the words of what cannot be done
+pub mod Words
