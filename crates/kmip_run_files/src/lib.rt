@@ -1,4 +1,4 @@
-//! The files that a command reads and a run keeps: plans, progress, where that was kept, and metrics.
+//! The files of a run: its plan, its progress, where that was kept, and its metrics.
 //!
 //! A run takes the lock of its progress file (`locked`), and judges the file before it begins with it
 //! (`progress_to_begin_with`). `FileKeeper` keeps what is known after each exchange. `MetricsFile` has
