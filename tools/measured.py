@@ -11,6 +11,7 @@ commands printed; which one it was is seen by its lines:
     make bench                    the times beside plain Rust, and those of sim and run
     rt plant                      the wrong bodies that were tried
     tools/check_times.py NAME     the minutes of a crate
+    tools/gate_times.py           the minutes of each crate in a gate
 
 Some logs lack a thing that their first line tells, as a person or a shell writes it:
 
@@ -195,12 +196,24 @@ def read_times(page, log, origin):
     return True
 
 
+def read_gate_times(page, log, origin):
+    """What tools/gate_times.py printed: the minutes of each crate, and those of its wrong bodies."""
+    found = re.findall(r'^(\w+): proof ([\d.]+), tests ([\d.]+), beginning ([\d.]+), wrong bodies ([\d.]+) minutes$', log, re.M)
+    for crate, *minutes in found:
+        proof, tests, beginning, bodies = map(float, minutes)
+        old = crate_row(page, crate)
+        functions, edits = (old[1], old[3]) if old[-1] == origin else ('', '')
+        theirs = f'{beginning + bodies:.1f}' if beginning + bodies else ''
+        page.put('crates', [crate, functions, f'{proof + tests:.1f}', edits, theirs, origin], by_first([crate]))
+    return bool(found)
+
+
 def crate_row(page, crate):
     """The row of a crate; one that says nothing where there is none."""
     return next((row for row in page.tables['crates'] if row[0] == crate), [crate, '', '', '', '', ''])
 
 
-READERS = [read_plants, read_bench, read_growths, read_times, read_gate]
+READERS = [read_plants, read_bench, read_growths, read_times, read_gate, read_gate_times]
 
 
 def main(words):

@@ -91,6 +91,14 @@ class Measured(Scratch):
         log = '$ tools/check_times.py low\n90 seconds: Lts 50, Proof 40\n'
         self.assertEqual(self.rows_of('crates', log), [['low', '', '1.5', '', '', ORIGIN]])
 
+    def test_minutes_of_the_crates_in_a_gate(self):
+        self.write_page(crates=[['low', '7', '', '2', '', ORIGIN], ['high', '9', '1.0', 'none', '', 'old']])
+        log = 'all crates: proof 3.0, tests 1.0, beginning 0.5, wrong bodies 0.2 minutes\n' \
+              'low: proof 1.0, tests 0.0, beginning 0.5, wrong bodies 0.2 minutes\n' \
+              'high: proof 2.0, tests 1.0, beginning 0.0, wrong bodies 0.0 minutes\n'
+        self.assertEqual(self.rows_of('crates', log), [
+            ['low', '7', '1.0', '2', '0.7', ORIGIN], ['high', '', '3.0', '', '', ORIGIN]])
+
     def test_all_wrong_bodies_of_a_crate(self):
         self.write_page(wrong_bodies=[['low', '1 function', '1', '0', '0', '0', '', 'old'], ['high', '1 function', '1', '0', '0', '0', '', 'old'],
                                       ['low', '2 functions of `a.rt`', '1', '0', '0', '0', '', 'old']])

@@ -90,7 +90,12 @@ pub fn push_told<'a>(
     text: &mut Vec<u8>,
 ) -> Result<(), NoMemory>
     // What is appended is exactly the line of this fault, which nothing stands in the way of.
-    ensures { OnOk result (text.new.items ≡ text.old.items ++ fault_line (record { fault = fault; at = at; why = why; cause = None })) }
+    ensures { OnOk result (text.new.items ≡ text.old.items ++ fault_line (record {
+      fault = fault.entry;
+      at = at.entry;
+      why = why.entry;
+      cause = None;
+    })) }
 {
     let fault = Fault {
         fault,
