@@ -7,6 +7,7 @@ COMMIT is what was measured, and MACHINE says where in a few words, as `4 cores`
 commands printed; which one it was is seen by its lines:
 
     make test                     the row of the gate, its trials, and the crates that this run proved
+    rt ci NAME..                  the crates that this run proved
     make refuse                   the growths of memory; out/gate/refuse.log of a gate is one too
     make bench                    the times beside plain Rust, and those of sim and run
     rt plant                      the wrong bodies that were tried
@@ -93,7 +94,7 @@ def command_of(log):
 
 
 def read_gate(page, log, origin):
-    """What `make test` printed: the last line, how much was done, the trials and the crates."""
+    """What `make test` printed: the last line, how much was done, and the trials."""
     ends = re.findall(r'^(\d+) passed, (\d+) failed(?:, (\d+) skipped)?$', log, re.M)
     if not ends:
         return False
@@ -104,13 +105,18 @@ def read_gate(page, log, origin):
     page.put('gate', row, by_first(row))
     for trial, seconds in re.findall(r'^(\w+): ok, (\d+) s$', log, re.M):
         page.put('trials', [trial, seconds, origin], by_first([trial]))
-    edits = re.findall(r'must-fail (\w+)/\S+: refused', log)
-    for crate, functions in functions_of(log).items():
+    return True
+
+
+def read_crates(page, log, origin):
+    """What `rt ci` printed, of all crates or of some: how many functions it checked in each, and the edits that it refused."""
+    edits, found = re.findall(r'must-fail (\w+)/\S+: refused', log), functions_of(log)
+    for crate, functions in found.items():
         old = crate_row(page, crate)
         minutes = old[2] if old[-1] == origin else ''
         row = [crate, str(functions), minutes, str(edits.count(crate)) if crate in edits else 'none', '', origin]
         page.put('crates', row, by_first(row))
-    return True
+    return bool(found)
 
 
 def done_of(log):
@@ -213,7 +219,7 @@ def crate_row(page, crate):
     return next((row for row in page.tables['crates'] if row[0] == crate), [crate, '', '', '', '', ''])
 
 
-READERS = [read_plants, read_bench, read_growths, read_times, read_gate, read_gate_times]
+READERS = [read_plants, read_bench, read_growths, read_times, read_gate, read_crates, read_gate_times]
 
 
 def main(words):
