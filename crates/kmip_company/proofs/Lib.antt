@@ -6,3 +6,9 @@ pub mod SuitLemmas
 pub mod ActLemmas
 pub mod AmidLemmas
 pub mod SharedLemmas
+pub mod MixedListLemmas
+pub mod MixedKnownLemmas
+pub mod MixedMemberLemmas
+pub mod MixedAskLemmas
+pub mod MixedEventLemmas
+pub mod MixedOlderLemmas

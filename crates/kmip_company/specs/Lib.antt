@@ -1,4 +1,4 @@
--- Clients of one plan, any number at once: what may occur, and what then holds.
+-- Clients of one plan or of several, any number at once: what may occur, and what then holds.
 
 -- open this first: what a company is, and what may occur in it
 pub mod Companies
@@ -12,5 +12,9 @@ pub mod Amid
 pub mod Sharing
 -- what holds of any company
 pub mod Laws
+-- clients of several plans at once: what may occur, and what then holds
+pub mod Mixed
+-- what holds of any company of such clients
+pub mod MixedLaws
 -- private: the laws of the crates below that these rest on
 pub mod PrivateLawbook

@@ -1,9 +1,9 @@
 -- Private: the laws of the crates below that the proofs use.
 -- Source: own (view).
-use Rattle.kmip_client.specs.Laws.{AsksWhatItMay, HearingKeepsTheTruth, HeldForGood, HeldIsNoConflict, LosingKeepsTheTruth, OnwardToItself, OnwardTwice}
+use Rattle.kmip_client.specs.Laws.{AsksWhatItMay, HearingKeepsTheTruth, HeldForGood, HeldIsNoConflict, LosingKeepsTheTruth, OnwardToItself, OnwardTwice, PositionsAreNoLess}
 use Rattle.kmip_messages.specs.Items.{ReadAreSaid}
-use Rattle.kmip_plan.specs.ChainLaws.{PlacesAndSteps, ReachedIsWithin}
-use Rattle.kmip_plan.specs.Laws.{BoundsAddUp, KeysAreFound}
+use Rattle.kmip_plan.specs.ChainLaws.{FurtherWaysAreNoShorter, NextStepsStand, PlacesAndSteps, ReachedIsWithin, RevokesAreOfTheRevoked, StatesKeepTheirPlaces, StepsKeepTheirPlaces, StepsStandOnward}
+use Rattle.kmip_plan.specs.Laws.{BoundsAddUp, KeysAreFound, OldKeysAreFound, OldKeysStand, PlansProlongThemselves}
 use Rattle.kmip_protocol.specs.AmidLaws.{NothingPasses, PassingJoins}
 use Rattle.kmip_protocol.specs.LosingLaws.{CleanTurnsAreNearer, DisturbedTurnsCostTwoEach, LateArrivalsAddNothing, NeedsAreLeft, OpeningLeavesTheBound}
 use Rattle.kmip_protocol.specs.SettlingLaws.{SoundIsReady, WhoNeedsNothingIsFinished}
@@ -14,10 +14,20 @@ pub record Lawbook : Type 0 where
   pub found : KeysAreFound
   pub places : PlacesAndSteps
   pub within : ReachedIsWithin
+  pub next : NextStepsStand
+  pub revoke : RevokesAreOfTheRevoked
+  pub no_shorter : FurtherWaysAreNoShorter
+  pub steps_onward : StepsStandOnward
+  pub step_places : StepsKeepTheirPlaces
+  pub state_places : StatesKeepTheirPlaces
+  pub old_keys : OldKeysStand
+  pub old_found : OldKeysAreFound
+  pub prolongs_itself : PlansProlongThemselves
   pub said : ReadAreSaid
   pub itself : OnwardToItself
   pub twice : OnwardTwice
   pub known : HeldForGood
+  pub further : PositionsAreNoLess
   pub hears : HearingKeepsTheTruth
   pub loses : LosingKeepsTheTruth
   pub no_conflict : HeldIsNoConflict

@@ -18,12 +18,14 @@ ghost use Rattle.kmip_company.specs.Laws.{
 };
 
 use kmip_client::laws::{
-    hearing_keeps_the_truth, onward_is_an_order, truth_is_for_good, what_is_asked_may_be,
-    what_is_true_is_no_conflict,
+    hearing_keeps_the_truth, onward_is_an_order, prolonged_plans_keep_the_truth, truth_is_for_good,
+    what_is_asked_may_be, what_is_true_is_no_conflict,
 };
 use kmip_messages::laws::answer_laws;
-use kmip_plan::chain_laws::{states_have_places, steps_have_places};
-use kmip_plan::laws::{bounds_add_up, keys_have_names};
+use kmip_plan::chain_laws::{further_ways_keep_places, states_have_places, steps_have_places};
+use kmip_plan::laws::{
+    bounds_add_up, keys_have_names, prolonged_keys_stand, prolonging_may_be_repeated,
+};
 use kmip_protocol::amid_laws::what_passes_passes_for_others;
 use kmip_protocol::laws::{
     answers_are_true, asking_keeps_sound, deliveries_keep_sound, deliveries_keep_the_requests,
@@ -36,16 +38,20 @@ use kmip_protocol::losing_laws::{
 use kmip_protocol::settling_laws::{sound_is_ready, who_needs_nothing_is_finished};
 
 /// The laws of the crates below.
-fn laws_below()
+pub(crate) fn laws_below()
     ensures { Lawbook }
 {
     keys_have_names();
     bounds_add_up();
     steps_have_places();
     states_have_places();
+    further_ways_keep_places();
+    prolonged_keys_stand();
+    prolonging_may_be_repeated();
     answer_laws();
     onward_is_an_order();
     truth_is_for_good();
+    prolonged_plans_keep_the_truth();
     hearing_keeps_the_truth();
     what_is_true_is_no_conflict();
     what_is_asked_may_be();

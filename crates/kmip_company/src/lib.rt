@@ -4,10 +4,13 @@
 //! nothing, or from what any of them saved, and is killed at any moment. Their exchanges overlap as they like:
 //! one event is one move of the network or the server, or one thing that one client does.
 //!
+//! `mixed_laws` says what holds where the clients are of several plans, each of which the newest prolongs.
+//!
 //! `Shared` is a link that another client uses too: over it a campaign of one is made among those of others.
 #![tactic(auto)]
 
 pub mod laws;
+pub mod mixed_laws;
 mod shared;
 
 pub use shared::Shared;

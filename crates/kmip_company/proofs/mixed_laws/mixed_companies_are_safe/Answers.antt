@@ -1,0 +1,13 @@
+-- From nobody, event by event.
+use Rattle.kmip_company.specs.Companies.{nobody}
+use Rattle.kmip_company.specs.Mixed.{after_all_of}
+use Rattle.kmip_company.proofs.MixedEventLemmas.{good_events, image_events, nobody_good, safe_mixed}
+use Rattle.kmip_company.proofs.mixed_laws.mixed_companies_are_safe.Goals as goal
+
+pub returns : goal.returns
+returns c = λ keys p events lawful opening may.
+    let l = c.laws_below.ensures in
+    let good = nobody_good keys p (l.begins keys p opening) in
+    let image = l.opening keys p opening in
+    safe_mixed l keys (after_all_of events (nobody p)) lawful (good_events l keys events (nobody p) lawful good may).0
+    (image_events l keys events (nobody p) lawful good image may)
