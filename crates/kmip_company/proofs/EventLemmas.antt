@@ -45,7 +45,7 @@ use Rattle.kmip_company.proofs.TruthLemmas.{all_justified, all_reached, counts_r
 pub member_on : Lawbook → (keys : List Key) (old new : List Object) (c : ClientState) → IsLawful keys → Onward keys old new → IsMember keys old c → IsMember keys new c
 member_on l keys old new c lawful on m = record { keys_are = m.keys_are; held = l.known keys c.knowns old new lawful on m.held }
 
-reached_on : (keys : List Key) (old new : Past) (effect : Effect) → Onward keys old.objects new.objects → IsReached keys old effect → IsReached keys new effect
+pub reached_on : (keys : List Key) (old new : Past) (effect : Effect) → Onward keys old.objects new.objects → IsReached keys old effect → IsReached keys new effect
 reached_on keys old new effect on r =
     let further = (on r.0 r.1).never_falls in
     (r.0, r.1, r.2, r.3, omega (arith, further, r.4))

@@ -35,6 +35,7 @@ use Rattle.kmip_company.specs.Mixed.{AllBeside, KnowsAmong}
 use Rattle.kmip_company.specs.PrivateLawbook.{Lawbook}
 use Rattle.kmip_company.proofs.MixedKnownLemmas.{among_held, working_parts, works_newest}
 use Rattle.kmip_company.proofs.MixedListLemmas.{each_reported, mapped_at}
+use Rattle.kmip_company.proofs.TruthLemmas.{asked_there, first_are}
 
 -- ---- what is asked
 
@@ -69,10 +70,6 @@ justified_at l keys objects own knowns place lawful m w =
       may = subst (MayAsk objects newest) (same_ask l w.key newest w.known.phase (unwrap_or w.known.identifier []) w.known.done goes parts.0) may;
     }
 
-asked_there : (keys : List Key) (knowns : List Knowledge) (place : ℕ) (w : WorksAt keys knowns place)
-    → at_place (λ place key known. request_about key known) keys knowns place ≡ Some (request_about w.key w.known)
-asked_there keys knowns place w = rw (w.key_is, w.known_is) refl
-
 pub older_justified : Lawbook → (keys : List Key) (objects : List Object) (own : List Key) (knowns : List Knowledge) (places : List ℕ) → IsLawful keys
     → KnowsAmong keys objects own knowns → All (WorksAt own knowns) places → All (Justified keys objects) (requests_at own knowns places)
 older_justified l keys objects own knowns [] lawful m works = All-nil (Justified keys objects)
@@ -83,15 +80,6 @@ older_justified l keys objects own knowns (place ∷ places) lawful m works =
     (older_justified l keys objects own knowns places lawful m (All-tail (WorksAt own knowns) place places works)))
 
 -- ---- what is counted
-
--- a fact of each of the first of a list, by its place
-first_are : {X Y : Type 0} (P : Y → Type 0) (f : X → Y) (xs : List X) (count : ℕ) → ((place : ℕ) (x : X) → slice_get xs place ≡ Some x → place < count → P (f x))
-    → All P (map f (take count xs))
-first_are P f xs zero each = All-nil P
-first_are P f [] (suc count) each = All-nil P
-first_are P f (x ∷ xs) (suc count) each =
-    All-cons P (f x) (map f (take count xs)) (each zero x refl (omega arith))
-    (first_are P f xs count (λ place y is below. each (suc place) y is (omega (arith, below))))
 
 -- the step at a place of the own way has that place on the newest
 step_newest : Lawbook → (own newest : Key) (place : ℕ) (step : Step) → GoesOn newest own → slice_get (chain own.target) place ≡ Some step

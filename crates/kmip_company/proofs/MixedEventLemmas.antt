@@ -36,17 +36,12 @@ use Rattle.kmip_company.specs.Companies.{Asks, Company, Event, Happens, Hears, L
 use Rattle.kmip_company.specs.Mixed.{AllBeside, AllMayOccurAmong, IsGoodMixed, IsOlderMember, IsSafeMixed, MayOccurAmong, PlannedEvent, after_all_of, after_of, carried}
 use Rattle.kmip_company.specs.PrivateLawbook.{Lawbook}
 use Rattle.kmip_company.specs.Safety.{all_reported}
-use Rattle.kmip_company.proofs.EventLemmas.{about_there, one_move, there}
+use Rattle.kmip_company.proofs.EventLemmas.{about_there, one_move, reached_on, there}
 use Rattle.kmip_company.proofs.ListLemmas.{all_and, all_at, all_flat, all_set, all_without}
 use Rattle.kmip_company.proofs.MixedAskLemmas.{counts_reached, known_counted, older_justified, saved_counted}
 use Rattle.kmip_company.proofs.MixedMemberLemmas.{knows_again, knows_lost, knows_nothing, knows_on, knows_read, saved_on, saves_true}
 
 -- ---- the objects go onward
-
-reached_on : (keys : List Key) (old new : Past) (effect : Effect) → Onward keys old.objects new.objects → IsReached keys old effect → IsReached keys new effect
-reached_on keys old new effect on r =
-    let further = (on r.0 r.1).never_falls in
-    (r.0, r.1, r.2, r.3, omega (arith, further, r.4))
 
 -- a company of a later past
 good_on : Lawbook → (keys : List Key) (w : Company) (p : Past) → IsLawful keys → Sound keys p → Onward keys w.past.objects p.objects → IsGoodMixed keys w

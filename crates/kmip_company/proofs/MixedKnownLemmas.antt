@@ -36,6 +36,7 @@ use Rattle.kmip_progress.specs.declared.known.Known.{Known}
 use Rattle.kmip_company.specs.Mixed.{IsKnownAmong}
 use Rattle.kmip_company.specs.PrivateLawbook.{Lawbook}
 use Rattle.kmip_company.proofs.MixedListLemmas.{same_some}
+use Rattle.kmip_company.proofs.TruthLemmas.{suits_again}
 
 -- ---- as objects go onward
 
@@ -50,10 +51,6 @@ pub known_on : (key : Key) (known : Knowledge) (old new : List Object) → GoesO
 known_on key known old new on was = record { holds = true_on key (known_of known) old new on was.holds; suits = was.suits; of_state = was.of_state }
 
 -- ---- at the beginning
-
-suits_again : (identifier : Option (List ℕ)) (done : ℕ) → PhaseSuits (lost_phase identifier) identifier done
-suits_again None done = refl
-suits_again (Some uid) done = λ is. absurd cc
 
 no_clash : (clash : Clash) → None ≡ Some clash → clash ≡ clashes.State
 no_clash clash is = absurd cc

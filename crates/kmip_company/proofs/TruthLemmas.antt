@@ -40,7 +40,7 @@ held_fresh objects (key ∷ keys) = (
 )
 
 -- who goes on from what was saved looks at each key again
-suits_again : (identifier : Option (List ℕ)) (done : ℕ) → PhaseSuits (lost_phase identifier) identifier done
+pub suits_again : (identifier : Option (List ℕ)) (done : ℕ) → PhaseSuits (lost_phase identifier) identifier done
 suits_again None done = refl
 suits_again (Some uid) done = λ is. absurd cc
 
@@ -88,7 +88,7 @@ counts_reached objects (key ∷ keys) [] held = absurd held
 counts_reached objects (key ∷ keys) (known ∷ knowns) held = (held.0.holds.done_true, counts_reached objects keys knowns held.1)
 
 -- a fact of each of the first of a list, by its place
-first_are : {X Y : Type 0} (P : Y → Type 0) (f : X → Y) (xs : List X) (count : ℕ) → ((place : ℕ) (x : X) → slice_get xs place ≡ Some x → place < count → P (f x))
+pub first_are : {X Y : Type 0} (P : Y → Type 0) (f : X → Y) (xs : List X) (count : ℕ) → ((place : ℕ) (x : X) → slice_get xs place ≡ Some x → place < count → P (f x))
     → All P (map f (take count xs))
 first_are P f xs zero each = All-nil P
 first_are P f [] (suc count) each = All-nil P
@@ -145,7 +145,7 @@ held_at objects (k ∷ keys) [] place key known held here there = absurd held
 held_at objects (k ∷ keys) (x ∷ knowns) zero key known held here there = subst (λ y. IsHeld objects key y) (same_known x known there) (subst (λ j. IsHeld objects j x) (same_key k key here) held.0)
 held_at objects (k ∷ keys) (x ∷ knowns) (suc place) key known held here there = held_at objects keys knowns place key known held.1 here there
 
-asked_there : (keys : List Key) (knowns : List Knowledge) (place : ℕ) (w : WorksAt keys knowns place)
+pub asked_there : (keys : List Key) (knowns : List Knowledge) (place : ℕ) (w : WorksAt keys knowns place)
     → at_place (λ place key known. request_about key known) keys knowns place ≡ Some (request_about w.key w.known)
 asked_there keys knowns place w = rw (w.key_is, w.known_is) refl
 
