@@ -2,7 +2,7 @@
 
 use crate::command_option::CommandOption;
 use crate::completing::{HELP_COMMAND, Offer, push_names};
-use crate::subcommand::{COMMANDS, Subcommand};
+use crate::subcommand::Subcommand;
 use std::alloc::AllocError;
 
 /// What stands before the names of the commands.
@@ -45,19 +45,19 @@ const TAIL: &str = "    esac
 complete -F _kmipctl kmipctl
 ";
 
-/// Appends the script for bash.
-pub(crate) fn push_bash(script: &mut String) -> Result<(), AllocError> {
+/// Appends the script for bash, which offers these commands.
+pub(crate) fn push_bash(script: &mut String, commands: &[Subcommand]) -> Result<(), AllocError> {
     script.push_str(HEAD)?;
     script.push_str("        '') words='")?;
-    push_names(script)?;
+    push_names(script, commands)?;
     script.push_str(" --help --version' ;;\n")?;
     write!(
         script,
         "        {HELP_COMMAND}) if ((COMP_CWORD == place + 1)); then words='"
     )?;
-    push_names(script)?;
+    push_names(script, commands)?;
     script.push_str("'; fi ;;\n")?;
-    for command in &COMMANDS {
+    for command in commands {
         push_command(script, command)?;
     }
     script.push_str(TAIL)

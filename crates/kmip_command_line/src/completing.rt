@@ -2,7 +2,7 @@
 
 use crate::bash::push_bash;
 use crate::fish::push_fish;
-use crate::subcommand::COMMANDS;
+use crate::subcommand::{COMMANDS, Subcommand};
 use crate::zsh::push_zsh;
 use kmip_choices::Shell;
 use std::alloc::{AllocError, Global};
@@ -29,17 +29,19 @@ pub(crate) const ABOUT_VERSION_OPTION: &str = "Print version";
 /// Where there is no memory.
 pub fn completions(alloc: Global, shell: Shell) -> Result<String, AllocError> {
     let mut script = String::new(alloc);
+    // Only here, as a check reads the whole constant wherever it stands.
+    let commands = &COMMANDS;
     match shell {
-        Shell::Bash => push_bash(&mut script)?,
-        Shell::Zsh => push_zsh(&mut script)?,
-        Shell::Fish => push_fish(&mut script)?,
+        Shell::Bash => push_bash(&mut script, commands)?,
+        Shell::Zsh => push_zsh(&mut script, commands)?,
+        Shell::Fish => push_fish(&mut script, commands)?,
     }
     Ok(script)
 }
 
-/// Appends the names of the commands, with a space between two.
-pub(crate) fn push_names(script: &mut String) -> Result<(), AllocError> {
-    for command in &COMMANDS {
+/// Appends the names of these commands, and of `help`, with a space between two.
+pub(crate) fn push_names(script: &mut String, commands: &[Subcommand]) -> Result<(), AllocError> {
+    for command in commands {
         script.push_str(command.name)?;
         script.push_str(" ")?;
     }

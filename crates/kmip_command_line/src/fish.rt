@@ -4,7 +4,7 @@ use crate::command_option::CommandOption;
 use crate::completing::{
     ABOUT_HELP, ABOUT_HELP_OPTION, ABOUT_VERSION_OPTION, HELP_COMMAND, Offer, push_names,
 };
-use crate::subcommand::{COMMANDS, Subcommand};
+use crate::subcommand::Subcommand;
 use std::alloc::AllocError;
 use std::fmt::{self, Display, Formatter};
 
@@ -44,10 +44,10 @@ impl<'a> Display for Quoted<'a> {
     }
 }
 
-/// Appends the script for fish.
-pub(crate) fn push_fish(script: &mut String) -> Result<(), AllocError> {
+/// Appends the script for fish, which offers these commands.
+pub(crate) fn push_fish(script: &mut String, commands: &[Subcommand]) -> Result<(), AllocError> {
     script.push_str(HEAD)?;
-    for command in &COMMANDS {
+    for command in commands {
         push_name(script, command.name, command.about)?;
     }
     push_name(script, HELP_COMMAND, ABOUT_HELP)?;
@@ -59,14 +59,14 @@ pub(crate) fn push_fish(script: &mut String) -> Result<(), AllocError> {
         script,
         "complete -c kmipctl -n __kmipctl_has -s V -l version -d '{ABOUT_VERSION_OPTION}'"
     )?;
-    for command in &COMMANDS {
+    for command in commands {
         push_command(script, command)?;
     }
     write!(
         script,
         "complete -c kmipctl -n '__kmipctl_has {HELP_COMMAND}' -a '"
     )?;
-    push_names(script)?;
+    push_names(script, commands)?;
     script.push_str("'\n")
 }
 

@@ -2,7 +2,7 @@
 
 use crate::command_option::CommandOption;
 use crate::completing::{ABOUT_HELP, ABOUT_HELP_OPTION, ABOUT_VERSION_OPTION, HELP_COMMAND, Offer};
-use crate::subcommand::{COMMANDS, Subcommand};
+use crate::subcommand::Subcommand;
 use std::alloc::AllocError;
 use std::fmt::{self, Display, Formatter};
 
@@ -59,10 +59,10 @@ impl<'a> Display for Quoted<'a> {
     }
 }
 
-/// Appends the script for zsh.
-pub(crate) fn push_zsh(script: &mut String) -> Result<(), AllocError> {
+/// Appends the script for zsh, which offers these commands.
+pub(crate) fn push_zsh(script: &mut String, commands: &[Subcommand]) -> Result<(), AllocError> {
     script.push_str(HEAD)?;
-    for command in &COMMANDS {
+    for command in commands {
         let (name, about) = (command.name, Quoted(command.about));
         writeln!(script, "        '{name}:{about}'")?;
     }
@@ -83,7 +83,7 @@ pub(crate) fn push_zsh(script: &mut String) -> Result<(), AllocError> {
         script,
         "                {HELP_COMMAND}) ((CURRENT == 2)) && _describe -t commands command commands && found=0 ;;"
     )?;
-    for command in &COMMANDS {
+    for command in commands {
         push_command(script, command)?;
     }
     script.push_str(TAIL)
