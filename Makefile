@@ -8,7 +8,7 @@
 # make fmt        lays out the files of all crates
 # make test       the gate: every proof, the wrong bodies, the tests, the rows, and then all trials but bench
 # make rows       runs the rows without a proof; with CRATE=, FILE=, NAME= some (by rt try where nothing is built)
-# make bench      compares the program with a baseline in plain Rust, times simulations, and draws (needs rustc)
+# make bench      sets it beside plain Rust, also over sockets; times commands; counts allocations, instructions (needs rustc)
 # make refuse     refuses each growth of memory of the program and of test_memory in turn (needs cc, python3)
 # make faults     gives the program plans with each fault, and wants the line that says where and why (needs python3)
 # make hostile    gives the program lines of ten megabytes, under limits of memory

@@ -8,12 +8,14 @@
 # runs, which the two programs take in turn; a short one is the mean of several runs at a time. It is
 # processor time, the system's included, so other work on the machine disturbs it little. First come
 # whole loads, then how the cost of a request grows from 10 objects of the server to 10,000, and then
-# the memory that an object takes, how the time of `kmipctl sim` grows with the keys of a plan, and last
-# what `sim` and `run` take by how many keys a message asks about, and `run` beside a bare loop over the disk.
-# Where gnuplot is there, it draws the
-# growths into out/bench/growth.svg.
-# The exit status is 1 where the outputs differ, or a simulation takes another number of exchanges than
-# its plan needs, and 0 whatever the times are.
+# the memory that an object takes, how the time of `kmipctl sim` grows with the keys of a plan, and what an
+# exchange of it takes. Then comes what `sim` and `run` take by how many keys a message asks about, and `run`
+# beside a bare loop over the disk. Where gnuplot is there, it draws the growths into out/bench/growth.svg.
+# The last three parts are in Python: `run` and `serve` beside a plain loop over sockets (bench/sockets.py),
+# the times of the other commands (bench/commands.py), and counts of allocations and of instructions
+# (bench/counts.py).
+# The exit status is 1 where the outputs differ, or a run or a simulation takes another number of exchanges
+# than its plan needs, and 0 whatever the times are.
 set -euo pipefail
 export LC_ALL=C
 
@@ -30,6 +32,8 @@ small_aim=2
 memory_aim=300
 # How much longer a simulation of 1,000 keys may take than one of 100.
 sim_aim=11
+# How many microseconds an exchange of a simulation may take.
+exchange_aim=5
 # How much longer a run of 1,000 keys may take than a bare loop that writes its texts.
 disk_aim=1.3
 
@@ -205,7 +209,8 @@ measure_simulation() {
     done
 }
 
-# Prints how the time of a simulation grows with the keys of its plan.
+# Prints how the time of a simulation grows with the keys of its plan, and what an exchange takes: with all that
+# the program does, and without what it does for a plan of 10 keys.
 growth_of_simulations() {
     local ten hundred
     measure_simulation 10 50
@@ -216,6 +221,9 @@ growth_of_simulations() {
     printf 'sim of 10, 100 and 1,000 keys, 3 exchanges a key: %s, %s and %s ms, growth from 100 to 1,000 %s (aim: at most %s)\n' \
         "$(quotient "$ten" 1000 2)" "$(quotient "$hundred" 1000 2)" "$(quotient "$ours" 1000 2)" \
         "$(quotient "$ours" "$hundred" 2)" "$sim_aim"
+    printf 'sim of 100 and 1,000 keys: %s and %s microseconds an exchange (aim: at most %s), %s and %s beyond those of 10 keys\n' \
+        "$(quotient "$hundred" 300 2)" "$(quotient "$ours" 3000 2)" "$exchange_aim" \
+        "$(quotient $((hundred - ten)) 270 2)" "$(quotient $((ours - ten)) 2970 2)"
 }
 
 # Ends with exit status 1 where the line $1 is not $2.
@@ -274,11 +282,23 @@ disk() {
     echo "1,000 keys, $texts texts of $first to $last bytes, $((texts * (first + last) / 2000000)) MB: run --loopback $ran ms, a bare loop $bare ms, ratio $(quotient "$ran" "$bare" 2) (aim: at most $disk_aim)"
 }
 
+# Runs the parts that are in Python.
+parts_in_python() {
+    if ! command -v python3 > /dev/null; then
+        echo 'python3 is not there, so no sockets, other commands, allocations and instructions are measured'
+        return
+    fi
+    python3 bench/sockets.py "$program" "$out"
+    python3 bench/commands.py "$program" "$out"
+    python3 bench/counts.py "$program" "$out"
+}
+
 mkdir -p "$out"
 rm -f "$out/growth.tsv" "$out/growth.svg"
 build baseline
 build disk
 build input
+build sockets
 
 load '100000 requests over 100 objects' "$small_aim" 1 mix 100000 100
 load '100000 requests over 10000 objects' "$aim" 1 mix 100000 10000
@@ -301,3 +321,4 @@ memory baseline "$out/baseline"
 growth_of_simulations
 batches
 disk
+parts_in_python

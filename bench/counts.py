@@ -1,0 +1,120 @@
+#!/usr/bin/env python3
+"""Counts the allocations and the instructions of `kmipctl answer` a message, of the baseline too, and of `sim` an exchange.
+
+    bench/counts.py PROGRAM OUT
+
+OUT is a folder that has `baseline` and `input`, as bench/bench.sh builds them. A program is run twice, the second time
+with some messages more, and the difference is divided by their number. So what it does at its start does not count.
+The counts do not depend on what else the machine does.
+
+Allocations are calls of malloc, calloc and realloc, which bench/count.c counts; that needs cc. Instructions are those
+that callgrind counts; that needs valgrind. What a machine lacks is not counted, and a line says so.
+"""
+import os
+import re
+import shutil
+import struct
+import subprocess
+import sys
+
+sys.dont_write_bytecode = True
+
+from measuring import fail, ratio, run, write_plan
+
+# What the messages are, how many the second run has more, and the words for bench/input.rs of both.
+LOADS = [
+    ('Locates of 5,000 names over 5,000 objects', 5000, 'locate 5000 5000', 'locate 5000 10000'),
+    ('Creates of 5,000 objects beside 5,000', 5000, 'create 5000', 'create 10000'),
+    ('a mix over 100 objects', 10000, 'mix 10000 100', 'mix 20000 100'),
+]
+# The keys of the plans of `sim`, with three exchanges each.
+FEW, MANY = 500, 1000
+
+
+class Allocations:
+    """Counts the allocations of a program."""
+
+    what, needs = 'allocations', 'cc'
+
+    def __init__(self, out):
+        self.number, self.told = (os.path.join(out, name) for name in ('number', 'told'))
+        self.shim = os.path.realpath(os.path.join(out, 'count.so'))
+        source = os.path.join(os.path.dirname(os.path.realpath(__file__)), 'count.c')
+        subprocess.run(['cc', '-O2', '-Wall', '-Wextra', '-shared', '-fPIC', '-o', self.shim, source], check=True)
+
+    def of(self, words, source):
+        with open(self.number, 'w+b') as file:
+            file.write(bytes(8))
+            file.flush()
+            given = os.environ | {'LD_PRELOAD': self.shim, 'COUNT_TO': str(file.fileno())}
+            run(words, self.told, source, env=given, pass_fds=[file.fileno()])
+            file.seek(0)
+            return struct.unpack('@Q', file.read())[0]
+
+
+class Instructions:
+    """Counts the instructions of a program."""
+
+    what, needs = 'instructions', 'valgrind'
+
+    def __init__(self, out):
+        self.counted, self.log, self.told = (os.path.join(out, name) for name in ('callgrind', 'callgrind.log', 'told'))
+
+    def of(self, words, source):
+        tool = ['valgrind', '--tool=callgrind', f'--callgrind-out-file={self.counted}', f'--log-file={self.log}']
+        run([*tool, *words], self.told, source)
+        with open(self.counted) as file:
+            found = re.search(r'^totals: (\d+)', file.read(), re.M)
+        return int(found.group(1)) if found else fail(words, 'callgrind counts nothing')
+
+
+class Counts:
+    def __init__(self, program, out):
+        self.program, self.out = os.path.realpath(program), out
+
+    def path(self, name):
+        return os.path.join(self.out, name)
+
+    def load(self, words):
+        """The file of a load."""
+        run([self.path('input'), *words.split()], self.path('count.hex'))
+        return self.path('count.hex')
+
+    def of_messages(self, counter, more, before, after):
+        """The counts a message, of our program and of the baseline."""
+        counts = []
+        for words in before, after:
+            source = self.load(words)
+            counts.append([counter.of(program, source) for program in ([self.program, 'answer'], [self.path('baseline')])])
+        return [(many - few) / more for few, many in zip(*counts)]
+
+    def of_exchange(self, counter):
+        """The count an exchange of `sim`."""
+        counts, script = [], self.path('empty.script')
+        open(script, 'w').close()
+        for keys in FEW, MANY:
+            plan = write_plan(self.path('plan.toml'), keys)
+            counts.append(counter.of([self.program, 'sim', '--plan', plan, '--script', script], os.devnull))
+        return (counts[1] - counts[0]) / (3 * (MANY - FEW))
+
+    def tell(self, kind, digits):
+        """Prints what a counter of this kind counts, or that the machine lacks what it needs."""
+        if not shutil.which(kind.needs):
+            print(f'{kind.needs} is not there, so no {kind.what} are counted')
+            return
+        counter = kind(self.out)
+        for what, *load in LOADS:
+            ours, theirs = self.of_messages(counter, *load)
+            print(f'{kind.what} a message, {what}: kmipctl {ours:.{digits}f}, baseline {theirs:.{digits}f}, '
+                  f'ratio {ratio(ours, theirs)}', flush=True)
+        print(f'{kind.what} an exchange of sim: {self.of_exchange(counter):.{digits}f}', flush=True)
+
+
+def main():
+    counts = Counts(*sys.argv[1:])
+    counts.tell(Allocations, 2)
+    counts.tell(Instructions, 0)
+
+
+if __name__ == '__main__':
+    main()
