@@ -9,7 +9,8 @@ commands printed; which one it was is seen by its lines:
     make test                     the row of the gate, its trials, and the crates that this run proved
     rt ci NAME..                  the crates that this run proved
     make refuse                   the growths of memory; out/gate/refuse.log of a gate is one too
-    make bench                    the times beside plain Rust, and those of sim and run
+    make bench                    the times beside plain Rust, also over sockets, those of sim, run and other
+                                  commands, and the allocations and instructions
     rt plant                      the wrong bodies that were tried
     tools/check_times.py NAME     the minutes of a crate
     tools/gate_times.py           the minutes of each crate in a gate
@@ -154,31 +155,71 @@ def read_plants(page, log, origin):
 
 
 def read_bench(page, log, origin):
-    """What bench/bench.sh printed, line by line."""
-    rows = [[what, f'{ours} s', f'{theirs} s', ratio, aim] for what, ours, theirs, ratio, aim in re.findall(
-        r'^(.+): kmipctl ([\d.]+) s, baseline ([\d.]+) s, ratio ([\d.]+) \(aim: at most ([\d.]+)\)$', log, re.M)]
-    aim = re.search(r'and the growth \(aim: at most ([\d.]+) times', log)
-    for what, numbers in GROWTH_ROW.findall(log):
-        _, _, ours, _, _, theirs, ratio = numbers.split()
-        rows.append([f'growth: {what.strip()}', ours, theirs, ratio, aim.group(1) if aim else ''])
-    memory = dict(re.findall(r'^(kmipctl|baseline): (-?\d+) bytes an object', log, re.M))
-    if memory:
-        aim = re.search(r'bytes an object beyond its data \(aim: at most (\d+)\)', log).group(1)
-        rows.append(['bytes of an object beyond its data', memory.get('kmipctl', ''), memory.get('baseline', ''), '', aim])
-    for few, some, many, ratio, aim in re.findall(
-            r'^sim of .*: ([\d.]+), ([\d.]+) and ([\d.]+) ms, growth .* ([\d.]+) \(aim: at most (\d+)\)$', log, re.M):
-        rows.append(['`sim` of 10, 100 and 1,000 keys; the growth from 100', f'{few}, {some}, {many} ms', '', ratio, aim])
-    for batch, exchanges, sim, run in re.findall(
-            r'^1,000 keys, --batch (\d): (\d+) exchanges; sim (\d+) ms, run --loopback (\d+) ms', log, re.M):
-        rows.append([f'1,000 keys, `--batch {batch}`: `sim`, `run --loopback`', f'{sim} ms, {run} ms', '', f'{exchanges} exchanges', ''])
-    for texts, size, run, bare, ratio, aim in re.findall(
-            r'^1,000 keys, (\d+) texts of .*, (\d+) MB: run --loopback (\d+) ms, a bare loop (\d+) ms, '
-            r'ratio ([\d.]+) \(aim: at most ([\d.]+)\)', log, re.M):
-        rows.append([f'1,000 keys, {texts} texts of {size} MB in all: `run --loopback`, a bare loop that writes them',
-                     f'{run} ms', f'{bare} ms', ratio, aim])
+    """What bench/bench.sh printed, line by line, and what its parts in Python printed."""
+    rows = [row for part in BENCH_PARTS for row in part(log)]
     for row in rows:
         page.put('bench', row + [origin], by_first(row))
     return bool(rows)
+
+
+def bench_answers(log):
+    """Whole loads of `answer`, how the cost of a request grows, and the memory of an object."""
+    for what, ours, theirs, ratio, aim in re.findall(
+            r'^(.+): kmipctl ([\d.]+) s, baseline ([\d.]+) s, ratio ([\d.]+) \(aim: at most ([\d.]+)\)$', log, re.M):
+        yield [what, f'{ours} s', f'{theirs} s', ratio, aim]
+    aim = re.search(r'and the growth \(aim: at most ([\d.]+) times', log)
+    for what, numbers in GROWTH_ROW.findall(log):
+        _, _, ours, _, _, theirs, ratio = numbers.split()
+        yield [f'growth: {what.strip()}', ours, theirs, ratio, aim.group(1) if aim else '']
+    memory = dict(re.findall(r'^(kmipctl|baseline): (-?\d+) bytes an object', log, re.M))
+    if memory:
+        aim = re.search(r'bytes an object beyond its data \(aim: at most (\d+)\)', log).group(1)
+        yield ['bytes of an object beyond its data', memory.get('kmipctl', ''), memory.get('baseline', ''), '', aim]
+
+
+def bench_runs(log):
+    """The times of `sim` and of `run --loopback`."""
+    for few, some, many, ratio, aim in re.findall(
+            r'^sim of .*: ([\d.]+), ([\d.]+) and ([\d.]+) ms, growth .* ([\d.]+) \(aim: at most (\d+)\)$', log, re.M):
+        yield ['`sim` of 10, 100 and 1,000 keys; the growth from 100', f'{few}, {some}, {many} ms', '', ratio, aim]
+    for some, many, aim, *beyond in re.findall(
+            r'^sim of .*: ([\d.]+) and ([\d.]+) microseconds an exchange \(aim: at most (\d+)\), '
+            r'(-?[\d.]+) and (-?[\d.]+) beyond those of 10 keys$', log, re.M):
+        yield ['`sim` of 100 and 1,000 keys: an exchange; beyond those of 10 keys',
+               f'{some}, {many} µs; {", ".join(beyond)} µs', '', '', aim]
+    for batch, exchanges, sim, run in re.findall(
+            r'^1,000 keys, --batch (\d): (\d+) exchanges; sim (\d+) ms, run --loopback (\d+) ms', log, re.M):
+        yield [f'1,000 keys, `--batch {batch}`: `sim`, `run --loopback`', f'{sim} ms, {run} ms', '', f'{exchanges} exchanges', '']
+    for texts, size, run, bare, ratio, aim in re.findall(
+            r'^1,000 keys, (\d+) texts of .*, (\d+) MB: run --loopback (\d+) ms, a bare loop (\d+) ms, '
+            r'ratio ([\d.]+) \(aim: at most ([\d.]+)\)', log, re.M):
+        yield [f'1,000 keys, {texts} texts of {size} MB in all: `run --loopback`, a bare loop that writes them',
+               f'{run} ms', f'{bare} ms', ratio, aim]
+
+
+def bench_sockets(log):
+    """Two rows for each comparison with a plain loop over sockets: of the processor, and of the wall."""
+    number = r'([\d.]+)'
+    for name, what, *times, aim in re.findall(
+            rf'^(run|serve)(.*): processor {number} ms, plain {number} ms, ratio {number}; '
+            rf'wall {number} ms, plain {number} ms, ratio {number}(?: \(aim: at most {number}\))?$', log, re.M):
+        for kind, (ours, theirs, ratio), aim in ('processor', times[:3], ''), ('wall time', times[3:], aim):
+            yield [f'`{name}`{what}: {kind}', f'{ours} ms', f'{theirs} ms', ratio, aim]
+
+
+def bench_commands(log):
+    """The processor time of other commands."""
+    for name, what, took in re.findall(r'^((?:check|look|probe)(?: --\w+)?)(, .*): ([\d.]+) ms of processor$', log, re.M):
+        yield [f'`{name}`{what}: processor', f'{took} ms', '', '', '']
+
+
+def bench_counts(log):
+    """The allocations and the instructions of a message and of an exchange."""
+    for count, what, ours, theirs, ratio in re.findall(
+            r'^(allocations|instructions) a message, (.*): kmipctl ([\d.]+), baseline ([\d.]+), ratio ([\d.]+)$', log, re.M):
+        yield [f'{count} a message: {what}', ours, theirs, ratio, '']
+    for count, ours in re.findall(r'^(allocations|instructions) an exchange of sim: ([\d.]+)$', log, re.M):
+        yield [f'{count} an exchange of `sim`', ours, '', '', '']
 
 
 def read_growths(page, log, origin):
@@ -219,6 +260,7 @@ def crate_row(page, crate):
     return next((row for row in page.tables['crates'] if row[0] == crate), [crate, '', '', '', '', ''])
 
 
+BENCH_PARTS = [bench_answers, bench_runs, bench_sockets, bench_commands, bench_counts]
 READERS = [read_plants, read_bench, read_growths, read_times, read_gate, read_crates, read_gate_times]
 
 

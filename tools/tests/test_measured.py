@@ -35,6 +35,18 @@ sim of 10, 100 and 1,000 keys, 3 exchanges a key: 1.00, 2.00 and 16.00 ms, growt
 1,000 keys, --batch 8: 375 exchanges; sim 28 ms, run --loopback 700 ms, with the waits for the disk
 1,000 keys, 2001 texts of 17918 to 22704 bytes, 40 MB: run --loopback 3100 ms, a bare loop 2500 ms, ratio 1.24 (aim: at most 1.3)
 '''
+BENCH_IN_PYTHON = '''sim of 100 and 1,000 keys: 13.00 and 10.30 microseconds an exchange (aim: at most 5), -0.90 and 9.90 beyond those of 10 keys
+run of 1,000 keys, 3000 exchanges, progress on a tmpfs, beside a plain client: processor 90.5 ms, plain 17.4 ms, ratio 5.20; wall 120.0 ms, plain 40.0 ms, ratio 3.00 (aim: at most 1.2)
+run of 1,000 keys, 3000 exchanges, progress on the disk, beside a plain client: processor 750.8 ms, plain 17.4 ms, ratio 43.15; wall 3000.0 ms, plain 30.0 ms, ratio 100.00
+serve, 3000 exchanges, beside a plain server: processor 29.3 ms, plain 25.4 ms, ratio 1.15; wall 57.1 ms, plain 46.9 ms, ratio 1.22 (aim: at most 1.2)
+check, 1,000 keys: 2.4 ms of processor
+look --loopback, 1,000 keys, none there: 30.7 ms of processor
+look, 1,000 keys, all there: 22.3 ms of processor
+probe --loopback, two keys: 1.1 ms of processor
+allocations a message, a mix over 100 objects: kmipctl 16.20, baseline 18.00, ratio 0.90
+allocations an exchange of sim: 68.67
+valgrind is not there, so no instructions are counted
+'''
 REFUSE = '''answer: 4 growths refused, one a run: each time whole lines, `no memory` and exit status 1
 answer: 4 growths refused, each with all after it: the same each time
 run: 9 growths refused, one a run: each time whole lines, `no memory` and exit status 1, but that 2 can be done without
@@ -122,6 +134,26 @@ class Measured(Scratch):
             ['1,000 keys, `--batch 8`: `sim`, `run --loopback`', '28 ms, 700 ms', '', '375 exchanges', '', ORIGIN],
             ['1,000 keys, 2001 texts of 40 MB in all: `run --loopback`, a bare loop that writes them',
              '3100 ms', '2500 ms', '1.24', '1.3', ORIGIN]])
+
+    def test_the_parts_of_the_bench_in_python(self):
+        before = ['instructions an exchange of `sim`', '900', '', '', '', 'old']
+        self.write_page(bench=[before, ['`check`, 1,000 keys: processor', '9.0 ms', '', '', '', 'old']])
+        run, serve = '`run` of 1,000 keys, 3000 exchanges, progress on', '`serve`, 3000 exchanges, beside a plain server'
+        self.assertEqual(self.rows_of('bench', BENCH_IN_PYTHON), [
+            before,
+            ['`check`, 1,000 keys: processor', '2.4 ms', '', '', '', ORIGIN],
+            ['`sim` of 100 and 1,000 keys: an exchange; beyond those of 10 keys', '13.00, 10.30 µs; -0.90, 9.90 µs', '', '', '5', ORIGIN],
+            [f'{run} a tmpfs, beside a plain client: processor', '90.5 ms', '17.4 ms', '5.20', '', ORIGIN],
+            [f'{run} a tmpfs, beside a plain client: wall time', '120.0 ms', '40.0 ms', '3.00', '1.2', ORIGIN],
+            [f'{run} the disk, beside a plain client: processor', '750.8 ms', '17.4 ms', '43.15', '', ORIGIN],
+            [f'{run} the disk, beside a plain client: wall time', '3000.0 ms', '30.0 ms', '100.00', '', ORIGIN],
+            [f'{serve}: processor', '29.3 ms', '25.4 ms', '1.15', '', ORIGIN],
+            [f'{serve}: wall time', '57.1 ms', '46.9 ms', '1.22', '1.2', ORIGIN],
+            ['`look --loopback`, 1,000 keys, none there: processor', '30.7 ms', '', '', '', ORIGIN],
+            ['`look`, 1,000 keys, all there: processor', '22.3 ms', '', '', '', ORIGIN],
+            ['`probe --loopback`, two keys: processor', '1.1 ms', '', '', '', ORIGIN],
+            ['allocations a message: a mix over 100 objects', '16.20', '18.00', '0.90', '', ORIGIN],
+            ['allocations an exchange of `sim`', '68.67', '', '', '', ORIGIN]])
 
     def test_growths(self):
         self.write_page(growths=[['answer', '3', 'old']])
