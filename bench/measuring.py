@@ -58,7 +58,7 @@ def run(words, told, source=os.devnull, wanted=0, **more):
 
 
 class Server:
-    """A program that prints `listening PORT` first. It is stopped where it has not ended by then."""
+    """A program that prints `listening PORT` first. At the end of its block it is stopped, if it still runs."""
 
     def __init__(self, words):
         self.begun = time.monotonic()

@@ -137,7 +137,7 @@ def main():
         if folder:
             sockets.compare_runs('a tmpfs', folder, RUNS, AIM)
         else:
-            print(f'no tmpfs is at {TMPFS}, so no run is set beside the sockets alone')
+            print(f'no tmpfs is at {TMPFS}, so no run is measured without waits for the disk')
     sockets.compare_runs('the disk', sockets.out, DISK_RUNS, None)
     sockets.compare_serve()
 
