@@ -28,9 +28,10 @@ def kind_of(words):
     """Returns what a command of the prover does of a gate."""
     if '--test' in words:
         return 'tests'
-    if words[1] == 'build':
-        return 'proof'
     kept = words[words.index('--incremental') + 1] if '--incremental' in words[:-1] else ''
+    # a program is checked before it is built
+    if words[1] == 'build' or 'src/main.rt' in words and not kept:
+        return 'proof'
     return 'beginning' if kept.endswith('/seed') else 'wrong bodies'
 
 

@@ -22,6 +22,7 @@ class Commands(unittest.TestCase):
         self.assertEqual(gate_times.kind_of([*CHECK, '/tmp/edits/seed']), 'beginning')
         self.assertEqual(gate_times.kind_of([*CHECK, '/tmp/edits/3']), 'wrong bodies')
         self.assertEqual(gate_times.kind_of(CHECK[:-1]), 'wrong bodies')
+        self.assertEqual(gate_times.kind_of([word.replace('lib', 'main') for word in CHECK[:-1]]), 'proof')
 
 
 class Times(unittest.TestCase):
