@@ -20,72 +20,130 @@ const LOOK_LINES: [&str; 8] = [
     r#"{"finished":1,"of":7}"#,
 ];
 
-/// What is said of a key of which this is known, and these numbers were told.
-fn looked(
-    alloc: Global,
-    identifier: Option<&str>,
+/// A key, what is known of it, and what was told of it: Object Type, Cryptographic Algorithm, Cryptographic
+/// Length, Cryptographic Usage Mask and State.
+#[derive(Clone, Copy)]
+struct Row {
+    name: &'static str,
+    algorithm: u32,
+    usage: i32,
+    target: Target,
+    identifier: Option<&'static str>,
     done: usize,
     phase: Phase,
     clash: Option<Clash>,
-    shown: Option<Shown>,
-) -> Result<Looked, NoMemory> {
-    let identifier = match identifier {
+    shown: Option<(u32, u32, i32, i32, u32)>,
+    why: Why,
+}
+
+/// A key of which nothing is known.
+const UNKNOWN: Row = Row {
+    name: "",
+    algorithm: 3,
+    usage: 12,
+    target: Target::Active,
+    identifier: None,
+    done: 0,
+    phase: Phase::Look,
+    clash: None,
+    shown: None,
+    why: Why::NoReply,
+};
+
+/// The keys of the lines above, in their order.
+const ROWS: [Row; 7] = [
+    Row {
+        name: "database-2026",
+        identifier: Some("17"),
+        done: 2,
+        phase: Phase::Go,
+        shown: Some((2, 3, 256, 12, 2)),
+        ..UNKNOWN
+    },
+    Row {
+        name: "refused",
+        why: Why::Refused(Some(12)),
+        ..UNKNOWN
+    },
+    Row {
+        name: "silent",
+        identifier: Some("1\"\n8"),
+        phase: Phase::Check,
+        ..UNKNOWN
+    },
+    Row {
+        name: "none",
+        target: Target::Destroyed,
+        phase: Phase::Make,
+        ..UNKNOWN
+    },
+    Row {
+        name: "going",
+        algorithm: 9,
+        usage: 384,
+        target: Target::Revoked,
+        identifier: Some("19"),
+        done: 1,
+        phase: Phase::Go,
+        shown: Some((2, 9, 256, 384, 1)),
+        ..UNKNOWN
+    },
+    Row {
+        name: "other",
+        identifier: Some("20"),
+        phase: Phase::Check,
+        clash: Some(Clash::Attributes),
+        shown: Some((3, 77, -1, i32::MIN, 9)),
+        ..UNKNOWN
+    },
+    Row {
+        name: "twice",
+        clash: Some(Clash::TwoObjects),
+        ..UNKNOWN
+    },
+];
+
+/// What is said of the key of a row.
+fn looked(alloc: Global, row: &Row) -> Result<Looked, NoMemory> {
+    let identifier = match row.identifier {
         Some(uid) => Some(Text::copied(alloc, uid)?),
         None => None,
     };
     let known = Knowledge {
         identifier,
-        done,
-        phase,
-        clash,
+        done: row.done,
+        phase: row.phase,
+        clash: row.clash,
+    };
+    let shown = match row.shown {
+        Some((object_type, algorithm, length, usage, state)) => Some(Shown {
+            object_type: Some(object_type),
+            algorithm: Some(algorithm),
+            length: Some(length),
+            usage: Some(usage),
+            state: Some(state),
+        }),
+        None => None,
     };
     Ok(Looked {
         known,
         shown,
-        why: Why::NoReply,
-    })
-}
-
-fn numbers(object_type: u32, algorithm: u32, length: i32, usage: i32, state: u32) -> Option<Shown> {
-    Some(Shown {
-        object_type: Some(object_type),
-        algorithm: Some(algorithm),
-        length: Some(length),
-        usage: Some(usage),
-        state: Some(state),
+        why: row.why,
     })
 }
 
 #[test]
 fn writes_how_keys_stand(rt: HostRuntime) -> Result<(), Fail> {
     let alloc = rt.alloc();
-    let keys = [
-        key(alloc, "database-2026", 3, 256, 12, Target::Active)?,
-        key(alloc, "refused", 3, 256, 12, Target::Active)?,
-        key(alloc, "silent", 3, 256, 12, Target::Active)?,
-        key(alloc, "none", 3, 256, 12, Target::Destroyed)?,
-        key(alloc, "going", 9, 256, 384, Target::Revoked)?,
-        key(alloc, "other", 3, 256, 12, Target::Active)?,
-        key(alloc, "twice", 3, 256, 12, Target::Active)?,
-    ];
-    let finished = numbers(2, 3, 256, 12, 2);
-    let going = numbers(2, 9, 256, 384, 1);
-    let other = numbers(3, 77, -1, i32::MIN, 9);
-    let different = Some(Clash::Attributes);
-    let twice = Some(Clash::TwoObjects);
-    let mut refused = looked(alloc, None, 0, Phase::Look, None, None)?;
-    refused.why = Why::Refused(Some(12));
-    let lookeds = [
-        looked(alloc, Some("17"), 2, Phase::Go, None, finished)?,
-        refused,
-        looked(alloc, Some("1\"\n8"), 0, Phase::Check, None, None)?,
-        looked(alloc, None, 0, Phase::Make, None, None)?,
-        looked(alloc, Some("19"), 1, Phase::Go, None, going)?,
-        looked(alloc, Some("20"), 0, Phase::Check, different, other)?,
-        looked(alloc, None, 0, Phase::Look, twice, None)?,
-    ];
+    let mut keys = Vec::new(alloc);
+    let mut lookeds = Vec::new(alloc);
+    for row in &ROWS {
+        let made = key(alloc, row.name, row.algorithm, 256, row.usage, row.target)?;
+        keys.push(made)?;
+        lookeds.push(looked(alloc, row)?)?;
+    }
     let mut text = Vec::new(alloc);
-    push_look(alloc, &keys, &lookeds, &mut text)?;
+    push_look(alloc, keys.as_slice(), lookeds.as_slice(), &mut text)?;
     assert_lines(&rt, alloc, text.as_slice(), &LOOK_LINES)?;
     Ok(())
 }

@@ -1,4 +1,5 @@
 //! Lines that were worked out by hand from RFC 8259, for names that JSON has to escape.
+ghost use Rattle.kmip_progress.specs.Suiting.{Suits};
 
 use crate::asserting::{PLAN, assert_lines, key};
 use kmip_client::Client;
@@ -85,7 +86,19 @@ fn writes_what_is_known(rt: HostRuntime) -> Result<(), Fail> {
     let mut text = Vec::new(alloc);
     push_list(alloc, &plan, &saved, &mut text)?;
     assert_lines(&rt, alloc, text.as_slice(), &LIST_LINES)?;
-    let client = Client::resume(alloc, &plan, &saved)?;
+    Ok(())
+}
+
+/// Appends the lines of a run that went on from this progress and asked nothing.
+fn push_tallied(
+    alloc: Global,
+    plan: &Plan,
+    saved: &Progress,
+    text: &mut Vec<u8>,
+) -> Result<(), NoMemory>
+    requires { Suits plan.now saved.now }
+{
+    let client = Client::resume(alloc, plan, saved)?;
     let tally = RunTally {
         exchanges: 23,
         lost: 3,
@@ -94,8 +107,17 @@ fn writes_what_is_known(rt: HostRuntime) -> Result<(), Fail> {
         milliseconds: 412,
         steps: vec![in alloc; 2u64]?,
     };
+    push_run(alloc, &client, Stop::Limit, &tally, text)
+}
+
+#[test]
+fn writes_what_came_of_a_run(rt: HostRuntime) -> Result<(), Fail> {
+    let alloc = rt.alloc();
+    let plan: Plan = read_plan(alloc, PLAN)?;
+    let saved = saved(alloc)?;
+    assert!(rt; suits(&plan, &saved));
     let mut text = Vec::new(alloc);
-    push_run(alloc, &client, Stop::Limit, &tally, &mut text)?;
+    push_tallied(alloc, &plan, &saved, &mut text)?;
     assert_lines(&rt, alloc, text.as_slice(), &RUN_LINES)?;
     Ok(())
 }

@@ -66,16 +66,26 @@ fn input(script: &str) -> SimInput<'_>
     }
 }
 
+/// Appends the lines of the end of a simulation.
+fn push_simulated(
+    alloc: Global,
+    plan: &str,
+    script: &str,
+    further: Option<&str>,
+    text: &mut Vec<u8>,
+) -> Result<(), NoMemory> {
+    let end = sim_to_end(alloc, plan, &input(script), further)?;
+    push_sim_end(alloc, &end, text)
+}
+
 #[test]
 fn writes_how_a_simulation_ended(rt: HostRuntime) -> Result<(), Fail> {
     let alloc = rt.alloc();
-    let end = sim_to_end(alloc, ONE_KEY, &input(LOST_CREATE), None)?;
     let mut text = Vec::new(alloc);
-    push_sim_end(alloc, &end, &mut text)?;
+    push_simulated(alloc, ONE_KEY, LOST_CREATE, None, &mut text)?;
     assert_lines(&rt, alloc, text.as_slice(), &LOST_CREATE_LINES)?;
-    let end = sim_to_end(alloc, PLAN, &input("pass\nlose-reply\nsave\n"), None)?;
     let mut text = Vec::new(alloc);
-    push_sim_end(alloc, &end, &mut text)?;
+    push_simulated(alloc, PLAN, "pass\nlose-reply\nsave\n", None, &mut text)?;
     assert_lines(&rt, alloc, text.as_slice(), &TWO_KEYS_LINES)?;
     Ok(())
 }
@@ -94,26 +104,39 @@ fn writes_the_runs_before_memory_ran_out(rt: HostRuntime) -> Result<(), Fail> {
     Ok(())
 }
 
+/// Appends the line of a plan that is refused for a word that no plan has.
+fn push_unknown(alloc: Global, text: &mut Vec<u8>) -> Result<(), NoMemory> {
+    let word = Text::copied(alloc, "k\"")?;
+    let end = SimEnd::PlanRefused(PlanFault::Unknown(word, 3));
+    push_sim_end(alloc, &end, text)
+}
+
+/// A plan, a script and a further plan of which nothing is simulated, in the order of the lines above but for the
+/// second.
+const REFUSED: [(&str, &str, Option<&str>); 4] = [
+    (PLAN, "prolong\n", Some(ONE_KEY)),
+    (ONE_KEY, "pass\nlose\n", None),
+    (ONE_KEY, LOST_CREATE, Some(ONE_KEY)),
+    (ONE_KEY, "pass\ncrash 4 torn\n", None),
+];
+
 #[test]
 fn writes_why_nothing_was_simulated(rt: HostRuntime) -> Result<(), Fail> {
     let alloc = rt.alloc();
     let mut text = Vec::new(alloc);
-    let end = sim_to_end(alloc, "", &input(LOST_CREATE), Some(PLAN))?;
-    push_sim_end(alloc, &end, &mut text)?;
-    let word = Text::copied(alloc, "k\"")?;
-    let end = SimEnd::PlanRefused(PlanFault::Unknown(word, 3));
-    push_sim_end(alloc, &end, &mut text)?;
-    let end = sim_to_end(alloc, PLAN, &input("prolong\n"), Some(ONE_KEY))?;
-    push_sim_end(alloc, &end, &mut text)?;
-    let end = sim_to_end(alloc, ONE_KEY, &input("pass\nlose\n"), None)?;
-    push_sim_end(alloc, &end, &mut text)?;
-    let end = sim_to_end(alloc, ONE_KEY, &input(LOST_CREATE), Some(ONE_KEY))?;
-    push_sim_end(alloc, &end, &mut text)?;
-    let end = sim_to_end(alloc, ONE_KEY, &input("pass\ncrash 4 torn\n"), None)?;
-    push_sim_end(alloc, &end, &mut text)?;
+    push_simulated(alloc, "", LOST_CREATE, Some(PLAN), &mut text)?;
+    push_unknown(alloc, &mut text)?;
+    for (plan, script, further) in REFUSED {
+        push_simulated(alloc, plan, script, further, &mut text)?;
+    }
     assert_lines(&rt, alloc, text.as_slice(), &FAULT_LINES)?;
-    let end = SimEnd::PlanRefused(PlanFault::NoMemory);
-    let wanting = push_sim_end(alloc, &end, &mut text);
-    assert!(rt; wanting.is_err());
     Ok(())
+}
+
+#[test]
+fn writes_no_line_of_want_of_memory(rt: HostRuntime) {
+    let alloc = rt.alloc();
+    let mut text = Vec::new(alloc);
+    let wanting = push_sim_end(alloc, &SimEnd::PlanRefused(PlanFault::NoMemory), &mut text);
+    assert!(rt; wanting.is_err());
 }
