@@ -25,7 +25,7 @@ pub fn fits(item: &Item) -> bool
 
 /// The size of the item's written form, where it has one of at most `levels` levels and `room` bytes.
 #[cycle(sizes)]
-fn size_within(item: &Item, levels: usize, room: usize) -> Option<usize>
+pub(crate) fn size_within(item: &Item, levels: usize, room: usize) -> Option<usize>
     requires { room ≤ most_bytes }
     ensures { IsSizeWithin result (view item.now) levels room }
 {
@@ -74,7 +74,7 @@ fn structure_within(items: &[Item], levels: usize, room: usize) -> Option<usize>
 /// The size of these items together, where each has at most `levels` levels and all at most `room`
 /// bytes.
 #[cycle(sizes)]
-pub(crate) fn all_within(items: &[Item], levels: usize, room: usize) -> Option<usize>
+fn all_within(items: &[Item], levels: usize, room: usize) -> Option<usize>
     requires { room ≤ most_bytes }
     ensures { AreSizesWithin result (nodes_of (views items.now)) levels room }
 {

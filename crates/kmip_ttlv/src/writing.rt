@@ -1,14 +1,15 @@
 //! Items to bytes.
-ghost use Rattle.std.specs.Prelude.{◌≡◌, ◌+◌, ◌<◌, ◌^◌, ◌++◌, length, take, OnErr, OnOk};
+ghost use Rattle.std.specs.Prelude.{◌≡◌, ◌+◌, ◌≤◌, ◌<◌, ◌^◌, ◌++◌, length, take, drop, OnErr, OnOk};
 ghost use Rattle.std.specs.Int.{w32, w64, cast_unsigned};
 ghost use Rattle.byteorder.specs.Endian.{big_bytes};
+ghost use Rattle.kmip_ttlv.specs.Limits.{head_size};
 ghost use Rattle.kmip_ttlv.specs.Node.{node, structure, nodes_of};
 ghost use Rattle.kmip_ttlv.specs.View.{view, views};
 ghost use Rattle.kmip_ttlv.specs.Spelling.{head, item_bytes, zeros, padding, canon, canons};
 ghost use Rattle.kmip_ttlv.specs.Fitting.{IsInRange, AreInRange};
 ghost use Rattle.kmip_ttlv.specs.Sizes.{IsWritable};
 
-use crate::fitting::all_within;
+use crate::fitting::size_within;
 use crate::item::Item;
 use crate::item_type::ItemType;
 use crate::limits::{HEAD_SIZE, MAX_DEPTH, MAX_SIZE, padding_of};
@@ -31,6 +32,8 @@ pub fn write(item: &Item, out: &mut Vec<u8>) -> Result<(), NoMemory>
     // Each value of an item that is written is in its range: the types of the code keep the ranges.
     ensures in_range { OnOk result (IsInRange (view item.now)) }
 {
+    // The buffer grows once, for all of the item.
+    out.reserve(size_within(item, MAX_DEPTH, MAX_SIZE).unwrap_or(0))?;
     let before = out.len();
     match append(item, out) {
         Ok(()) => Ok(()),
@@ -113,7 +116,8 @@ fn u64_bytes(number: u64) -> [u8; 8]
     bytes
 }
 
-/// Appends a Structure: its head, and then its items, which end at a multiple of eight.
+/// Appends a Structure: its head, and then its items, which end at a multiple of eight. The length in
+/// the head is known once the items are written.
 #[cycle(appending)]
 fn append_structure(tag: Tag, items: &[Item], out: &mut Vec<u8>) -> Result<(), NoMemory>
     requires { IsWritable (node tag (structure (nodes_of (views items.now)))) }
@@ -122,12 +126,24 @@ fn append_structure(tag: Tag, items: &[Item], out: &mut Vec<u8>) -> Result<(), N
     ensures kept { take (length out.old.items) out.new.items ≡ out.old.items }
     ensures in_range { OnOk result (AreInRange (nodes_of (views items.now))) }
 {
-    let size = all_within(items, MAX_DEPTH, MAX_SIZE).unwrap_or(0);
-    append_head(tag, ItemType::Structure, size, out)?;
+    let at = out.len();
+    out.extend_from_slice(&[0; HEAD_SIZE])?;
     for item in items {
         append(item, out)?;
     }
+    let size = out.len() - at - HEAD_SIZE;
+    set_head(tag, ItemType::Structure, size, at, out);
     Ok(())
+}
+
+/// Writes a tag, a type and a length over the bytes at this place.
+fn set_head(tag: Tag, item_type: ItemType, len: usize, at: usize, out: &mut Vec<u8>)
+    requires len { len < 2 ^ 32 }
+    requires place { at + head_size ≤ length out.old.items }
+    ensures { out.new.items ≡ take at out.old.items
+        ++ head tag item_type len ++ drop (at + head_size) out.old.items }
+{
+    out.as_mut_slice()[at..at + HEAD_SIZE].copy_from_slice(&head_bytes(tag, item_type, len));
 }
 
 /// Appends an item that has no children: its head, its value and its padding.

@@ -7,4 +7,4 @@ use Rattle.kmip_ttlv.proofs.writing.+appending.Given as goal
 
 abbrev pub invariant-append_structure-loop-item : goal.invariant-append_structure-loop-item
 invariant-append_structure-loop-item l =
-    AreWritten l.fn.out.items l.fn.tag l.out.items (nodes_of (views (drop l.item-index l.items))) (nodes_of (views l.items))
+    AreWritten l.fn.out.items l.out.items (nodes_of (views (drop l.item-index l.items))) (nodes_of (views l.items))
