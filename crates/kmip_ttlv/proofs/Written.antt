@@ -72,8 +72,8 @@ pub head_set : (before out next : List ℕ) (tag len at : ℕ) (whole : Nodes) �
     → next ≡ take at out ++ head tag Structure len ++ drop (at + 8) out → next ≡ before ++ canon (node tag (structure whole))
 head_set before out next tag len at whole so_far place size is =
     let behind : drop (length before + 8) out ≡ canons whole =
-        ap (drop (length before + 8)) (all_written before out whole so_far)
-        ∙ drop-append-add before (zeros 8 ++ canons whole) 8 ∙ drop-append_seam (zeros 8) (canons whole) in
+    ap (drop (length before + 8)) (all_written before out whole so_far)
+    ∙ drop-append-add before (zeros 8 ++ canons whole) 8 ∙ drop-append_seam (zeros 8) (canons whole) in
     is ∙ ap (λ (k : ℕ). take k out ++ head tag Structure len ++ drop (k + 8) out) place
     ∙ ap (λ (o : List ℕ). o ++ head tag Structure len ++ drop (length before + 8) out) so_far.kept
     ∙ ap (λ (o : List ℕ). before ++ head tag Structure len ++ o) behind

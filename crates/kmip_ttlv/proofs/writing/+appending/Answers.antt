@@ -1,5 +1,5 @@
 -- Room for a Structure's head, then its items, and then the head.
-use Rattle.std.proofs.Common.{ℕ, ◌+◌, ap, subst, drop, arith}
+use Rattle.std.proofs.Common.{◌+◌, ap, subst, drop, arith}
 use denote.Param.Weighed.{at_most}
 use Rattle.kmip_ttlv.specs.declared.item.Item.{Item}
 use Rattle.kmip_ttlv.proofs.item.Item.TheLaws.{the_size}
