@@ -1,5 +1,5 @@
 //! A progress as a text.
-ghost use Rattle.std.specs.Prelude.{◌≡◌, ◌≤◌, ◌++◌, ◌∷◌, [], IfOk, OnOk, IsTrue, string_bytes, length};
+ghost use Rattle.std.specs.Prelude.{◌≡◌, ◌≤◌, ◌++◌, ◌∷◌, [], IfOk, OnOk, IsTrue, decimal, string_bytes, length};
 ghost use Rattle.hex.specs.Hex.{encode_lower};
 ghost use Rattle.kmip_progress.specs.declared.format.Format.TheVariants as formats;
 ghost use Rattle.kmip_progress.specs.Suiting.{Suits, is_known, has_text, are_texts};
@@ -73,7 +73,7 @@ fn push_line(text: &mut String, key: &Key, known: &Known) -> Result<(), AllocErr
     push_word(text, key.attrs.name.as_str())?;
     push_word(text, key.target.word())?;
     push_reason(text, key)?;
-    write!(text, "{} ", known.done)?;
+    push_done(text, known.done)?;
     push_identifier(text, known)?;
     text.push('\n')?;
     Ok(())
@@ -98,6 +98,23 @@ fn push_reason(text: &mut String, key: &Key) -> Result<(), AllocError>
         write!(text, "{} ", key.reason)?;
     } else {
         text.push_str("- ")?;
+    }
+    Ok(())
+}
+
+/// Writes in decimal how many steps are done, and a space. No chain has more than four steps, so the
+/// text stands here as a rule, and no number is laid out.
+fn push_done(text: &mut String, done: usize) -> Result<(), AllocError>
+    ensures { OnOk result (string_bytes text.new
+        ≡ string_bytes text.old ++ (decimal done ++ 32 ∷ [])) }
+{
+    match done {
+        0 => text.push_str("0 ")?,
+        1 => text.push_str("1 ")?,
+        2 => text.push_str("2 ")?,
+        3 => text.push_str("3 ")?,
+        4 => text.push_str("4 ")?,
+        _ => write!(text, "{done} ")?,
     }
     Ok(())
 }
