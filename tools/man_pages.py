@@ -5,7 +5,7 @@
     tools/man_pages.py PROGRAM     compares what the sources say with the help that the program prints
 
 It runs at the top of the repository. The pages of section 1 come from the texts of kmip_command_line: help.rt,
-command_option.rt, subcommand.rt and shells.rt. kmip-plan(5) has what the help of `check` says of a plan, what
+command_option.rt and subcommand.rt, and the words of the shells from kmip_choices. kmip-plan(5) has what the help of `check` says of a plan, what
 OPERATING says of changes and of the progress file, and examples/plan.toml. `make documents` compares docs/man with
 these. In a text an indented line stays as it is, and the lines of a paragraph are filled. The last line of a
 comparison is `N commands, M wrong`.
@@ -20,7 +20,8 @@ sys.dont_write_bytecode = True
 from sources import CRATES
 
 SOURCES = CRATES / 'kmip_command_line/src'
-FILES = 'help.rt', 'command_option.rt', 'subcommand.rt', 'shells.rt'
+FILES = 'help.rt', 'command_option.rt', 'subcommand.rt'
+SHELLS = CRATES / 'kmip_choices/src/shell.rt'
 PAGES = pathlib.Path('docs/man')
 OPERATING, EXAMPLE = pathlib.Path('docs/OPERATING.md'), pathlib.Path('examples/plan.toml')
 TEXT = re.compile(r'const (\w+): &str =\s*"((?:[^"\\]|\\.)*)";', re.S)
@@ -106,7 +107,8 @@ class Texts:
     """The texts and the commands of the command line."""
 
     def __init__(self):
-        help, options, commands, shells = [(SOURCES / name).read_text() for name in FILES]
+        help, options, commands = [(SOURCES / name).read_text() for name in FILES]
+        shells = SHELLS.read_text()
         lists = {name: re.findall(r'"(\w+)"', words) for name, words in WORDS.findall(shells)}
         self.texts = {name: unquoted(text) for name, text in TEXT.findall(help)}
         self.version = VERSION.search(commands)[1]

@@ -1,6 +1,7 @@
 //! What a command line may ask for, by its options and their values.
 //!
-//! The crate knows no words of a command line, and does nothing of what is asked for.
+//! Of a command line's words the crate knows those of the shells alone. It does nothing of what is asked
+//! for.
 #![tactic(auto)]
 
 mod choice;
@@ -15,6 +16,7 @@ mod run_options;
 mod serve_options;
 mod shell;
 mod trust;
+mod variable;
 
 pub use choice::{Choice, answer_of, check_of, detail_of, form_of, simulation_of};
 pub use detail::Detail;
@@ -26,5 +28,6 @@ pub use probe_options::ProbeOptions;
 pub use report::Report;
 pub use run_options::RunOptions;
 pub use serve_options::ServeOptions;
-pub use shell::Shell;
+pub use shell::{SHELLS, Shell};
 pub use trust::Trust;
+pub use variable::Variable;

@@ -2,5 +2,3 @@
 
 -- the end of the program, by the kind of the error
 pub mod Statuses
--- the shells, by their words
-pub mod PrivateShells

@@ -9,13 +9,13 @@ use crate::help::{
     VERBOSE, WAIT,
 };
 use crate::setting::Setting;
-use crate::shells::SHELLS;
 use crate::value::Value;
 use Absent::{Fine, Means, Wrong, WrongUnlessSaid};
 use Value::{Flag, FlagAlone, FlagUnless, FlagWith, Number, Path, Text, Word};
 use clap::builder::ValueParser;
 use clap::{Arg, ArgAction};
 use kmip_batch_items::standard::MOST_QUESTIONS;
+use kmip_choices::SHELLS;
 use std::alloc::{AllocError, Global};
 
 /// The largest number of exchanges and of connections (own).

@@ -1,10 +1,10 @@
 //! What the variables of the environment say in the place of options that are absent.
 ghost use Rattle.std.specs.Prelude.{◌≡◌};
-ghost use Rattle.kmip_command_line.specs.declared.variable.Variable.TheVariants.{Absent};
+ghost use Rattle.kmip_choices.specs.declared.variable.Variable.TheVariants.{Absent};
 
 use crate::setting::Setting;
-use crate::variable::Variable;
 use crate::wrong_value::WrongValue;
+use kmip_choices::Variable;
 
 /// The variable that stands for `--connect`.
 pub const CONNECT_VARIABLE: &str = "KMIPCTL_CONNECT";

@@ -19,11 +19,9 @@ mod local;
 mod looking;
 mod network;
 mod setting;
-mod shells;
 mod subcommand;
 mod unchosen;
 mod value;
-mod variable;
 mod wrong_value;
 mod zsh;
 
@@ -34,16 +32,14 @@ pub use environment::{
     CONNECT_VARIABLE, Environment, PLAN_VARIABLE, PROGRESS_VARIABLE, SOCKET_VARIABLE,
 };
 use given::Given;
-use kmip_choices::{Choice, answer_of, form_of};
+use kmip_choices::{Choice, Shell, answer_of, form_of};
 use kmip_message_commands::{CommandFault, ExitStatus};
 use local::{check_choice, list_choice, sim_choice};
 use looking::look_choice;
 use network::{probe_choice, run_choice, serve_options};
-use shells::shell_named;
 use std::alloc::{AllocError, Global};
 use subcommand::{program, wrong_value};
 use unchosen::Unchosen;
-pub use variable::Variable;
 
 /// What the words ask for; the first is the program's name. Where an option that a command needs is
 /// absent, its variable of the environment stands for it.
@@ -119,7 +115,7 @@ fn choice_of(alloc: Global, command: &str, given: Given<'_, '_>) -> Result<Choic
 
 /// What `completions` is to do, by its words. The parser of the words lets no other shell through.
 fn completions_choice(given: Given<'_, '_>) -> Result<Choice, Unchosen> {
-    match shell_named(given.options.get_str("shell").unwrap_or("")) {
+    match Shell::named(given.options.get_str("shell").unwrap_or("")) {
         Some(shell) => Ok(Choice::Completions(shell)),
         None => Err(Unchosen::UnknownCommand),
     }

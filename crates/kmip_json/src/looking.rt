@@ -1,9 +1,9 @@
 //! How the keys of a plan stand on a server, as a look says it.
-ghost use Rattle.std.specs.Prelude.{◌≡◌, ◌++◌, IfOk, OnOk, map, option_map, string_bytes};
+ghost use Rattle.std.specs.Prelude.{◌≡◌, ◌++◌, IfOk, OnOk, map, not, option_map, string_bytes};
 ghost use Rattle.kmip_objects.specs.Lifecycle.{step_word};
 ghost use Rattle.kmip_plan.specs.Chains.{chain};
 ghost use Rattle.kmip_json.specs.Documents.{document, members};
-ghost use Rattle.kmip_look_command.specs.LookText.{verdict_on};
+ghost use Rattle.kmip_look_command.specs.LookText.{are_all_finished, verdict_on};
 ghost use Rattle.kmip_json.specs.LookJson.{
   algorithm_name,
   bits_of,
@@ -27,12 +27,13 @@ use kmip_client::{Knowledge, Phase, Verdict};
 use kmip_look::{Looked, Shown, Why};
 use kmip_look_command::{named_algorithm, named_state, verdicts_on, why_text};
 use kmip_plan::Key;
-use kmip_runs::verdict_word;
+use kmip_runs::{finished_count, verdict_word};
 use kmip_ttlv::NoMemory;
 use std::alloc::Global;
 
 /// Appends what a look says of each key of a plan: a line for each key, and one that counts the finished
-/// ones. A key's line has all of its members, and null for what was not told.
+/// ones. A key's line has all of its members, and null for what was not told. Says whether a key is not
+/// finished.
 ///
 /// # Errors
 /// Where there is no memory for it. A part may have been appended then.
@@ -41,13 +42,15 @@ pub fn push_look(
     keys: &[Key],
     lookeds: &[Looked],
     text: &mut Vec<u8>,
-) -> Result<(), NoMemory>
-    ensures { OnOk result (text.new.items
+) -> Result<bool, NoMemory>
+    ensures text { OnOk result (text.new.items
         ≡ text.old.items ++ look_lines keys.now lookeds.now) }
+    ensures refused { IfOk result (λ r. r ≡ not (are_all_finished keys.now lookeds.now)) }
 {
     let verdicts = verdicts_on(alloc, keys, lookeds)?;
     push_keys(alloc, keys, lookeds, text)?;
-    push_finished(alloc, keys, verdicts.as_slice(), text)
+    push_finished(alloc, keys, verdicts.as_slice(), text)?;
+    Ok(finished_count(verdicts.as_slice()) != keys.len())
 }
 
 /// Appends the lines of the keys.

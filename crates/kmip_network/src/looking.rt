@@ -1,7 +1,4 @@
 //! The program `look`, over sockets.
-ghost use Rattle.std.specs.Prelude.{◌≡◌, ◌++◌, IfOk, OnOk, not};
-ghost use Rattle.kmip_json.specs.LookJson.{look_lines};
-ghost use Rattle.kmip_look_command.specs.LookText.{are_all_finished};
 
 use crate::last_answer::LastAnswer;
 use crate::linking::{loopback, tcp_link, unix_link};
@@ -10,16 +7,15 @@ use crate::look_watcher::LookWatcher;
 use kmip_choices::{Format, LookOptions, Peer};
 use kmip_json::push_look;
 use kmip_look::{Looked, look};
-use kmip_look_command::{run_look, verdicts_on};
+use kmip_look_command::run_look;
 use kmip_message_commands::ExitStatus;
 use kmip_plan::{Key, Plan};
 use kmip_plan_commands::batch_of;
 use kmip_protocol::Link;
 use kmip_run_files::plan_at;
-use kmip_runs::{Observed, finished_count};
+use kmip_runs::Observed;
 use kmip_trouble::{Cannot, Trouble, print_documents, standard_output};
 use kmip_ttlv::NoMemory;
-use std::alloc::Global;
 use std::io::BufWriter;
 use std::random::RandomSource;
 use std::time::Duration;
@@ -103,29 +99,10 @@ fn print_looked(
 ) -> ExitStatus {
     let mut documents = Vec::new(rt.alloc());
     let made = match looked {
-        Ok(lookeds) => push_looked(rt.alloc(), keys, lookeds.as_slice(), &mut documents),
+        Ok(lookeds) => push_look(rt.alloc(), keys, lookeds.as_slice(), &mut documents),
         Err(NoMemory) => Err(NoMemory),
     };
     print_documents(rt, made, documents.as_slice())
-}
-
-/// Appends the documents of how the keys stand. Says whether one is not finished.
-///
-/// # Errors
-/// Where there is no memory for them.
-fn push_looked(
-    alloc: Global,
-    keys: &[Key],
-    lookeds: &[Looked],
-    text: &mut Vec<u8>,
-) -> Result<bool, NoMemory>
-    ensures text { OnOk result (text.new.items
-        ≡ text.old.items ++ look_lines keys.now lookeds.now) }
-    ensures refused { IfOk result (λ r. r ≡ not (are_all_finished keys.now lookeds.now)) }
-{
-    let verdicts = verdicts_on(alloc, keys, lookeds)?;
-    push_look(alloc, keys, lookeds, text)?;
-    Ok(finished_count(verdicts.as_slice()) != keys.len())
 }
 
 /// A mark that no look had before: random bytes of the system.

@@ -1,7 +1,8 @@
 //! The variables of the process that stand for options.
 
+use kmip_choices::Variable;
 use kmip_command_line::{
-    CONNECT_VARIABLE, Environment, PLAN_VARIABLE, PROGRESS_VARIABLE, SOCKET_VARIABLE, Variable,
+    CONNECT_VARIABLE, Environment, PLAN_VARIABLE, PROGRESS_VARIABLE, SOCKET_VARIABLE,
 };
 use std::alloc::AllocError;
 use std::env::{self, VarError};

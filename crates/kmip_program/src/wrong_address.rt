@@ -1,6 +1,7 @@
 //! What `--connect` or its variable wants, where it was given something else.
 
-use kmip_command_line::{CONNECT_VARIABLE, Environment, Variable};
+use kmip_choices::Variable;
+use kmip_command_line::{CONNECT_VARIABLE, Environment};
 use std::fmt::{self, Display, Formatter};
 use std::net::{Ipv4Addr, Ipv6Addr, SocketAddrV4};
 

@@ -1,6 +1,7 @@
 //! A command line as it is typed, with the variables that are set for it alone.
 
-use kmip_command_line::{Environment, Variable};
+use kmip_choices::Variable;
+use kmip_command_line::Environment;
 use std::alloc::Global;
 use std::test::Fail;
 

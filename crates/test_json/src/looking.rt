@@ -143,7 +143,8 @@ fn writes_how_keys_stand(rt: HostRuntime) -> Result<(), Fail> {
         lookeds.push(looked(alloc, row)?)?;
     }
     let mut text = Vec::new(alloc);
-    push_look(alloc, keys.as_slice(), lookeds.as_slice(), &mut text)?;
+    let is_refused = push_look(alloc, keys.as_slice(), lookeds.as_slice(), &mut text)?;
+    assert!(rt; is_refused, "not all keys are finished");
     assert_lines(&rt, alloc, text.as_slice(), &LOOK_LINES)?;
     Ok(())
 }

@@ -1,6 +1,6 @@
 //! What a variable of the environment says in the place of an option.
-ghost use Rattle.std.specs.Prelude.{◌≡◌, ◌==◌, if◌then◌else◌, string_len};
-ghost use Rattle.kmip_command_line.specs.declared.variable.Variable.TheVariants.{Absent, Is};
+ghost use Rattle.std.specs.Prelude.{◌≡◌, ◌==◌, ◌↔◌, IsTrue, if◌then◌else◌, string_len};
+ghost use Rattle.kmip_choices.specs.declared.variable.Variable.TheVariants.{Absent, Is};
 
 /// What a variable of the environment says in the place of an option that is absent.
 #[derive(Drop)]
@@ -26,7 +26,9 @@ impl Variable {
     }
 
     /// Whether it says nothing.
-    pub(crate) fn is_absent(&self) -> bool {
+    pub fn is_absent(&self) -> bool
+        ensures { IsTrue result ↔ (self.now ≡ Absent) }
+    {
         matches!(self, Variable::Absent)
     }
 }
