@@ -1,6 +1,5 @@
 //! Items to bytes.
 ghost use Rattle.std.specs.Prelude.{◌≡◌, ◌+◌, ◌≤◌, ◌<◌, ◌^◌, ◌++◌, length, take, drop, OnErr, OnOk};
-ghost use Rattle.std.specs.Int.{w32, w64, cast_unsigned};
 ghost use Rattle.byteorder.specs.Endian.{big_bytes};
 ghost use Rattle.kmip_ttlv.specs.Limits.{head_size};
 ghost use Rattle.kmip_ttlv.specs.Node.{node, structure, nodes_of};
@@ -57,62 +56,82 @@ fn append(item: &Item, out: &mut Vec<u8>) -> Result<(), NoMemory>
     let _number = tag.number();
     match &item.value {
         Value::Structure(items) => append_structure(tag, items.as_slice(), out),
-        Value::Integer(number) => append_leaf(tag, ItemType::Integer, &i32_bytes(*number), out),
+        Value::Integer(number) => {
+            append_four(tag, ItemType::Integer, number.cast_unsigned(), out)
+        }
         Value::LongInteger(number) => {
-            append_leaf(tag, ItemType::LongInteger, &i64_bytes(*number), out)
+            append_eight(tag, ItemType::LongInteger, number.cast_unsigned(), out)
         }
         Value::BigInteger(digits) => append_leaf(tag, ItemType::BigInteger, digits.as_slice(), out),
-        Value::Enumeration(number) => {
-            append_leaf(tag, ItemType::Enumeration, &u32_bytes(*number), out)
-        }
-        Value::Boolean(truth) => {
-            append_leaf(tag, ItemType::Boolean, &u64_bytes(u64::from(*truth)), out)
-        }
+        Value::Enumeration(number) => append_four(tag, ItemType::Enumeration, *number, out),
+        Value::Boolean(truth) => append_eight(tag, ItemType::Boolean, u64::from(*truth), out),
         Value::TextString(text) => {
             append_leaf(tag, ItemType::TextString, text.as_str().as_bytes(), out)
         }
         Value::ByteString(bytes) => append_leaf(tag, ItemType::ByteString, bytes.as_slice(), out),
-        Value::DateTime(number) => append_leaf(tag, ItemType::DateTime, &i64_bytes(*number), out),
-        Value::Interval(number) => append_leaf(tag, ItemType::Interval, &u32_bytes(*number), out),
+        Value::DateTime(number) => {
+            append_eight(tag, ItemType::DateTime, number.cast_unsigned(), out)
+        }
+        Value::Interval(number) => append_four(tag, ItemType::Interval, *number, out),
         Value::DateTimeExtended(number) => {
-            append_leaf(tag, ItemType::DateTimeExtended, &i64_bytes(*number), out)
+            append_eight(tag, ItemType::DateTimeExtended, number.cast_unsigned(), out)
         }
     }
 }
 
-/// A signed number of 32 bits as bytes, the highest first.
-fn i32_bytes(number: i32) -> [u8; 4]
-    ensures { result ≡ big_bytes 4 (cast_unsigned w32 number) }
+/// Appends an item whose value is a number of 32 bits, at once.
+fn append_four(
+    tag: Tag,
+    item_type: ItemType,
+    number: u32,
+    out: &mut Vec<u8>,
+) -> Result<(), NoMemory>
+    ensures ok { OnOk result (out.new.items ≡ out.old.items
+        ++ item_bytes tag item_type (big_bytes 4 number) (zeros 4)) }
+    ensures kept { take (length out.old.items) out.new.items ≡ out.old.items }
 {
-    let mut bytes = [0; 4];
-    BigEndian::write_i32(&mut bytes, number);
+    out.extend_from_slice(&four_bytes(tag, item_type, number))?;
+    Ok(())
+}
+
+/// An item whose value is a number of 32 bits, as bytes.
+#[tactic(auto, unfolding(crate::specs::Spelling::head))]
+fn four_bytes(tag: Tag, item_type: ItemType, number: u32) -> [u8; 2 * HEAD_SIZE]
+    ensures { result ≡ item_bytes tag item_type (big_bytes 4 number) (zeros 4) }
+{
+    let mut bytes = [0; 2 * HEAD_SIZE];
+    BigEndian::write_u24(&mut bytes, tag.number());
+    bytes[3] = item_type.byte();
+    BigEndian::write_u32(&mut bytes[4..], 4);
+    BigEndian::write_u32(&mut bytes[HEAD_SIZE..], number);
     bytes
 }
 
-/// A number of 32 bits as bytes, the highest first.
-fn u32_bytes(number: u32) -> [u8; 4]
-    ensures { result ≡ big_bytes 4 number }
+/// Appends an item whose value is a number of 64 bits, at once.
+fn append_eight(
+    tag: Tag,
+    item_type: ItemType,
+    number: u64,
+    out: &mut Vec<u8>,
+) -> Result<(), NoMemory>
+    ensures ok { OnOk result (out.new.items ≡ out.old.items
+        ++ item_bytes tag item_type (big_bytes 8 number) (zeros 0)) }
+    ensures kept { take (length out.old.items) out.new.items ≡ out.old.items }
 {
-    let mut bytes = [0; 4];
-    BigEndian::write_u32(&mut bytes, number);
-    bytes
+    out.extend_from_slice(&eight_bytes(tag, item_type, number))?;
+    Ok(())
 }
 
-/// A signed number of 64 bits as bytes, the highest first.
-fn i64_bytes(number: i64) -> [u8; 8]
-    ensures { result ≡ big_bytes 8 (cast_unsigned w64 number) }
+/// An item whose value is a number of 64 bits, as bytes.
+#[tactic(auto, unfolding(crate::specs::Spelling::head))]
+fn eight_bytes(tag: Tag, item_type: ItemType, number: u64) -> [u8; 2 * HEAD_SIZE]
+    ensures { result ≡ item_bytes tag item_type (big_bytes 8 number) (zeros 0) }
 {
-    let mut bytes = [0; 8];
-    BigEndian::write_i64(&mut bytes, number);
-    bytes
-}
-
-/// A number of 64 bits as bytes, the highest first.
-fn u64_bytes(number: u64) -> [u8; 8]
-    ensures { result ≡ big_bytes 8 number }
-{
-    let mut bytes = [0; 8];
-    BigEndian::write_u64(&mut bytes, number);
+    let mut bytes = [0; 2 * HEAD_SIZE];
+    BigEndian::write_u24(&mut bytes, tag.number());
+    bytes[3] = item_type.byte();
+    BigEndian::write_u32(&mut bytes[4..], 8);
+    BigEndian::write_u64(&mut bytes[HEAD_SIZE..], number);
     bytes
 }
 
