@@ -32,7 +32,7 @@ pub(crate) fn attrs_item(alloc: Global, attrs: &Attrs) -> Result<Item, NoMemory>
     ensures { IfOk result (λ i. view i
         ≡ node TAG_ATTRIBUTES (inside (attrs_format.write attrs.now))) }
 {
-    let mut items = Vec::new(alloc);
+    let mut items = Vec::with_capacity(alloc, FILTER_TAGS.len())?;
     push_enumeration(&mut items, TAG_OBJECT_TYPE, attrs.object_type)?;
     push_name(alloc, &mut items, &attrs.name)?;
     push_enumeration(&mut items, TAG_CRYPTOGRAPHIC_ALGORITHM, attrs.algorithm)?;

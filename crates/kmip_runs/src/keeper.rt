@@ -50,5 +50,6 @@ pub trait Keeper {
         // The count of refusals never falls.
         ensures counted { (kept self.old).refusals ≤ (kept self.new).refusals }
         // It fails only where the count of refusals has risen, or stands at its last value.
-        ensures output { OnErr result (HasRisen (kept self.old).refusals (kept self.new).refusals) };
+        ensures output { OnErr result
+            (HasRisen (kept self.old).refusals (kept self.new).refusals) };
 }

@@ -36,9 +36,10 @@
 //! which all was sound before. After the campaign the past is safe for all that the campaign has reported,
 //! wherever memory ran out.
 //!
-//! The premises, once more. No two objects of the server have one name or one identifier. Nobody
-//! but clients of the plan uses its names. The server serves by its steps or refuses at will, keeps its objects and never frees a
-//! name. The network invents nothing. A saved progress is one that a run of this campaign saved.
+//! The premises, once more. No two objects of the server have one name or one identifier. Nobody but
+//! clients of the plan uses its names. The server serves by its steps or refuses at will, keeps its
+//! objects and never frees a name. The network invents nothing. A saved progress is one that a run of
+//! this campaign saved.
 //!
 //! Carries out a plan over a link, and saves what is known after each exchange.
 #![tactic(auto)]
