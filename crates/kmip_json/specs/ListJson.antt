@@ -1,11 +1,12 @@
 -- What `list` says of a plan and a progress, as documents.
 -- Source: own (text): what the program prints.
-use Rattle.std.specs.Prelude.{ℕ, List, [], ◌∷◌, ◌++◌, length, codes}
+use Rattle.std.specs.Prelude.{ℕ, List, [], ◌∷◌, ◌++◌, length, codes, Result, Ok, Err}
 use Rattle.std.specs.List.{flat_map}
 use Rattle.serde_json.specs.Data.{Data, string}
 use Rattle.kmip_plan.specs.TargetWords.{target_word}
 use Rattle.kmip_plan.specs.declared.key.Key.{Key}
 use Rattle.kmip_progress.specs.declared.known.Known.{Known}
+use Rattle.kmip_progress.specs.declared.progress_fault.ProgressFault.{ProgressFault}
 use Rattle.kmip_client.specs.Knowledge.{chain_length}
 use Rattle.kmip_client.specs.Saving.{resume}
 use Rattle.kmip_client.specs.Verdicts.{verdicts_of}
@@ -13,6 +14,7 @@ use Rattle.kmip_client.specs.declared.verdict.Verdict.{Verdict}
 use Rattle.kmip_runs.specs.Reporting.{finished_count, verdict_word}
 use Rattle.kmip_plan_commands.specs.Standings.{Standing, standings}
 use Rattle.kmip_json.specs.Documents.{count, document, members, text_or_null}
+use Rattle.kmip_json.specs.FaultJson.{progress_fault_line}
 
 -- What the line of a key says: its target, how many of how many steps are done, the verdict, and the identifier.
 unfoldable pub key_pairs : Standing → List (List ℕ × Data)
@@ -45,3 +47,8 @@ list_lines_by verdicts keys saved = key_lines (standings keys saved verdicts) ++
 -- What `list` says of a progress. The verdicts are those of a run that begins with it.
 abbrev pub list_lines : List Key → List Known → List ℕ
 list_lines keys saved = list_lines_by (verdicts_of keys (resume keys saved).knowns) keys saved
+
+-- What `list` says of the text of a progress: what is known of each key, or why the text is refused.
+abbrev pub listing_documents : List Key → Result (List Known) ProgressFault → List ℕ
+listing_documents keys (Ok saved) = list_lines keys saved
+listing_documents keys (Err fault) = progress_fault_line fault

@@ -1,19 +1,58 @@
 //! What `list` says of a progress.
-ghost use Rattle.std.specs.Prelude.{◌≡◌, ◌++◌, OnOk, map};
+ghost use Rattle.std.specs.Prelude.{◌≡◌, ◌++◌, IfOk, OnOk, map};
+ghost use Rattle.kmip_progress.specs.Reading.{read_text};
 ghost use Rattle.kmip_progress.specs.Suiting.{Suits};
+ghost use Rattle.kmip_plan_commands.specs.Listing.{is_progress_refused};
 ghost use Rattle.kmip_plan_commands.specs.Standings.{standing_of};
-ghost use Rattle.kmip_json.specs.ListJson.{finished_line, key_line, key_lines, list_lines, list_lines_by};
+ghost use Rattle.kmip_json.specs.ListJson.{
+  finished_line,
+  key_line,
+  key_lines,
+  list_lines,
+  list_lines_by,
+  listing_documents,
+};
 
 use crate::document::push_document;
+use crate::faults::push_progress_fault;
 use crate::key_members::members_of_key;
 use crate::member::Member;
 use kmip_client::{Client, Verdict};
 use kmip_plan::{Key, Plan};
 use kmip_plan_commands::{KeyStanding, standings};
-use kmip_progress::{Known, Progress};
+use kmip_progress::{Known, Progress, ProgressFault};
 use kmip_runs::finished_count;
 use kmip_ttlv::NoMemory;
 use std::alloc::Global;
+
+/// Appends what the text of a progress says of each key of a plan, or the line of why it is refused. Says
+/// whether it is.
+///
+/// # Errors
+/// Where there is no memory for them.
+pub fn push_listing(
+    alloc: Global,
+    plan: &Plan,
+    saved: &str,
+    text: &mut Vec<u8>,
+) -> Result<bool, NoMemory>
+    ensures text { OnOk result (text.new.items
+        ≡ text.old.items ++ listing_documents plan.now (read_text plan.now saved.now)) }
+    ensures refused { IfOk result (λ r.
+        r ≡ is_progress_refused (read_text plan.now saved.now)) }
+{
+    match Progress::read_text(alloc, plan, saved) {
+        Ok(progress) => {
+            push_list(alloc, plan, &progress, text)?;
+            Ok(false)
+        }
+        Err(ProgressFault::NoMemory) => Err(NoMemory),
+        Err(fault) => {
+            push_progress_fault(alloc, fault, text)?;
+            Ok(true)
+        }
+    }
+}
 
 /// Appends a line for each key of a plan: its name, its target, how many of how many steps to it are
 /// done, how it stands, and its identifier where one is known. A last line counts the finished keys.

@@ -11,8 +11,10 @@ use kmip_network::{look_at_server, probe_server, run_plan, serve};
 use kmip_plan_commands::{
     SimInput, batch_of, check_after_bytes, run_check, run_check_after, run_sim,
 };
-use kmip_run_files::{PlanFile, list_progress, plan_at, plan_name, plan_text_at, text_at};
-use kmip_trouble::{Trouble, print_documents, standard_input, standard_output, tell_of_terminal};
+use kmip_run_files::{PlanFile, list_progress, plan_at, plan_text_at, text_at};
+use kmip_trouble::{
+    Trouble, plan_name, print_documents, standard_input, standard_output, tell_of_terminal,
+};
 use kmip_ttlv::NoMemory;
 use std::io;
 use std::io::{BufReader, BufWriter};

@@ -1,7 +1,7 @@
 //! What a run has of its progress.
+
 use crate::believing::{destroyed_key, knows_anything};
 use crate::origin::{Origin, server_text};
-use crate::reading::plan_name;
 use crate::recalling::{judge_attributes, origin_of};
 use kmip_choices::{RunOptions, Trust};
 use kmip_client::Client;
@@ -10,7 +10,7 @@ use kmip_files::{MOST_PROGRESS_BYTES, ProgressFile};
 use kmip_plan::Plan;
 use kmip_plan_commands::begin;
 use kmip_progress::ProgressFault;
-use kmip_trouble::{AnotherServer, Cannot, Obstacle, Trouble};
+use kmip_trouble::{AnotherServer, Cannot, Obstacle, Trouble, plan_name};
 use kmip_ttlv::NoMemory;
 use std::alloc::AllocError;
 use std::io;

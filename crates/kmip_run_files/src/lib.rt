@@ -4,9 +4,9 @@
 //! (`progress_to_begin_with`). `FileKeeper` keeps what is known after each exchange. `MetricsFile` has
 //! what a run counts. `list_progress` is the command `list`, which reads such files and asks nobody.
 //!
-//! All is safe and total. But for `plan_name` none of what is public has a clause, as std tells a contract
-//! nothing of files. What it calls is proved over every text, disk and writer. The stored runs, `make
-//! origin` and `make causes` try it.
+//! All is safe and total. But for the calls of `FileKeeper` none of what is public has a clause, as std
+//! tells a contract nothing of files. What it calls is proved over every text, disk and writer. The stored
+//! runs, `make origin` and `make causes` try it.
 #![tactic(auto)]
 
 mod believing;
@@ -26,4 +26,4 @@ pub use listing::list_progress;
 pub use locking::locked;
 pub use metrics_file::MetricsFile;
 pub use plan_file::PlanFile;
-pub use reading::{plan_at, plan_name, plan_text_at, text_at};
+pub use reading::{plan_at, plan_text_at, text_at};

@@ -1,23 +1,17 @@
 //! The command `list`, over files.
-ghost use Rattle.std.specs.Prelude.{◌≡◌, ◌++◌, IfOk, OnOk};
-ghost use Rattle.kmip_progress.specs.Reading.{read_text};
-ghost use Rattle.kmip_plan_commands.specs.Listing.{is_progress_refused};
-ghost use Rattle.kmip_run_files.specs.PrivateDocuments.{listing_documents};
 
 use crate::plan_file::PlanFile;
-use crate::reading::{plan_at, plan_name, text_within};
+use crate::reading::{plan_at, text_within};
 use crate::recalling::{judge_attributes, origin_of, progress_file_at};
 use kmip_choices::{Format, ListOptions};
 use kmip_explaining::tell_other_plan;
 use kmip_files::{MOST_PROGRESS_BYTES, ProgressFile};
-use kmip_json::{push_list, push_progress_fault};
+use kmip_json::push_listing;
 use kmip_message_commands::ExitStatus;
-use kmip_plan::Plan;
 use kmip_plan_commands::run_list;
 use kmip_progress::{Progress, ProgressFault};
-use kmip_trouble::{Trouble, print_documents, standard_output};
+use kmip_trouble::{Trouble, plan_name, print_documents, standard_output};
 use kmip_ttlv::NoMemory;
-use std::alloc::Global;
 use std::io::BufWriter;
 
 /// The command `list`: the plan is read first, then the progress, and then what says where that was
@@ -51,35 +45,6 @@ pub fn list_progress(rt: &HostRuntime, options: &ListOptions) -> Result<ExitStat
         let _ = rt.eprintln(line.as_str());
     }
     Ok(status)
-}
-
-/// Appends the documents of what a progress says of each key of a plan, or the one of why it is refused.
-/// Says whether it is.
-///
-/// # Errors
-/// Where there is no memory for them.
-fn push_listing(
-    alloc: Global,
-    plan: &Plan,
-    saved: &str,
-    text: &mut Vec<u8>,
-) -> Result<bool, NoMemory>
-    ensures text { OnOk result (text.new.items
-        ≡ text.old.items ++ listing_documents plan.now (read_text plan.now saved.now)) }
-    ensures refused { IfOk result (λ r.
-        r ≡ is_progress_refused (read_text plan.now saved.now)) }
-{
-    match Progress::read_text(alloc, plan, saved) {
-        Ok(progress) => {
-            push_list(alloc, plan, &progress, text)?;
-            Ok(false)
-        }
-        Err(ProgressFault::NoMemory) => Err(NoMemory),
-        Err(fault) => {
-            push_progress_fault(alloc, fault, text)?;
-            Ok(true)
-        }
-    }
 }
 
 /// The line that says against which server and when a progress was kept; empty where the progress is

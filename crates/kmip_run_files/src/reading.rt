@@ -1,14 +1,10 @@
 //! The texts of files and of standard input, and of plans among them.
-ghost use Rattle.std.specs.Prelude.{◌≡◌, ◌≢◌, codes};
 
 use crate::plan_file::PlanFile;
 use kmip_files::{MOST_FILE_BYTES, text_of, text_of_input};
 use kmip_plan::{PlanFault, read_plan};
-use kmip_trouble::{Obstacle, STANDARD_INPUT, Trouble, tell_of_terminal};
+use kmip_trouble::{INPUT_PATH, Obstacle, STANDARD_INPUT, Trouble, plan_name, tell_of_terminal};
 use std::io::{Error, ErrorKind};
-
-/// The path of a plan that stands for standard input.
-const INPUT_PATH: &str = "-";
 
 /// The plan in the file at this path, or on standard input where that is `-`.
 ///
@@ -23,20 +19,6 @@ pub fn plan_at(rt: &HostRuntime, path: &str) -> Result<PlanFile, Trouble> {
             let name = String::from_str(rt.alloc(), plan_name(path))?;
             Err(Trouble::from(Obstacle::NoPlan(name, text, fault)))
         }
-    }
-}
-
-/// What the place of a plan is called: `standard input` for the path `-`, and else as the path.
-pub fn plan_name(path: &str) -> &str
-    // That of standard input.
-    ensures input { path.now ≡ codes "-" → result.now ≡ codes "standard input" }
-    // That of a file.
-    ensures file { path.now ≢ codes "-" → result.now ≡ path.now }
-{
-    if path == INPUT_PATH {
-        STANDARD_INPUT
-    } else {
-        path
     }
 }
 

@@ -15,6 +15,7 @@ mod another_server;
 mod cannot;
 mod cause;
 mod causes;
+mod naming;
 mod obstacle;
 mod remedy;
 mod reporting;
@@ -24,6 +25,7 @@ mod trouble;
 pub use another_server::AnotherServer;
 pub use cannot::Cannot;
 pub use causes::{tell_cause, tell_why};
+pub use naming::{INPUT_PATH, plan_name};
 pub use obstacle::{Obstacle, push_refused_plan};
 pub use reporting::{print_documents, push_told};
 pub use told::{
