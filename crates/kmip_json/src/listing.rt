@@ -36,8 +36,10 @@ pub fn push_listing(
     saved: &str,
     text: &mut Vec<u8>,
 ) -> Result<bool, NoMemory>
+    // What is appended is exactly the lines of the keys, or the line of why the text is refused.
     ensures text { OnOk result (text.new.items
         ≡ text.old.items ++ listing_documents plan.now (read_text plan.now saved.now)) }
+    // It is refused where the text is no progress of the plan.
     ensures refused { IfOk result (λ r.
         r ≡ is_progress_refused (read_text plan.now saved.now)) }
 {

@@ -43,8 +43,10 @@ pub fn push_look(
     lookeds: &[Looked],
     text: &mut Vec<u8>,
 ) -> Result<bool, NoMemory>
+    // What is appended is exactly the lines of the keys, and the last line.
     ensures text { OnOk result (text.new.items
         ≡ text.old.items ++ look_lines keys.now lookeds.now) }
+    // It is refused where a key is not finished.
     ensures refused { IfOk result (λ r. r ≡ not (are_all_finished keys.now lookeds.now)) }
 {
     let verdicts = verdicts_on(alloc, keys, lookeds)?;
