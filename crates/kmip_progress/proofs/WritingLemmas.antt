@@ -1,7 +1,8 @@
 -- The text that is written is its head, the lines of the keys and its end.
-use Rattle.std.proofs.Common.{◌≡◌, ◌≤◌, ℕ, suc, nat_lt, true, Result, Ok, Err, IsOk, List, [], ◌∷◌, ◌++◌, length, drop, map, codes, refl, sym, ◌∙◌, ap, append_assoc}
+use Rattle.std.proofs.Common.{◌≡◌, ◌+◌, ◌≤◌, ◌<◌, ℕ, suc, nat_lt, decimal, true, Result, Ok, Err, IsOk, List, [], ◌∷◌, ◌++◌, length, drop, map, codes, refl, sym, ◌∙◌, ap, append_assoc}
 use Rattle.std.proofs.lemmas.List.{drop_all, append-nil}
 use Rattle.std.proofs.lemmas.Bool.{and_parts, ltb-true}
+use Rattle.std.proofs.lemmas.Fmt.{decimal_digit}
 use Rattle.std.proofs.lemmas.Str.{IsUtf8-from_ascii}
 use Rattle.std.proofs.lemmas.Str.Ascii.{IsAscii-nil, IsAscii-cons}
 use Rattle.std.specs.List.{list_all}
@@ -70,3 +71,9 @@ hex_is_text bytes = IsUtf8-from_ascii (encode_lower bytes) (IsAscii-encode_with 
 pub not_refused : {T E : Type 0} {A : Type 0} (P : T → Type 0) (Q : E → Type 0) (r : Result T E) → A → MatchResult r P (λ e. (A → ⊥) × Q e) → IsOk r
 not_refused P Q (Ok x) a m = refl
 not_refused P Q (Err e) a m = absurd (m.0 a)
+
+-- one digit and a space are a number of one digit in decimal, and a space
+pub digit_written : (old new : List ℕ) (number digit : ℕ) → digit < 10 → number ≡ digit → new ≡ old ++ (48 + digit) ∷ 32 ∷ [] → new ≡ old ++ (decimal number ++ 32 ∷ [])
+digit_written old new number digit small is text =
+    text ∙ ap (λ (ds : List ℕ). old ++ (ds ++ 32 ∷ [])) (sym (decimal_digit digit small))
+    ∙ ap (λ (n : ℕ). old ++ (decimal n ++ 32 ∷ [])) (sym is)
