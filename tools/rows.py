@@ -26,7 +26,7 @@ from row_files import CRATES, check_rows, files_of, rows_in
 
 MOST_SECONDS = 1800
 # Rows that are left out where nothing is built. `rt try` compiles without optimizing, with a check of each access to memory,
-# so that a row with many thousand messages or runs takes a hundred times as long as in the program that is built.
+# so that a row with many thousand messages or runs takes many times as long as in the program that is built.
 SLOW = {
     'rows_client': ['taken-locate-k1', 'taken-create-k1', 'taken-create-k1-reply', 'taken-locate-k1-found',
                     'kept-through-changes', 'kept-through-changes-2', 'kept-through-changes-3', 'learnt-from-changes'],
