@@ -1,4 +1,5 @@
 """Rows of made-up programs."""
+import os
 import unittest
 
 from scratch import Scratch, printed
@@ -27,6 +28,17 @@ case "$*" in
 *--name*) echo "some.rows:6: first"; echo "1 rows, 1 wrong"; exit 1;;
 *) echo "2 rows, 0 wrong";;
 esac
+'''
+# A kit that tells what it was asked to run, with the text of its data, and that one row of it is wrong.
+KIT = r'''#!/bin/sh
+case "$*" in
+*--name*) echo "asked for: $*"; echo "1 rows, 0 wrong"; echo "run=ended status=0"; exit 0;;
+esac
+for word in "$@"; do case "$word" in some.rows=*) cat "${word#some.rows=}";; esac; done
+echo "some.rows:13: second"
+echo "1 rows, 1 wrong"
+echo "checked: ended status=1"
+exit 1
 '''
 
 
@@ -57,6 +69,36 @@ class Rows(Scratch):
 
     def test_no_row(self):
         self.assertEqual(printed(rows.main, ['--name', 'third']), (1, ['no such row']))
+
+    def unbuilt(self, slow):
+        """No program of rows is built, and these of its rows are slow."""
+        (self.top / 'crates/rows_some/out/rows_some').unlink()
+        self.write({'bin/rt': KIT})
+        (self.top / 'bin/rt').chmod(0o755)
+        self.addCleanup(os.environ.__setitem__, 'PATH', os.environ['PATH'])
+        os.environ['PATH'] = f'{self.top}/bin:{os.environ["PATH"]}'
+        self.addCleanup(setattr, rows, 'SLOW', rows.SLOW)
+        rows.SLOW = {'rows_some': slow}
+
+    def test_slow_rows_are_left_out(self):
+        self.unbuilt(['first'])
+        status, lines = printed(rows.main, ['--crate', 'rows_some'])
+        self.assertEqual((status, lines), (1, [
+            '## A remark above both.', *[''] * 10, '# second', 'run b', '    three',
+            'crates/rows_some/data/some.rows:13: second', '1 rows, 1 wrong',
+            'rows_some: left out, as rt try is slow at them: first (FILE= or NAME= runs them)', 'rows_some: WRONG, by rt try']))
+
+    def test_slow_rows_that_are_asked_for(self):
+        self.unbuilt(['first'])
+        self.assertEqual(printed(rows.main, ['--name', 'fir']), (0, [
+            'asked for: try --seconds 1800 --data some.rows=data/some.rows -- some.rows --name fir', '1 rows, 0 wrong',
+            'rows_some: right, by rt try']))
+
+    def test_a_slow_row_that_is_gone(self):
+        self.addCleanup(setattr, rows, 'SLOW', rows.SLOW)
+        rows.SLOW = {'rows_some': ['first', 'third'], 'not_here': ['none']}
+        status, lines = printed(rows.main, ['--crate', 'rows_some'])
+        self.assertEqual((status, lines[:2]), (1, ['tools/rows.py: rows_some has no row third', '2 rows, 0 wrong']))
 
     def test_what_a_file_says(self):
         first, second = row_files.rows_in(self.top / 'crates/rows_some/data/some.rows')
