@@ -5,9 +5,9 @@
     tools/man_pages.py PROGRAM     compares what the sources say with the help that the program prints
 
 It runs at the top of the repository. The pages of section 1 come from the texts of kmip_command_line: help.rt,
-command_option.rt and subcommand.rt, and the words of the shells from kmip_choices. kmip-plan(5) has what the help of `check` says of a plan, what
-OPERATING says of changes and of the progress file, and examples/plan.toml. `make documents` compares docs/man with
-these. In a text an indented line stays as it is, and the lines of a paragraph are filled. The last line of a
+command_option.rt and subcommand.rt. The words of the shells are those of kmip_choices. kmip-plan(5) has what the help
+of `check` says of a plan, what OPERATING says of changes and of the progress file, and examples/plan.toml. `make
+documents` compares docs/man with these. In a text an indented line stays as it is, and the lines of a paragraph are filled. The last line of a
 comparison is `N commands, M wrong`.
 """
 import pathlib

@@ -94,7 +94,8 @@ Options:
 class Pages(Scratch):
     def setUp(self):
         super().setUp()
-        for path in [man_pages.OPERATING, man_pages.EXAMPLE, *(man_pages.SOURCES / name for name in man_pages.FILES)]:
+        sources = [man_pages.SOURCES / name for name in man_pages.FILES]
+        for path in [man_pages.OPERATING, man_pages.EXAMPLE, man_pages.SHELLS, *sources]:
             (self.top / path).parent.mkdir(parents=True, exist_ok=True)
             shutil.copy(TOP / path, self.top / path)
 
