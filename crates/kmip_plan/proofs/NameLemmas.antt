@@ -2,12 +2,18 @@
 use Rattle.std.proofs.Common.{◌≡◌, ℕ, zero, suc, Bool, true, false, ◌||◌, ◌==◌, List, [], ◌∷◌, ◌++◌, Option, Some, None, IfSome, Bor, cond, subst, refl, sym, ap, ◌∙◌, inl, inr, if◌then◌else◌}
 use Rattle.std.proofs.lemmas.Bool.{and_parts, or_parts, or_cases, cases_Bool, eqb-true}
 use Rattle.std.proofs.lemmas.List.Folds.{list_any-append}
+use Rattle.std.proofs.lemmas.Map.Text.{hash_set_updates_text}
 use Rattle.std.proofs.lemmas.Slice.Eq.{bytes_eq-Decides}
+use Rattle.std.specs.Cmp.Lexicographic.{nat_list_eq_equiv}
+use Rattle.std.specs.HashSet.{HashSet, contains_text, Updates}
 use Rattle.std.specs.List.{list_all, slice_get}
 use Rattle.std.specs.Option.{option_copied}
+use Rattle.std.specs.String.{string_bytes, string_eq}
+use Rattle.std.specs.declared.string.String.{String}
 use Rattle.kmip_objects.specs.Ranges.{attrs_fit, is_compromise}
 use Rattle.kmip_plan.specs.declared.key.Key.{Key}
 use Rattle.kmip_plan.specs.Chains.{is_revoked}
+use Rattle.kmip_plan.specs.PrivateNames.{AreNamesOf}
 use Rattle.kmip_plan.specs.Plans.{HaveNewNames, reason_fits, key_fits, key_named}
 use Rattle.kmip_plan.specs.Reading.{has_key_named}
 use Rattle.kmip_plan.specs.TargetWords.{is_text}
@@ -127,3 +133,24 @@ no_reason false r fits = as_code 0 r fits refl
 
 pub no_compromise : (key : Key) → key_fits key ≡ true → is_compromise key.reason ≡ false
 no_compromise key fits = no_reason (is_revoked key.target) key.reason (and_parts (attrs_fit key.attrs) (reason_fits key.target key.reason) fits).1
+
+-- ---- the set of names
+
+-- one of two that is looked at first or last
+either : (b x : Bool) → cond b true x ≡ (x || (b || false))
+either true true = refl
+either true false = refl
+either false true = refl
+either false false = refl
+
+-- a set with the name of one key more
+pub names_more : {A S : Type 0} (old new : HashSet (String A) S) (keys : List Key) (key : Key) (name : String A)
+    → AreNamesOf old keys → string_bytes name ≡ key.attrs.name → Updates string_eq old new name true
+    → AreNamesOf new (keys ++ key ∷ [])
+names_more old new keys key name are is updates text =
+    hash_set_updates_text (string_bytes name) old new true updates text
+    ∙ ap (λ own. cond (is_text own text) true (contains_text old text)) is
+    ∙ ap (λ b. cond b true (contains_text old text)) (nat_list_eq_equiv.symm key.attrs.name text)
+    ∙ ap (λ b. cond (is_text text key.attrs.name) true b) (are text)
+    ∙ either (is_text text key.attrs.name) (has_key_named text keys)
+    ∙ sym (list_any-append (has_name text) keys (key ∷ []))

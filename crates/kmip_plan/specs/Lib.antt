@@ -26,3 +26,5 @@ pub mod Faults
 pub mod Prolonging
 -- What holds of the keys of every plan, and of a plan that prolongs another.
 pub mod Laws
+-- Private: the set of names beside the keys that were read so far.
+pub mod PrivateNames

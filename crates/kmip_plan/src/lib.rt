@@ -12,6 +12,7 @@ mod field;
 mod field_reading;
 mod key;
 pub mod laws;
+mod named_keys;
 mod plan;
 mod plan_fault;
 mod prolonging;

@@ -6,13 +6,14 @@ ghost use Rattle.toml.specs.View.{view, array_view, table_view};
 ghost use Rattle.kmip_plan.specs.Faults.{field_word};
 ghost use Rattle.kmip_plan.specs.declared.key.Key.{Key};
 ghost use Rattle.kmip_plan.specs.Plans.{IsPlan};
-ghost use Rattle.kmip_plan.specs.Reading.{need, none_other, has_key_named, all_there, suite_of, key_in, keys_in, plan_in, plan_read, GivesPlan};
+ghost use Rattle.kmip_plan.specs.Reading.{need, none_other, all_there, suite_of, key_in, keys_in, plan_in, plan_read, GivesPlan};
 ghost use Rattle.kmip_plan.specs.Tables.{fields_of};
 
 use crate::Key;
 use crate::counts::count;
 use crate::field::Field;
 use crate::field_reading::{algorithm_of, length_of, name_of, reason_of, target_of, usage_of};
+use crate::named_keys::NamedKeys;
 use crate::plan::Plan;
 use crate::plan_fault::PlanFault;
 use crate::tables::{array_at, other_key_field, other_top_field, value_at};
@@ -90,17 +91,17 @@ fn keys_of(alloc: Global, table: &Table) -> Result<Vec<Key>, PlanFault>
 fn keys_in(alloc: Global, array: &Array) -> Result<Vec<Key>, PlanFault>
     ensures { GivesPlan (λ keys. keys.items) result (keys_in [] (array_view array.now)) }
 {
-    let mut keys = Vec::new(alloc);
+    let mut keys = NamedKeys::new(alloc);
     for value in array {
-        let key = key_of(alloc, keys.as_slice(), value)?;
-        keys.push(key)?;
+        let key = key_of(alloc, &keys, value)?;
+        keys = keys.with(alloc, key)?;
     }
-    Ok(keys)
+    Ok(keys.into_keys())
 }
 
 /// The key of an element; one that is no table is read as an empty table.
 #[tactic(auto, unfolding(crate::specs::Reading::key_in, crate::specs::Reading::all_there))]
-fn key_of(alloc: Global, keys: &[Key], value: &Value) -> Result<Key, PlanFault>
+fn key_of(alloc: Global, keys: &NamedKeys, value: &Value) -> Result<Key, PlanFault>
     ensures { GivesPlan (λ key. key) result (key_in keys.now (fields_of (view value.now))) }
 {
     match value {
@@ -111,7 +112,7 @@ fn key_of(alloc: Global, keys: &[Key], value: &Value) -> Result<Key, PlanFault>
 
 /// The key of a table, after the keys before it.
 #[tactic(auto, unfolding(crate::specs::Reading::key_in))]
-fn key_in(alloc: Global, keys: &[Key], table: &Table) -> Result<Key, PlanFault>
+fn key_in(alloc: Global, keys: &NamedKeys, table: &Table) -> Result<Key, PlanFault>
     ensures { GivesPlan (λ key. key) result (key_in keys.now (table_view table.now)) }
 {
     let place = keys.len() + 1;
@@ -122,7 +123,7 @@ fn key_in(alloc: Global, keys: &[Key], table: &Table) -> Result<Key, PlanFault>
     let usage = usage_of(table).ok_or(PlanFault::BadUsage(place))?;
     let target = target_of(table).ok_or(PlanFault::BadTarget(place))?;
     let reason = reason_of(target, table).ok_or(PlanFault::BadReason(place))?;
-    if has_name(keys, name) {
+    if keys.has_name(name) {
         return Err(PlanFault::SameName(place));
     }
     let attrs = KeyAttrs {
@@ -185,11 +186,4 @@ fn check_other(alloc: Global, other: Option<&str>, place: usize) -> Result<(), P
         }
         None => Ok(()),
     }
-}
-
-/// Whether a key has the name.
-fn has_name(keys: &[Key], name: &str) -> bool
-    ensures { result ≡ has_key_named name.now keys.now }
-{
-    keys.iter().any(|key| name == key.attrs.name.as_str())
 }

@@ -25,7 +25,7 @@ pub fn fits(item: &Item) -> bool
 
 /// The size of the item's written form, where it has one of at most `levels` levels and `room` bytes.
 #[cycle(sizes)]
-pub(crate) fn size_within(item: &Item, levels: usize, room: usize) -> Option<usize>
+fn size_within(item: &Item, levels: usize, room: usize) -> Option<usize>
     requires { room ≤ most_bytes }
     ensures { IsSizeWithin result (view item.now) levels room }
 {

@@ -8,14 +8,16 @@ ghost use Rattle.kmip_ttlv.specs.Spelling.{head, item_bytes, zeros, padding, can
 ghost use Rattle.kmip_ttlv.specs.Fitting.{IsInRange, AreInRange};
 ghost use Rattle.kmip_ttlv.specs.Sizes.{IsWritable};
 
-use crate::fitting::size_within;
 use crate::item::Item;
 use crate::item_type::ItemType;
-use crate::limits::{HEAD_SIZE, MAX_DEPTH, MAX_SIZE, padding_of};
+use crate::limits::{HEAD_SIZE, padding_of};
 use crate::no_memory::NoMemory;
 use crate::tag::Tag;
 use crate::value::Value;
 use byteorder::{BigEndian, ByteOrder};
+
+/// The bytes that `write` takes room for at once: most messages have fewer (own).
+const ROOM: usize = 512;
 
 /// Appends the one written form of an item, its padding zero.
 ///
@@ -31,8 +33,7 @@ pub fn write(item: &Item, out: &mut Vec<u8>) -> Result<(), NoMemory>
     // Each value of an item that is written is in its range: the types of the code keep the ranges.
     ensures in_range { OnOk result (IsInRange (view item.now)) }
 {
-    // The buffer grows once, for all of the item.
-    out.reserve(size_within(item, MAX_DEPTH, MAX_SIZE).unwrap_or(0))?;
+    out.reserve(ROOM)?;
     let before = out.len();
     match append(item, out) {
         Ok(()) => Ok(()),

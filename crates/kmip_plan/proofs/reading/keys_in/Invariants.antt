@@ -6,4 +6,4 @@ use Rattle.kmip_plan.proofs.reading.keys_in.Given as goal
 
 abbrev pub invariant-loop-value : goal.invariant-loop-value
 invariant-loop-value l =
-    keys_in l.keys.items (items_view (drop l.value-index l.array.items)) ≡ keys_in [] (items_view l.array.items)
+    keys_in l.keys (items_view (drop l.value-index l.array.items)) ≡ keys_in [] (items_view l.array.items)
