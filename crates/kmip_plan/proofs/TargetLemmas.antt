@@ -1,5 +1,5 @@
 -- The words of the targets, and what they stand for; for the lemma files of kmip_plan too, where no call stands near.
-use Rattle.std.proofs.Common.{◌≡◌, ℕ, Bool, true, false, List, codes, Option, Some, None, if◌then◌else◌, subst, refl, inl, inr}
+use Rattle.std.proofs.Common.{◌≡◌, ℕ, true, List, codes, Option, Some, None, if◌then◌else◌, subst, refl, inl, inr}
 use Rattle.std.proofs.lemmas.Bool.{cases_Bool}
 use Rattle.std.proofs.lemmas.Slice.Eq.{bytes_eq-Decides}
 use Rattle.kmip_plan.specs.declared.target.Target.{Target}

@@ -2,10 +2,9 @@
 use Rattle.std.proofs.Common.{◌≡◌, ◌∙◌, ◌<◌, ◌≤◌, ◌+◌, ◌++◌, ◌∷◌, [], length, get_or, drop, Ok, ap, sym, subst}
 use Rattle.std.proofs.lemmas.List.{drop_all, drop_more}
 use Rattle.std.proofs.lemmas.Result.{err_from_is_err_and}
-use Rattle.toml.specs.View.{items_view, view}
+use Rattle.toml.specs.View.{items_view}
 use Rattle.kmip_ttlv.specs.Binding.{◌>>=◌}
-use Rattle.kmip_plan.specs.Tables.{fields_of}
-use Rattle.kmip_plan.specs.Reading.{key_in, keys_in}
+use Rattle.kmip_plan.specs.Reading.{keys_in}
 use Rattle.kmip_plan.proofs.reading.keys_in.Goals as goal
 
 pub loop-value-preserved : goal.loop-value-preserved
