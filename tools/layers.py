@@ -38,7 +38,7 @@ LAYERS = [
 ]
 TESTS = ('tests', 'Tests', 'no part of the program',
          'test_support rows_links rows_kmipctl rows_client rows_campaign test_memory test_items test_server '
-         'test_transport test_files test_disk test_crash test_company test_json')
+         'test_transport test_files test_disk test_crash test_company test_account test_json')
 
 # Sizes of the picture.
 BOX, GAP, MARGIN, HEAD, TESTS_BOX = (200, 28), 9, 14, 34, 226

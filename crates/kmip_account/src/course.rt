@@ -7,7 +7,7 @@ use kmip_plan::{Key, chain, chain_length};
 
 /// What a run asked about a key, and how many of its steps are known to have taken effect.
 #[derive(Clone, Copy)]
-pub(crate) struct Course {
+pub struct Course {
     /// How many were known when the run began, and how many are known now.
     before: usize,
     now: usize,
@@ -17,7 +17,7 @@ pub(crate) struct Course {
 
 impl Course {
     /// Of a key of which so many steps are known when the run begins.
-    pub(crate) fn new(done: usize) -> Self {
+    pub fn new(done: usize) -> Self {
         Course {
             before: done,
             now: done,
@@ -26,18 +26,18 @@ impl Course {
     }
 
     /// The run asked this operation.
-    pub(crate) fn ask(&mut self, operation: Operation) {
+    pub fn ask(&mut self, operation: Operation) {
         self.asked.add(operation);
     }
 
     /// So many steps are known now.
-    pub(crate) fn reach(&mut self, done: usize) {
+    pub fn reach(&mut self, done: usize) {
         self.now = done;
     }
 
     /// How many steps of the key, which this is the course of, the run asked for and knows now to have
     /// taken effect. A step that was known when the run began is none of them.
-    pub(crate) fn taken(&self, key: &Key) -> u64 {
+    pub fn taken(&self, key: &Key) -> u64 {
         let mut count = 0u64;
         for place in 1..=chain_length(key) {
             if self.before < place && place <= self.now && self.has_asked(chain(key, place)) {

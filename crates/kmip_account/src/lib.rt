@@ -3,11 +3,11 @@
 //! `Account` tells of a run: how far it is, why the server does not answer, and what was heard of each
 //! key that is not finished. `Teller` and `Watch` hand it what happens. `Wire` notes what comes over the
 //! streams of an exchange, and a `Noted` stream is its own otherwise. `tell_exchange` is for `probe` and
-//! `serve`. An account also counts: its tally is a `RunTally` of kmip_json, `Standing` says how the keys
-//! stand, and `Metrics` is both as a text.
+//! `serve`. An account also counts: its tally is a `RunTally`, for which `Course` says which steps of a
+//! key the run took. `Standing` says how the keys stand, and `Metrics` is all this as a text.
 //!
 //! All is safe and total. None of it has a clause, as std tells a contract nothing of standard error and
-//! of cells. `make troubles`, `make peers` and the stored runs want the lines; tests of the crate want the
+//! of cells. `make troubles`, `make peers` and the stored runs want the lines. test_account wants the
 //! counts and the text of metrics, and `make origin` wants the file of a run.
 #![tactic(auto)]
 
@@ -31,12 +31,11 @@ mod stage;
 mod standing;
 mod story;
 mod teller;
-#[cfg(test)]
-mod tests;
 mod watch;
 mod wire;
 
 pub use account::Account;
+pub use course::Course;
 pub use exchange_line::tell_exchange;
 pub use metrics::Metrics;
 pub use noted::Noted;

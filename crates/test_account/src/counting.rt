@@ -1,9 +1,7 @@
 //! What is counted of a run, and its text. The counts and the text were worked out by hand.
 
-use crate::course::Course;
-use crate::metrics::Metrics;
-use crate::standing::Standing;
 use Operation::{Activate, Create, Destroy, GetAttributes, Locate, Revoke};
+use kmip_account::{Course, Metrics, Standing};
 use kmip_batch_items::Operation;
 use kmip_plan::read_plan;
 use kmip_plan_commands::RunTally;
