@@ -1,7 +1,8 @@
 //! What `run` tells on standard error: how far it is, what goes wrong, and what was left undone.
 
 use crate::answers::push_answer_about;
-use crate::exchange::{Exchange, name_of, place_of};
+use crate::exchange::{Exchange, name_of};
+use crate::places::Places;
 use crate::progress_line::ProgressLine;
 use crate::reach::Reach;
 use crate::score::Score;
@@ -9,6 +10,7 @@ use crate::silence::Silence;
 use crate::stage::Stage;
 use crate::standing::Standing;
 use crate::story::Story;
+use crate::taught::Taught;
 use crate::wire::Wire;
 use kmip_batch_items::Request;
 use kmip_choices::{Peer, RunOptions};
@@ -32,6 +34,7 @@ pub struct Account<'a> {
     rt: &'a HostRuntime,
     options: &'a RunOptions,
     plan: &'a Plan,
+    places: Places,
     /// The server, as it is told.
     peer: String,
     wire: Wire,
@@ -44,6 +47,10 @@ pub struct Account<'a> {
     /// What was heard of each key, in the order of the plan.
     stories: RefCell<Vec<Story>>,
     score: RefCell<Score>,
+    /// Of which keys the last exchange may have told.
+    taught: RefCell<Taught>,
+    /// Whether all that the client knows was taken in once: it may have begun with a saved progress.
+    has_known: Cell<bool>,
 }
 
 impl<'a> Account<'a> {
@@ -58,6 +65,7 @@ impl<'a> Account<'a> {
         saved: Option<&str>,
     ) -> Result<Self, NoMemory> {
         let peer = peer_text(rt.alloc(), &options.peer)?;
+        let places = Places::of(rt.alloc(), plan.keys())?;
         let stories = stories_of(rt.alloc(), plan.count())?;
         let score = Score::new(rt.alloc(), plan, saved)?;
         let now = Instant::now(rt).ok();
@@ -65,6 +73,7 @@ impl<'a> Account<'a> {
             rt,
             options,
             plan,
+            places,
             peer,
             wire: Wire::new(),
             standing: ProgressLine::new(rt, options.is_verbose),
@@ -79,6 +88,8 @@ impl<'a> Account<'a> {
             reach: RefCell::new(Reach::new()),
             stories: RefCell::new(stories),
             score: RefCell::new(score),
+            taught: RefCell::new(Taught::Any),
+            has_known: Cell::new(false),
         })
     }
 
@@ -125,6 +136,7 @@ impl<'a> Account<'a> {
             Ok(exchange) => {
                 self.spend(&exchange);
                 self.count(&exchange);
+                self.note_taught(&exchange);
                 let _ = self.tell_reach(exchange.silence, now);
                 let _ = self.keep(&exchange);
                 if self.options.is_verbose {
@@ -138,11 +150,46 @@ impl<'a> Account<'a> {
 
     /// So much is known after an exchange.
     pub(crate) fn know(&self, client: &Client<'_>) {
-        if let Ok(mut stories) = self.stories.try_borrow_mut() {
-            know_stages(client, stories.as_mut_slice());
+        match self.taught.try_borrow() {
+            Ok(taught) if self.has_known.get() => self.know_of(client, &taught),
+            Ok(_) | Err(_) => self.know_all(client),
         }
-        self.know_courses(client);
+        self.has_known.set(true);
         self.standing.show(client, self.spent.get());
+    }
+
+    /// Takes in what the client knows of the keys that were told of.
+    fn know_of(&self, client: &Client<'_>, taught: &Taught) {
+        match taught {
+            Taught::Asked(places) => {
+                for place in places {
+                    self.know_key(client, *place);
+                }
+            }
+            Taught::Any => self.know_all(client),
+        }
+    }
+
+    /// Takes in what the client knows of each key.
+    fn know_all(&self, client: &Client<'_>) {
+        for place in 0..self.plan.count() {
+            self.know_key(client, place);
+        }
+    }
+
+    /// Takes in what the client knows of the key at a place.
+    fn know_key(&self, client: &Client<'_>, place: usize) {
+        let Some(stage) = Stage::of(client, place) else {
+            return;
+        };
+        if let Ok(mut stories) = self.stories.try_borrow_mut() {
+            if place < stories.len() {
+                stories[place].reach(stage);
+            }
+        }
+        if let Ok(mut score) = self.score.try_borrow_mut() {
+            score.know(place, stage);
+        }
     }
 
     /// What is counted of the run, which has come so far as the client knows.
@@ -150,7 +197,7 @@ impl<'a> Account<'a> {
     /// # Errors
     /// Where there is no memory, or there was none to read an exchange.
     pub fn tally(&self, client: &Client<'_>) -> Result<RunTally, NoMemory> {
-        self.know_courses(client);
+        self.know_all(client);
         self.tally_so_far()
     }
 
@@ -175,13 +222,6 @@ impl<'a> Account<'a> {
         match self.score.try_borrow() {
             Ok(score) => score.standing(),
             Err(_) => None, // never: nobody has it for longer than a call
-        }
-    }
-
-    /// Takes what the client knows into what is counted.
-    fn know_courses(&self, client: &Client<'_>) {
-        if let Ok(mut score) = self.score.try_borrow_mut() {
-            score.know(client);
         }
     }
 
@@ -211,12 +251,35 @@ impl<'a> Account<'a> {
     /// Counts what an exchange asked, and what came of it.
     fn count(&self, exchange: &Exchange) {
         if let Ok(mut score) = self.score.try_borrow_mut() {
-            score.count(self.plan.keys(), exchange);
+            score.count(&self.places, exchange);
+        }
+    }
+
+    /// Notes of which keys an exchange may have told.
+    fn note_taught(&self, exchange: &Exchange) {
+        if exchange.silence.is_some() {
+            self.set_taught(Taught::Any);
+            return;
+        }
+        match self
+            .places
+            .places(self.rt.alloc(), exchange.requests.as_slice())
+        {
+            Ok(places) => self.set_taught(Taught::Asked(places)),
+            Err(NoMemory) => self.set_taught(Taught::Any),
+        }
+    }
+
+    /// Of these keys the last exchange may have told.
+    fn set_taught(&self, taught: Taught) {
+        if let Ok(mut last) = self.taught.try_borrow_mut() {
+            *last = taught;
         }
     }
 
     /// There was no memory to read an exchange.
     fn fall_short(&self) {
+        self.set_taught(Taught::Any);
         if let Ok(mut score) = self.score.try_borrow_mut() {
             score.fall_short();
         }
@@ -269,13 +332,7 @@ impl<'a> Account<'a> {
         };
         let stories = stories.as_mut_slice();
         for request in &exchange.requests {
-            keep_request(
-                self.rt.alloc(),
-                self.plan.keys(),
-                stories,
-                exchange,
-                request,
-            )?;
+            keep_request(self.rt.alloc(), &self.places, stories, exchange, request)?;
         }
         Ok(())
     }
@@ -434,30 +491,15 @@ fn millis_of(time: Duration) -> u64 {
         .saturating_add(u64::from(time.subsec_millis()))
 }
 
-/// Takes what the client knows of each key for the stage of its story.
-fn know_stages(client: &Client<'_>, stories: &mut [Story]) {
-    let count = client.plan().count();
-    for place in 0..count {
-        let stage = Stage {
-            done: client.done(place),
-            is_identified: client.identifier(place).is_some(),
-            verdict: client.verdict(place),
-        };
-        if place < stories.len() {
-            stories[place].reach(stage);
-        }
-    }
-}
-
 /// Notes what was heard of the key that a request is about.
 fn keep_request(
     alloc: Global,
-    keys: &[Key],
+    places: &Places,
     stories: &mut [Story],
     exchange: &Exchange,
     request: &Request,
 ) -> Result<(), NoMemory> {
-    let Some(place) = place_of(keys, request) else {
+    let Some(place) = places.place(request) else {
         return Ok(());
     };
     let name = name_of(request);

@@ -4,7 +4,6 @@ use crate::silence::Silence;
 use crate::wire::Wire;
 use kmip_batch_items::{MessageFault, Outcome, Reply, Request};
 use kmip_messages::read_reply;
-use kmip_plan::Key;
 use kmip_probe::version_in;
 use kmip_protocol::LinkFault;
 use kmip_trace::requests_in;
@@ -123,13 +122,6 @@ fn id_bytes(id: &Option<Bytes>) -> &[u8] {
         Some(id) => id.as_slice(),
         None => &[],
     }
-}
-
-/// The place from 0 of the key that a request is about, where it is among these.
-pub(crate) fn place_of(keys: &[Key], request: &Request) -> Option<usize> {
-    let name = name_of(request);
-    keys.iter()
-        .position(|key| key.attrs.name.as_str().as_bytes() == name)
 }
 
 /// The name of the key that a request is about: it stands in its id after the operation.

@@ -1,10 +1,12 @@
 //! What is counted of a run beside what its progress line shows.
 
 use crate::course::Course;
-use crate::exchange::{Exchange, place_of};
+use crate::exchange::Exchange;
+use crate::places::Places;
+use crate::stage::Stage;
 use crate::standing::Standing;
 use kmip_batch_items::Request;
-use kmip_client::Client;
+use kmip_client::{Client, Verdict};
 use kmip_plan::{Key, Plan};
 use kmip_plan_commands::{RunTally, Spent, begin};
 use kmip_progress::ProgressFault;
@@ -16,6 +18,8 @@ use std::alloc::Global;
 pub(crate) struct Score {
     /// The course of each key, in the order of the plan.
     courses: Vec<Course>,
+    /// The verdict on each key that is counted in how the keys stand.
+    verdicts: Vec<Verdict>,
     /// How the keys stand; none where the progress that the run is to begin with is refused.
     standing: Option<Standing>,
     /// How many exchanges brought a reply that cannot be read.
@@ -31,16 +35,17 @@ impl Score {
     /// Where there is no memory.
     pub(crate) fn new(alloc: Global, plan: &Plan, saved: Option<&str>) -> Result<Self, NoMemory> {
         let mut courses = untaken(alloc, plan.count())?;
-        let standing = match begin(alloc, plan, saved) {
+        let (verdicts, standing) = match begin(alloc, plan, saved) {
             Ok(client) => {
                 begin_courses(&client, courses.as_mut_slice());
-                Some(Standing::of(&client))
+                (client.verdicts(alloc)?, Some(Standing::of(&client)))
             }
             Err(ProgressFault::NoMemory) => return Err(NoMemory),
-            Err(_) => None, // the run refuses it, and asks nothing
+            Err(_) => (Vec::new(alloc), None), // the run refuses it, and asks nothing
         };
         Ok(Score {
             courses,
+            verdicts,
             standing,
             unreadable: 0,
             is_short: false,
@@ -52,11 +57,11 @@ impl Score {
         self.standing
     }
 
-    /// Counts an exchange about these keys of the plan.
-    pub(crate) fn count(&mut self, keys: &[Key], exchange: &Exchange) {
+    /// Counts an exchange about keys that stand at these places.
+    pub(crate) fn count(&mut self, places: &Places, exchange: &Exchange) {
         let courses = self.courses.as_mut_slice();
         for request in &exchange.requests {
-            note_asked(keys, courses, request);
+            note_asked(places, courses, request);
         }
         if exchange.is_unreadable() {
             self.unreadable = self.unreadable.saturating_add(1);
@@ -68,10 +73,15 @@ impl Score {
         self.is_short = true;
     }
 
-    /// So much is known now.
-    pub(crate) fn know(&mut self, client: &Client<'_>) {
-        reach_courses(client, self.courses.as_mut_slice());
-        self.standing = Some(Standing::of(client));
+    /// So much is known now of the key at a place.
+    pub(crate) fn know(&mut self, place: usize, stage: Stage) {
+        if place < self.courses.len() && place < self.verdicts.len() {
+            self.courses[place].reach(stage.done);
+            if let Some(standing) = &mut self.standing {
+                standing.change(self.verdicts[place], stage.verdict);
+            }
+            self.verdicts[place] = stage.verdict;
+        }
     }
 
     /// The tally of a run of these keys that has spent so much.
@@ -124,20 +134,9 @@ fn begin_courses(client: &Client<'_>, courses: &mut [Course]) {
     }
 }
 
-/// Takes what the client knows of each key into its course.
-fn reach_courses(client: &Client<'_>, courses: &mut [Course]) {
-    let count = client.plan().count();
-    for place in 0..count {
-        let done = client.done(place);
-        if place < courses.len() {
-            courses[place].reach(done);
-        }
-    }
-}
-
 /// Notes in the course of the key that a request is about what it asks.
-fn note_asked(keys: &[Key], courses: &mut [Course], request: &Request) {
-    if let Some(place) = place_of(keys, request) {
+fn note_asked(places: &Places, courses: &mut [Course], request: &Request) {
+    if let Some(place) = places.place(request) {
         if place < courses.len() {
             courses[place].ask(request.ask.operation());
         }

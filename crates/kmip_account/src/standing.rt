@@ -25,12 +25,25 @@ impl Standing {
         standing
     }
 
+    /// The verdict on a key was `before`, and is `now`.
+    pub(crate) fn change(&mut self, before: Verdict, now: Verdict) {
+        let count = self.count_of(before);
+        *count = count.saturating_sub(1);
+        self.add(now);
+    }
+
     /// Counts a key of this verdict.
     fn add(&mut self, verdict: Verdict) {
+        let count = self.count_of(verdict);
+        *count = count.saturating_add(1);
+    }
+
+    /// How many keys have this verdict.
+    fn count_of(&mut self, verdict: Verdict) -> &mut u64 {
         match verdict {
-            Verdict::Finished => self.finished = self.finished.saturating_add(1),
-            Verdict::Working => self.working = self.working.saturating_add(1),
-            Verdict::Conflict(_) => self.conflict = self.conflict.saturating_add(1),
+            Verdict::Finished => &mut self.finished,
+            Verdict::Working => &mut self.working,
+            Verdict::Conflict(_) => &mut self.conflict,
         }
     }
 }
