@@ -23,12 +23,10 @@ program=$(realpath "$1")
 cd "$(dirname "$0")/.."
 out=out/bench
 runs=7
-# How long each request of a load of 10,000 objects may take, and how much its cost may grow, by the
-# baseline's; how long one of a load of 100 objects may take; and the bytes of an object beyond its
-# data.
-aim=1.5
+# How long a load may take, and how much the cost of a request may grow, by the baseline's; and the bytes
+# of an object beyond its data.
+aim=0.9
 growth_aim=1.3
-small_aim=2
 memory_aim=300
 # How much longer a simulation of 1,000 keys may take than one of 100.
 sim_aim=11
@@ -300,7 +298,7 @@ build disk
 build input
 build sockets
 
-load '100000 requests over 100 objects' "$small_aim" 1 mix 100000 100
+load '100000 requests over 100 objects' "$aim" 1 mix 100000 100
 load '100000 requests over 10000 objects' "$aim" 1 mix 100000 10000
 load '100000 Locates over 10000 objects' "$aim" 1 locate 10000 100000
 load '10000 Creates' "$aim" 10 create 10000
