@@ -2,15 +2,12 @@
 
 use crate::answers::push_answer_about;
 use crate::exchange::{Exchange, name_of};
-use crate::places::Places;
+use crate::findings::Findings;
 use crate::progress_line::ProgressLine;
 use crate::reach::Reach;
-use crate::score::Score;
 use crate::silence::Silence;
-use crate::stage::Stage;
 use crate::standing::Standing;
 use crate::story::Story;
-use crate::taught::Taught;
 use crate::wire::Wire;
 use kmip_batch_items::Request;
 use kmip_choices::{Peer, RunOptions};
@@ -34,7 +31,6 @@ pub struct Account<'a> {
     rt: &'a HostRuntime,
     options: &'a RunOptions,
     plan: &'a Plan,
-    places: Places,
     /// The server, as it is told.
     peer: String,
     wire: Wire,
@@ -44,13 +40,7 @@ pub struct Account<'a> {
     exchange_began: Cell<Option<Instant>>,
     spent: Cell<Spent>,
     reach: RefCell<Reach>,
-    /// What was heard of each key, in the order of the plan.
-    stories: RefCell<Vec<Story>>,
-    score: RefCell<Score>,
-    /// Of which keys the last exchange may have told.
-    taught: RefCell<Taught>,
-    /// Whether all that the client knows was taken in once: it may have begun with a saved progress.
-    has_known: Cell<bool>,
+    findings: Findings,
 }
 
 impl<'a> Account<'a> {
@@ -65,15 +55,12 @@ impl<'a> Account<'a> {
         saved: Option<&str>,
     ) -> Result<Self, NoMemory> {
         let peer = peer_text(rt.alloc(), &options.peer)?;
-        let places = Places::of(rt.alloc(), plan.keys())?;
-        let stories = stories_of(rt.alloc(), plan.count())?;
-        let score = Score::new(rt.alloc(), plan, saved)?;
+        let findings = Findings::new(rt.alloc(), plan, saved)?;
         let now = Instant::now(rt).ok();
         Ok(Account {
             rt,
             options,
             plan,
-            places,
             peer,
             wire: Wire::new(),
             standing: ProgressLine::new(rt, options.is_verbose),
@@ -86,10 +73,7 @@ impl<'a> Account<'a> {
                 seconds: 0,
             }),
             reach: RefCell::new(Reach::new()),
-            stories: RefCell::new(stories),
-            score: RefCell::new(score),
-            taught: RefCell::new(Taught::Any),
-            has_known: Cell::new(false),
+            findings,
         })
     }
 
@@ -135,61 +119,21 @@ impl<'a> Account<'a> {
         match Exchange::of(alloc, request, answered, &self.wire) {
             Ok(exchange) => {
                 self.spend(&exchange);
-                self.count(&exchange);
-                self.note_taught(&exchange);
+                let _ = self.findings.take_in(alloc, &exchange);
                 let _ = self.tell_reach(exchange.silence, now);
-                let _ = self.keep(&exchange);
                 if self.options.is_verbose {
                     let _ = self.tell_exchange(&exchange, now);
                     self.tell_strangers(&exchange, answered.unwrap_or(None));
                 }
             }
-            Err(NoMemory) => self.fall_short(),
+            Err(NoMemory) => self.findings.fall_short(),
         }
     }
 
     /// So much is known after an exchange.
     pub(crate) fn know(&self, client: &Client<'_>) {
-        match self.taught.try_borrow() {
-            Ok(taught) if self.has_known.get() => self.know_of(client, &taught),
-            Ok(_) | Err(_) => self.know_all(client),
-        }
-        self.has_known.set(true);
+        self.findings.know(client);
         self.standing.show(client, self.spent.get());
-    }
-
-    /// Takes in what the client knows of the keys that were told of.
-    fn know_of(&self, client: &Client<'_>, taught: &Taught) {
-        match taught {
-            Taught::Asked(places) => {
-                for place in places {
-                    self.know_key(client, *place);
-                }
-            }
-            Taught::Any => self.know_all(client),
-        }
-    }
-
-    /// Takes in what the client knows of each key.
-    fn know_all(&self, client: &Client<'_>) {
-        for place in 0..self.plan.count() {
-            self.know_key(client, place);
-        }
-    }
-
-    /// Takes in what the client knows of the key at a place.
-    fn know_key(&self, client: &Client<'_>, place: usize) {
-        let Some(stage) = Stage::of(client, place) else {
-            return;
-        };
-        if let Ok(mut stories) = self.stories.try_borrow_mut() {
-            if place < stories.len() {
-                stories[place].reach(stage);
-            }
-        }
-        if let Ok(mut score) = self.score.try_borrow_mut() {
-            score.know(place, stage);
-        }
     }
 
     /// What is counted of the run, which has come so far as the client knows.
@@ -197,7 +141,7 @@ impl<'a> Account<'a> {
     /// # Errors
     /// Where there is no memory, or there was none to read an exchange.
     pub fn tally(&self, client: &Client<'_>) -> Result<RunTally, NoMemory> {
-        self.know_all(client);
+        self.findings.know_all(client);
         self.tally_so_far()
     }
 
@@ -207,22 +151,15 @@ impl<'a> Account<'a> {
     /// Where there is no memory, or there was none to read an exchange.
     pub fn tally_so_far(&self) -> Result<RunTally, NoMemory> {
         let milliseconds = millis_of(since(self.began, Instant::now(self.rt).ok()));
-        match self.score.try_borrow() {
-            Ok(score) => {
-                let (alloc, keys) = (self.rt.alloc(), self.plan.keys());
-                score.tally(alloc, keys, self.spent.get(), milliseconds)
-            }
-            Err(_) => Err(NoMemory), // never: nobody has it for longer than a call
-        }
+        let (alloc, keys) = (self.rt.alloc(), self.plan.keys());
+        self.findings
+            .tally(alloc, keys, self.spent.get(), milliseconds)
     }
 
     /// How the keys stand by what is known; none where the progress that the run is to begin with is
     /// refused.
     pub fn standing(&self) -> Option<Standing> {
-        match self.score.try_borrow() {
-            Ok(score) => score.standing(),
-            Err(_) => None, // never: nobody has it for longer than a call
-        }
+        self.findings.standing()
     }
 
     /// Ends the line that says how far the run is, where there is one.
@@ -246,43 +183,6 @@ impl<'a> Account<'a> {
             refused: spent.refused.saturating_add(exchange.refusals()),
             seconds: since(self.began, Instant::now(self.rt).ok()).as_secs(),
         });
-    }
-
-    /// Counts what an exchange asked, and what came of it.
-    fn count(&self, exchange: &Exchange) {
-        if let Ok(mut score) = self.score.try_borrow_mut() {
-            score.count(&self.places, exchange);
-        }
-    }
-
-    /// Notes of which keys an exchange may have told.
-    fn note_taught(&self, exchange: &Exchange) {
-        if exchange.silence.is_some() {
-            self.set_taught(Taught::Any);
-            return;
-        }
-        match self
-            .places
-            .places(self.rt.alloc(), exchange.requests.as_slice())
-        {
-            Ok(places) => self.set_taught(Taught::Asked(places)),
-            Err(NoMemory) => self.set_taught(Taught::Any),
-        }
-    }
-
-    /// Of these keys the last exchange may have told.
-    fn set_taught(&self, taught: Taught) {
-        if let Ok(mut last) = self.taught.try_borrow_mut() {
-            *last = taught;
-        }
-    }
-
-    /// There was no memory to read an exchange.
-    fn fall_short(&self) {
-        self.set_taught(Taught::Any);
-        if let Ok(mut score) = self.score.try_borrow_mut() {
-            score.fall_short();
-        }
     }
 
     /// Tells where the server begins or ceases to answer, and where it does not for another reason than
@@ -323,18 +223,6 @@ impl<'a> Account<'a> {
         let again = if is_last { "" } else { "; trying again" };
         let line = format!(in self.rt.alloc(); "no reply from {peer}: {reason}{again}")?;
         Ok(line)
-    }
-
-    /// Notes what was heard of each key that was asked about.
-    fn keep(&self, exchange: &Exchange) -> Result<(), NoMemory> {
-        let Ok(mut stories) = self.stories.try_borrow_mut() else {
-            return Ok(());
-        };
-        let stories = stories.as_mut_slice();
-        for request in &exchange.requests {
-            keep_request(self.rt.alloc(), &self.places, stories, exchange, request)?;
-        }
-        Ok(())
     }
 
     /// Tells an exchange: a line for each key that was asked about.
@@ -410,7 +298,7 @@ impl<'a> Account<'a> {
             self.tell(line.as_str());
             return Ok(());
         }
-        match self.stories.try_borrow() {
+        match self.findings.stories.try_borrow() {
             Ok(stories) => self.tell_stories(stories.as_slice()),
             Err(_) => Ok(()),
         }
@@ -467,15 +355,6 @@ fn peer_text(alloc: Global, peer: &Peer) -> Result<String, NoMemory> {
     }
 }
 
-/// So many stories of which nothing was heard.
-fn stories_of(alloc: Global, count: usize) -> Result<Vec<Story>, NoMemory> {
-    let mut stories = Vec::with_capacity(alloc, count)?;
-    for _ in 0..count {
-        stories.push(Story::new(alloc))?;
-    }
-    Ok(stories)
-}
-
 /// How long it is from one time to another, where both are known.
 fn since(then: Option<Instant>, now: Option<Instant>) -> Duration {
     match (then, now) {
@@ -489,25 +368,6 @@ fn millis_of(time: Duration) -> u64 {
     time.as_secs()
         .saturating_mul(1000)
         .saturating_add(u64::from(time.subsec_millis()))
-}
-
-/// Notes what was heard of the key that a request is about.
-fn keep_request(
-    alloc: Global,
-    places: &Places,
-    stories: &mut [Story],
-    exchange: &Exchange,
-    request: &Request,
-) -> Result<(), NoMemory> {
-    let Some(place) = places.place(request) else {
-        return Ok(());
-    };
-    let name = name_of(request);
-    if place < stories.len() {
-        let operation = request.ask.operation();
-        stories[place].hear(alloc, operation, name, exchange.answer(request))?;
-    }
-    Ok(())
 }
 
 /// Appends the operation that a request asks, and the key that it is about.

@@ -18,6 +18,7 @@ mod course;
 mod exchange;
 mod exchange_line;
 mod failure;
+mod findings;
 mod metrics;
 mod noted;
 mod peer_talk;
