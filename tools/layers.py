@@ -28,7 +28,7 @@ LAYERS = [
     ('client', 'Plan and client', 'what is to be, and what is asked', 'kmip_plan kmip_progress kmip_client'),
     ('server', 'Server', 'the test server', 'kmip_store kmip_server'),
     ('between', 'Between them', 'what may happen, links, runs and campaigns',
-     'kmip_disk kmip_protocol kmip_runs kmip_company kmip_look kmip_scripted kmip_transport kmip_session'),
+     'kmip_disk kmip_protocol kmip_runs kmip_company kmip_look kmip_scripted kmip_transport kmip_session kmip_tally'),
     ('commands', 'Commands', 'what each prints, over any reader, writer and link',
      'kmip_trace kmip_message_commands kmip_choices kmip_simulation kmip_plan_commands kmip_probe kmip_probe_command '
      'kmip_look_command kmip_json'),

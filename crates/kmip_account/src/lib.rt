@@ -3,8 +3,8 @@
 //! `Account` tells of a run: how far it is, why the server does not answer, and what was heard of each
 //! key that is not finished. `Teller` and `Watch` hand it what happens. `Wire` notes what comes over the
 //! streams of an exchange, and a `Noted` stream is its own otherwise. `tell_exchange` is for `probe` and
-//! `serve`. An account also counts: its tally is a `RunTally`, for which `Course` says which steps of a
-//! key the run took. `Standing` says how the keys stand, and `Metrics` is all this as a text.
+//! `serve`. An account also counts: its tally is a `RunTally`, and `Metrics` is that as a text. Which
+//! steps the run took, and how the keys stand, it knows by kmip_tally.
 //!
 //! All is safe and total. None of it has a clause, as std tells a contract nothing of standard error and
 //! of cells. `make troubles`, `make peers` and the stored runs want the lines. test_account wants the
@@ -14,7 +14,6 @@
 mod account;
 mod answers;
 mod counts;
-mod course;
 mod exchange;
 mod exchange_line;
 mod failure;
@@ -30,7 +29,6 @@ mod score;
 mod setback;
 mod silence;
 mod stage;
-mod standing;
 mod story;
 mod taught;
 mod teller;
@@ -38,11 +36,9 @@ mod watch;
 mod wire;
 
 pub use account::Account;
-pub use course::Course;
 pub use exchange_line::tell_exchange;
 pub use metrics::Metrics;
 pub use noted::Noted;
-pub use standing::Standing;
 pub use teller::Teller;
 pub use watch::Watch;
 pub use wire::Wire;

@@ -1,7 +1,7 @@
 //! What is counted of a run, as a text for a collector of metrics.
 
-use crate::standing::Standing;
 use kmip_plan_commands::RunTally;
+use kmip_tally::Standing;
 use std::alloc::{AllocError, Global};
 
 /// The name of a metric, without what all begin with, and what it tells.

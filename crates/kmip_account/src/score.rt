@@ -1,15 +1,14 @@
 //! What is counted of a run beside what its progress line shows.
 
-use crate::course::Course;
 use crate::exchange::Exchange;
 use crate::places::Places;
 use crate::stage::Stage;
-use crate::standing::Standing;
 use kmip_batch_items::Request;
-use kmip_client::{Client, Verdict};
+use kmip_client::Client;
 use kmip_plan::{Key, Plan};
 use kmip_plan_commands::{RunTally, Spent, begin};
 use kmip_progress::ProgressFault;
+use kmip_tally::{Course, Standing, Verdicts};
 use kmip_ttlv::NoMemory;
 use std::alloc::Global;
 
@@ -18,10 +17,8 @@ use std::alloc::Global;
 pub(crate) struct Score {
     /// The course of each key, in the order of the plan.
     courses: Vec<Course>,
-    /// The verdict on each key that is counted in how the keys stand.
-    verdicts: Vec<Verdict>,
-    /// How the keys stand; none where the progress that the run is to begin with is refused.
-    standing: Option<Standing>,
+    /// The verdict on each key; none where the progress that the run is to begin with is refused.
+    verdicts: Option<Verdicts>,
     /// How many exchanges brought a reply that cannot be read.
     unreadable: u64,
     /// Whether there was no memory to read an exchange, of which nothing is counted then.
@@ -35,18 +32,17 @@ impl Score {
     /// Where there is no memory.
     pub(crate) fn new(alloc: Global, plan: &Plan, saved: Option<&str>) -> Result<Self, NoMemory> {
         let mut courses = untaken(alloc, plan.count())?;
-        let (verdicts, standing) = match begin(alloc, plan, saved) {
+        let verdicts = match begin(alloc, plan, saved) {
             Ok(client) => {
                 begin_courses(&client, courses.as_mut_slice());
-                (client.verdicts(alloc)?, Some(Standing::of(&client)))
+                Some(Verdicts::of(client.verdicts(alloc)?))
             }
             Err(ProgressFault::NoMemory) => return Err(NoMemory),
-            Err(_) => (Vec::new(alloc), None), // the run refuses it, and asks nothing
+            Err(_) => None, // the run refuses it, and asks nothing
         };
         Ok(Score {
             courses,
             verdicts,
-            standing,
             unreadable: 0,
             is_short: false,
         })
@@ -54,7 +50,8 @@ impl Score {
 
     /// How the keys stand; none where the progress that the run is to begin with is refused.
     pub(crate) fn standing(&self) -> Option<Standing> {
-        self.standing
+        let verdicts = self.verdicts.as_ref()?;
+        Some(verdicts.standing())
     }
 
     /// Counts an exchange about keys that stand at these places.
@@ -75,12 +72,13 @@ impl Score {
 
     /// So much is known now of the key at a place.
     pub(crate) fn know(&mut self, place: usize, stage: Stage) {
-        if place < self.courses.len() && place < self.verdicts.len() {
+        if place < self.courses.len() {
             self.courses[place].reach(stage.done);
-            if let Some(standing) = &mut self.standing {
-                standing.change(self.verdicts[place], stage.verdict);
+        }
+        if let Some(verdicts) = &mut self.verdicts {
+            if place < verdicts.len() {
+                verdicts.set(place, stage.verdict);
             }
-            self.verdicts[place] = stage.verdict;
         }
     }
 

@@ -1,10 +1,11 @@
 //! What is counted of a run, and its text. The counts and the text were worked out by hand.
 
 use Operation::{Activate, Create, Destroy, GetAttributes, Locate, Revoke};
-use kmip_account::{Course, Metrics, Standing};
+use kmip_account::Metrics;
 use kmip_batch_items::Operation;
 use kmip_plan::read_plan;
 use kmip_plan_commands::RunTally;
+use kmip_tally::{Course, Standing};
 use std::process::Abort;
 use std::test::Fail;
 
