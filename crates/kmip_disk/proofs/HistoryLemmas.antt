@@ -84,7 +84,8 @@ last_end xs i c le = ap (λ (l : List (Vec ℕ Global)). last_of c (texts_of l))
 pub saved_by : {E : Type 0} (a b c : DiskView) (text : List ℕ) (u : Unit {0}) (result : Result (Unit {0}) E) → WritesWhole {E = E} a text (Ok u) b → Closes b result c → Saves a text result c
 saved_by {E} a b c text u result wrote closed = record {
   lawful = closed.lawful;
-  saved = on_ok result (λ only. (closed.same ∙ wrote.written.file, closed.still wrote.written.durable, (λ x left. only x left ∙ wrote.written.file))) (closed.durable wrote.written.durable);
+  written = on_ok result (λ same. record { file = closed.same ∙ wrote.written.file; durable = closed.still wrote.written.durable; tidy = same ∙ wrote.written.tidy }) closed.beside;
+  lasts = on_ok result (λ only. λ x left. only x left ∙ wrote.written.file) (closed.durable wrote.written.durable);
   whole = inr (closed.same ∙ wrote.written.file);
   any_moment = closed_on a b c (IsBeforeOrText a text) wrote.lawful wrote.any_moment closed.any_moment;
   still = λ was. closed.still (wrote.still was);
@@ -99,7 +100,8 @@ saved_by {E} a b c text u result wrote closed = record {
 pub saved_not : {E : Type 0} (a b : DiskView) (text : List ℕ) (fault : E) → WritesWhole {E = E} a text (Err fault) b → Saves {E = E} a text (Err fault) b
 saved_not a b text fault wrote = record {
   lawful = wrote.lawful;
-  saved = tt;
+  written = tt;
+  lasts = tt;
   whole = wrote.whole;
   any_moment = wrote.any_moment;
   still = wrote.still;

@@ -87,8 +87,8 @@ drop_front (suc t) [] more le = absurd (omega arith)
 drop_front (suc t) (file ∷ files) more le = drop_front t files more (omega arith)
 
 -- what stood in the file's place is gone for good
-pub folder_synced : {E : Type 0} (old new : MemoryDisk) (u : Unit {0}) → new.file ≡ old.file → new.back.items ≡ [] → new.gone.items ≡ old.gone.items ++ old.back.items → Counts {E = E} (memory_view old) (Ok u) (memory_view new) → SyncsFolder {E = E} (memory_view old) (Ok u) (memory_view new)
-folder_synced old new u file back gone counted = record {
+pub folder_synced : {E : Type 0} (old new : MemoryDisk) (u : Unit {0}) → new.file ≡ old.file → new.beside ≡ old.beside → new.back.items ≡ [] → new.gone.items ≡ old.gone.items ++ old.back.items → Counts {E = E} (memory_view old) (Ok u) (memory_view new) → SyncsFolder {E = E} (memory_view old) (Ok u) (memory_view new)
+folder_synced old new u file beside back gone counted = record {
   alone = record {
     lawful = tt;
     file = ap bytes_of file;
@@ -100,6 +100,7 @@ folder_synced old new u file back gone counted = record {
       keeps = λ t c le. ⊎_elim (λ now. inl (subst (λ (f : Option StoredFile). IsOutcome f c) (sym file) now)) (λ one. inr (subst (λ (b : Files). IsOutcomeOfOne b c) (sym (since t le)) one));
     };
   };
+  same = ap bytes_of beside;
   durable = durable;
   counted = counted;
 }

@@ -1,6 +1,6 @@
 -- What the calls of a disk do, and what a crash may leave during each and after it. Where a call fails, what it
 -- was to do is done, or in part, or not: only what a crash may leave is promised.
--- Source: POSIX.1-2017, rename(), fsync(), unlink(), open(); fsync(2) of Linux for what a folder's fsync brings
+-- Source: POSIX.1-2017, rename(), fdatasync(), unlink(), open(); fsync(2) of Linux for what a folder's fsync brings
 -- to the disk; own (limit) that failures are counted up to 2^64 - 1.
 use Rattle.std.specs.Prelude.{◌≡◌, ◌⊎◌, ◌≤◌, ◌+◌, ◌-◌, ◌^◌, ◌++◌, min, IfOk, List, None, OnErr, OnOk, Option, Result, Some, [], ℕ, option_map}
 use Rattle.kmip_disk.specs.Views.{Content, DiskView}
@@ -91,6 +91,8 @@ pub record Renames {E : Type 0} (old : DiskView) (result : Result (Unit {0}) E) 
 pub record SyncsFolder {E : Type 0} (old : DiskView) (result : Result (Unit {0}) E) (new : DiskView) : Type 0 where
   -- The file stays as it was, also at a fault.
   pub alone : LeavesFile old new
+  -- At `Ok` the file beside is as it was.
+  pub same : OnOk result (new.beside ≡ old.beside)
   -- At `Ok` a crash leaves what it may leave of the file that stands there, and of no file before it.
   pub durable : OnOk result ((c : Content) → new.may_leave c → old.file_may_keep c)
   -- A failure is counted.

@@ -1,6 +1,6 @@
 -- All that a contract sees of a disk at a moment, as one value. It has one file, the file beside it, and their
 -- folder.
--- Source: own (view). The words are those of POSIX.1-2017: rename(), fsync() and unlink().
+-- Source: own (view). The words are those of POSIX.1-2017: rename(), fdatasync() and unlink().
 use Rattle.std.specs.Prelude.{◌≤◌, List, Option, ℕ}
 
 -- What stands at a name: the bytes of a file, or none where there is no file.

@@ -54,6 +54,8 @@ pub record Closes {E : Type 0} (old : DiskView) (result : Result (Unit {0}) E) (
   pub same : new.file ≡ old.file
   -- A crash at any moment of the call leaves what it might have left before.
   pub any_moment : LeavesOnly old new old.may_leave
+  -- At `Ok` the file beside is as it was.
+  pub beside : OnOk result (new.beside ≡ old.beside)
   -- At `Ok` a crash leaves what a read gives and nothing else, where the bytes of the file were on the disk.
   pub durable : IsWritten old → OnOk result ((c : Content) → new.may_leave c → c ≡ old.file)
   -- Where the bytes of the file were on the disk before, they are after it.
@@ -69,8 +71,10 @@ LeavesText view text = (c : Content) → view.may_leave c → c ≡ Some text
 pub record Saves {E : Type 0} (old : DiskView) (text : List ℕ) (result : Result (Unit {0}) E) (new : DiskView) : Type 0 where
   -- The disk keeps the rules after it.
   pub lawful : new.lawful
-  -- At `Ok` a read gives the text, its bytes are on the disk, and a crash leaves it and nothing else.
-  pub saved : OnOk result ((new.file ≡ Some text) × IsWritten new × LeavesText new text)
+  -- At `Ok` a read gives the text, its bytes are on the disk, and there is no file beside.
+  pub written : OnOk result (HasText new text)
+  -- At `Ok` a crash leaves the text and nothing else.
+  pub lasts : OnOk result (LeavesText new text)
   -- However it ends, a read gives the text, or what it gave before.
   pub whole : (new.file ≡ old.file) ⊎ (new.file ≡ Some text)
   -- A crash at any moment of the call leaves what it might have left before, or the text, and no torn one.

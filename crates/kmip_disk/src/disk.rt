@@ -12,9 +12,10 @@ use std::alloc::Global;
 ///
 /// The rules are these premises of a real disk. A rename puts the one file in the other's place at once:
 /// no reader, and no crash, finds neither or a mixture (POSIX.1-2017, rename(); a crash: the journals of
-/// ext4 and xfs and the trees of btrfs). After fsync() of a file its bytes outlast a crash (POSIX.1-2017,
-/// fsync(), with _POSIX_SYNCHRONIZED_IO). After fsync() of a folder its names do (fsync(2) of Linux). Until
-/// then a crash may leave any bytes in the file, and may undo the rename. No one else writes the two files.
+/// ext4 and xfs and the trees of btrfs). After fdatasync() of a file its bytes outlast a crash (POSIX.1-2017,
+/// fdatasync(), with _POSIX_SYNCHRONIZED_IO). After fsync() of a folder its names do (fsync(2) of Linux).
+/// Until then a crash may leave any bytes in the file, and may undo the rename. No one else writes the two
+/// files.
 pub trait Disk {
     /// Why a call failed: the system's own word, which a caller may print.
     type Fault: Drop;
@@ -22,10 +23,13 @@ pub trait Disk {
     /// What is seen of it: what reads give, what a crash may leave, and whether it keeps the rules.
     ghost view: { Self → DiskView };
 
-    /// Makes an empty file beside the file, in place of one that is left there.
+    /// Whether this fault says that memory ran out.
+    fn is_out_of_memory(fault: &Self::Fault) -> bool;
+
+    /// Makes an empty file beside the file.
     ///
     /// # Errors
-    /// Where it cannot be made.
+    /// If it cannot be made, or if a file is there already.
     fn create_beside(&mut self) -> Result<(), Self::Fault>
         ensures { (view self.old).lawful → CreatesBeside (view self.old) result (view self.new) };
 

@@ -196,6 +196,10 @@ impl Disk for MemoryDisk {
 
     ghost view = { memory_view };
 
+    fn is_out_of_memory(fault: &MemoryFault) -> bool {
+        matches!(fault, MemoryFault::NoMemory)
+    }
+
     fn create_beside(&mut self) -> Result<(), MemoryFault> {
         self.turns.take_turn()?;
         self.beside = Some(StoredFile {

@@ -1,6 +1,6 @@
 //! A file that is replaced as a whole.
 ghost use Rattle.std.specs.Prelude.{IfSome, IsTrue, Some, map, option_map, ◌≡◌};
-ghost use Rattle.kmip_disk.specs.Calls.{ReadsFile};
+ghost use Rattle.kmip_disk.specs.Calls.{CreatesBeside, ReadsFile};
 ghost use Rattle.kmip_disk.specs.PrivateWhole.{PutsBeside, Replaces};
 ghost use Rattle.kmip_disk.specs.Whole.{Closes, HasText, Saves, WritesEach, WritesWhole};
 
@@ -129,7 +129,24 @@ fn put_beside<D: Disk>(disk: &mut D, text: &[u8]) -> Result<(), D::Fault>
     ensures { (D.view disk.old).lawful
         → PutsBeside (D.view disk.old) text.now result (D.view disk.new) }
 {
-    disk.create_beside()?;
+    create(disk)?;
     disk.write_beside(text)?;
     disk.sync_beside()
+}
+
+/// Makes an empty file beside the file. A file that a run left there is removed.
+///
+/// # Errors
+/// Why the file could not be made at first, if none could be removed.
+fn create<D: Disk>(disk: &mut D) -> Result<(), D::Fault>
+    ensures { (D.view disk.old).lawful
+        → CreatesBeside (D.view disk.old) result (D.view disk.new) }
+{
+    let Err(fault) = disk.create_beside() else {
+        return Ok(());
+    };
+    match disk.remove_beside() {
+        Ok(()) => disk.create_beside(),
+        Err(_) => Err(fault),
+    }
 }

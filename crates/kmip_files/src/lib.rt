@@ -16,6 +16,7 @@ mod reading;
 mod replacing;
 
 pub use lock_fault::LockFault;
+pub use machine_disk::MachineDisk;
 pub use progress_file::{MOST_FILE_BYTES, MOST_PROGRESS_BYTES, ProgressFile};
 pub use progress_lock::ProgressLock;
 pub use public_file::PublicFile;

@@ -13,7 +13,7 @@ use std::os::unix::fs::OpenOptionsExt;
 /// No clause says that it keeps the rules of a disk. That is a premise about the machine's file system, and
 /// about who else writes there.
 #[derive(Drop)]
-pub(crate) struct MachineDisk<'a, R: Files> {
+pub struct MachineDisk<'a, R: Files> {
     rt: &'a R,
     path: &'a str,
     /// The path of the file beside.
@@ -36,8 +36,10 @@ impl<'a, R: Files> MachineDisk<'a, R> {
             file: None,
         }
     }
+}
 
-    /// Makes the file beside, where there is none.
+impl<'a, R: Files> MachineDisk<'a, R> {
+    /// Makes the file beside, if there is none.
     fn make_beside(&self) -> io::Result<R::File> {
         let mut options = OpenOptions::new();
         options.write(true).create_new(true).mode(self.mode);
@@ -51,6 +53,10 @@ impl<'a, R: Files> Disk for MachineDisk<'a, R> {
     type Fault = Error;
 
     ghost view = { λ disk. unclaimed 0 };
+
+    fn is_out_of_memory(fault: &Error) -> bool {
+        fault.kind() == ErrorKind::OutOfMemory
+    }
 
     fn create_beside(&mut self) -> io::Result<()> {
         let made = match self.make_beside() {

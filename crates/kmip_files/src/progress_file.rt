@@ -5,7 +5,7 @@ use crate::lock_fault::LockFault;
 use crate::machine_disk::MachineDisk;
 use crate::progress_lock::ProgressLock;
 use crate::reading::text_at;
-use crate::replacing::{path_beside, save, whole_file};
+use crate::replacing::{path_beside, save};
 use kmip_disk::WholeFile;
 use std::alloc::Global;
 use std::fs::{self, File, Files};
@@ -55,13 +55,18 @@ impl<'a, R: Files + AllocGlobal> ProgressFile<'a, R> {
     }
 
     /// The file, on the disk of this machine.
-    fn whole(&self) -> WholeFile<MachineDisk<'_, R>> {
-        whole_file(
+    pub fn disk(&self) -> MachineDisk<'_, R> {
+        MachineDisk::at(
             self.rt,
             self.path.as_str(),
             self.beside.as_str(),
             OWNER_ALONE,
         )
+    }
+
+    /// The file, which is replaced as a whole.
+    fn whole(&self) -> WholeFile<MachineDisk<'_, R>> {
+        WholeFile { disk: self.disk() }
     }
 
     /// The system that has the file.

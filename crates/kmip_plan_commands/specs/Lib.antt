@@ -22,6 +22,8 @@ pub mod ProgressRefusals
 pub mod Course
 -- what a run promises
 pub mod Runs
+-- what holds of runs after a crash
+pub mod Laws
 -- the line that says how far a run is
 pub mod ProgressLineText
 -- how the keys of a plan stand, by what is known of them and the verdicts on them

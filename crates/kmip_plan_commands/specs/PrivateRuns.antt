@@ -34,7 +34,7 @@ EndsExchanges came keys limit client None exchanges = came (record { knowns = cl
 pub record CarriesToEnd (old : ClientState) (limit : ℕ) (change : RunChange) (ended : Result (Option Stop × ℕ) NoMemory) (new : ClientState) : Type 0 where
   -- How they ended has come of them.
   pub ends : IfOk ended (λ made. EndsExchanges
-      (Came limit old.batch (λ keys. IsGood old change.before.link) change.before change.after old.keys old.knowns)
+      (Came limit (λ keys. IsGood old change.before.link) change.before change.after old)
       old.keys limit new made.0 made.1)
   -- It asks that all is good before.
   pub over : RunsOver (IsGood old change.before.link) old.keys old.batch

@@ -12,7 +12,7 @@ use Rattle.kmip_plan.specs.declared.key.Key.{Key}
 use Rattle.kmip_plan.specs.declared.plan_fault.PlanFault.{PlanFault}
 use Rattle.kmip_protocol.specs.Past.{is_planned}
 use Rattle.kmip_ttlv.specs.declared.no_memory.NoMemory.{NoMemory}
-use Rattle.kmip_plan_commands.specs.Course.{AsksFew, Came, IsGoodStart, KeepsSafe, LeavesTrue, RunState}
+use Rattle.kmip_plan_commands.specs.Course.{AsksFew, Came, begun_client, IsGoodStart, KeepsSafe, LeavesTrue, RunState}
 use Rattle.kmip_plan_commands.specs.RunEnds.{EndsRun, Outcome}
 use Rattle.kmip_plan_commands.specs.RunText.{WritesEnd}
 use Rattle.kmip_plan_commands.specs.declared.run_end.RunEnd.{RunEnd}
@@ -91,8 +91,9 @@ call_in_memory report path result old new = record {
 
 -- What came of the exchanges of a run that begins with these, where each is about these keys.
 abbrev pub CameOf : RunStart → RunChange → List Key → List Knowledge → Outcome → Type 0
-CameOf start change =
-    Came start.limit start.batch (IsGoodStart start.saved change.before.link) change.before change.after
+CameOf start change keys knowns =
+    Came start.limit (IsGoodStart start.saved change.before.link) change.before change.after
+    (begun_client keys knowns start.batch)
 
 -- How a run ended, for what was read of a plan.
 abbrev pub EndsRead : Result (List Key) PlanFault → RunStart → RunChange → Result RunEnd PlanFault → Type 0
@@ -105,10 +106,10 @@ pub record RunsOver (good : Type 0) (keys : List Key) (most : ℕ) (old new : Ru
   -- and that the progress, if any, is true. Then all of that holds of the link after the run too, however it
   -- ends (`KeepsSafe`).
   pub safe : good → KeepsSafe keys old.link new.link
-  -- It asks that too, and that the keeper's disk keeps the rules, and that what a crash might have left before
-  -- is true. Then whatever a crash at any moment of the run leaves is true, however it ends: so the next run
+  -- It asks that too, and that the keeper's disk keeps the rules. Then whatever a crash at any time during the run
+  -- leaves is what it might have left before, or a whole text that is true, however the run ends: so the next run
   -- may begin with it.
-  pub any_moment : good → LeavesTrue keys old new
+  pub any_moment : good → LeavesTrue new.link.past.objects keys old.keeper.disk new.keeper.disk
   -- Over a link that is honest for the names of the plan, each message that was sent asks about keys of the
   -- plan, each once, and about no more than the input says. That is not said where it ends with a fault.
   pub few : old.link.honest (is_planned keys) → Whole (AsksFew keys most old.link.past new.link.past)

@@ -28,6 +28,8 @@ pub fn begin<'p>(
         (begin_knowns plan.now (option_map (λ text. text.now) saved.entry)) }
     // The client's plan is this one.
     ensures keys { IfOk result (λ client. client.keys ≡ plan.now) }
+    // The first key is next.
+    ensures next { IfOk result (λ client. client.next ≡ 0) }
     // Where the text says what is true of some objects, what the client knows is true of them.
     ensures held { (objects : List Object)
         → IsTrueText objects plan.now (option_map (λ text. text.now) saved.entry)

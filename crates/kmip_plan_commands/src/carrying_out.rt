@@ -9,10 +9,11 @@ use crate::beginning::begin;
 use crate::run_end::RunEnd;
 use crate::run_input::RunInput;
 use kmip_client::Client;
-use kmip_client::laws::{onward_is_an_order, truth_is_for_good};
+use kmip_client::laws::onward_is_an_order;
 use kmip_plan::Plan;
 use kmip_progress::ProgressFault;
 use kmip_protocol::Link;
+use kmip_protocol::laws::sound_is_safe;
 use kmip_runs::{Keeper, Patience, SaveFault, Stop, carry_out};
 use kmip_ttlv::NoMemory;
 use std::alloc::Global;
@@ -40,12 +41,15 @@ pub fn run_to_end<'a, L: Link, K: Keeper, E: Patience>(
     ensures { RunsPlan plan.now
         (run_start (option_map (λ text. text.now) saved.entry) input.now.batch input.now.limit)
         (run_change
-        (run_state (L.seen link.old) (K.kept keeper.old) (E.has_given_up patience.old))
-        (run_state (L.seen link.new) (K.kept keeper.new) (E.has_given_up patience.new))
+        (run_state (L.seen link.old) (K.kept keeper.old) (E.has_given_up patience.old)
+        (E.asked patience.old))
+        (run_state (L.seen link.new) (K.kept keeper.new) (E.has_given_up patience.new)
+        (E.asked patience.new))
         (AreUntouched link.old link.new keeper.old keeper.new))
         (call_to_end result) }
 {
     onward_is_an_order();
+    sound_is_safe();
     match begin(alloc, plan, saved) {
         Ok(client) => {
             let mut client = client;
@@ -81,14 +85,13 @@ fn carry_to_end<L: Link, K: Keeper, E: Patience>(
 ) -> Result<(Option<Stop>, usize), NoMemory>
     ensures { CarriesToEnd client.old limit
         (run_change
-        (run_state (L.seen link.old) (K.kept keeper.old) (E.has_given_up patience.old))
-        (run_state (L.seen link.new) (K.kept keeper.new) (E.has_given_up patience.new))
+        (run_state (L.seen link.old) (K.kept keeper.old) (E.has_given_up patience.old)
+        (E.asked patience.old))
+        (run_state (L.seen link.new) (K.kept keeper.new) (E.has_given_up patience.new)
+        (E.asked patience.new))
         (AreUntouched link.old link.new keeper.old keeper.new))
         result client.new }
 {
-    // proof: what was true stays so, for the keys of a lawful plan
-    truth_is_for_good();
-    let _plan = client.plan();
     let (ended, exchanges) = carry_out(alloc, client, link, keeper, patience, limit);
     match ended {
         Ok(Stop::NoMemory) | Err(SaveFault::NoMemory) => Err(NoMemory),

@@ -28,6 +28,7 @@ mod checking;
 mod checking_after;
 mod ending;
 mod key_standing;
+pub mod laws;
 mod line;
 mod listing;
 mod playing;

@@ -19,6 +19,7 @@ use kmip_client::laws::onward_is_an_order;
 use kmip_message_commands::{CommandFault, ExitStatus, Printed, Printer, finished};
 use kmip_plan::{Plan, PlanFault, read_plan};
 use kmip_protocol::Link;
+use kmip_protocol::laws::sound_is_safe;
 use kmip_runs::{Keeper, Patience};
 use kmip_ttlv::NoMemory;
 use std::alloc::Global;
@@ -42,8 +43,10 @@ pub fn run_run<L: Link, K: Keeper, E: Patience, W: Write>(
     ensures { RunsText (plan_read plan.now)
         (run_start (option_map (λ text. text.now) saved.entry) input.now.batch input.now.limit)
         (run_change
-        (run_state (L.seen link.old) (K.kept keeper.old) (E.has_given_up patience.old))
-        (run_state (L.seen link.new) (K.kept keeper.new) (E.has_given_up patience.new))
+        (run_state (L.seen link.old) (K.kept keeper.old) (E.has_given_up patience.old)
+        (E.asked patience.old))
+        (run_state (L.seen link.new) (K.kept keeper.new) (E.has_given_up patience.new)
+        (E.asked patience.new))
         (AreUntouched link.old link.new keeper.old keeper.new))
         (call_ended input.now.report input.now.path.now result
         (W.contents writer.old) (W.contents writer.new)) }
@@ -68,8 +71,10 @@ pub fn run_plan<L: Link, K: Keeper, E: Patience, W: Write>(
     ensures { RunsPlan plan.now
         (run_start (option_map (λ text. text.now) saved.entry) input.now.batch input.now.limit)
         (run_change
-        (run_state (L.seen link.old) (K.kept keeper.old) (E.has_given_up patience.old))
-        (run_state (L.seen link.new) (K.kept keeper.new) (E.has_given_up patience.new))
+        (run_state (L.seen link.old) (K.kept keeper.old) (E.has_given_up patience.old)
+        (E.asked patience.old))
+        (run_state (L.seen link.new) (K.kept keeper.new) (E.has_given_up patience.new)
+        (E.asked patience.new))
         (AreUntouched link.old link.new keeper.old keeper.new))
         (call_ended input.now.report input.now.path.now result
         (W.contents writer.old) (W.contents writer.new)) }
@@ -90,13 +95,11 @@ pub fn run_plan<L: Link, K: Keeper, E: Patience, W: Write>(
 ///
 /// The result is true where something was refused, not kept, or left unfinished.
 ///
-/// A run that is killed, or whose machine stops, at any moment, leaves a file from which the next run may
-/// begin (`LeavesTrue`).
+/// If the keeper's file is on a disk that keeps the rules of one, a run that is killed, or whose machine
+/// stops, leaves a file from which the next run may begin (`LeavesTrue`).
 ///
-/// That is said of every link, every keeper and every writer. Of the link over sockets that kmipctl
-/// gives, no clause says that it is honest; of this machine's files none says that they keep the rules of
-/// a disk. Both are premises in words. `run` calls `kmip_runs::carry_out` once; what that promises beyond
-/// this stands there.
+/// That is said of every link, every keeper and every writer. `run` calls `kmip_runs::carry_out` once,
+/// which promises more.
 ///
 /// # Errors
 /// `Output` where the writer fails, and `NoMemory`: nothing is written then. What the keeper was given
@@ -116,8 +119,10 @@ pub fn run<L: Link, K: Keeper, E: Patience, W: Write>(
     ensures { RunsText (plan_read plan.now)
         (run_start (option_map (λ text. text.now) saved.entry) input.now.batch input.now.limit)
         (run_change
-        (run_state (L.seen link.old) (K.kept keeper.old) (E.has_given_up patience.old))
-        (run_state (L.seen link.new) (K.kept keeper.new) (E.has_given_up patience.new))
+        (run_state (L.seen link.old) (K.kept keeper.old) (E.has_given_up patience.old)
+        (E.asked patience.old))
+        (run_state (L.seen link.new) (K.kept keeper.new) (E.has_given_up patience.new)
+        (E.asked patience.new))
         (AreUntouched link.old link.new keeper.old keeper.new))
         (call_on_writer input.now.report input.now.path.now result
         (W.contents writer.old) (W.contents writer.new)) }
@@ -144,8 +149,10 @@ pub fn run_bytes<L: Link, K: Keeper, E: Patience>(
     ensures { RunsText (plan_read plan.now)
         (run_start (option_map (λ text. text.now) saved.entry) input.now.batch input.now.limit)
         (run_change
-        (run_state (L.seen link.old) (K.kept keeper.old) (E.has_given_up patience.old))
-        (run_state (L.seen link.new) (K.kept keeper.new) (E.has_given_up patience.new))
+        (run_state (L.seen link.old) (K.kept keeper.old) (E.has_given_up patience.old)
+        (E.asked patience.old))
+        (run_state (L.seen link.new) (K.kept keeper.new) (E.has_given_up patience.new)
+        (E.asked patience.new))
         (AreUntouched link.old link.new keeper.old keeper.new))
         (call_in_memory input.now.report input.now.path.now result
         output.old.items output.new.items) }
@@ -189,13 +196,16 @@ fn run_to<L: Link, K: Keeper, E: Patience, P: Printer>(
     ensures { RunsText (plan_read plan.now)
         (run_start (option_map (λ text. text.now) saved.entry) input.now.batch input.now.limit)
         (run_change
-        (run_state (L.seen link.old) (K.kept keeper.old) (E.has_given_up patience.old))
-        (run_state (L.seen link.new) (K.kept keeper.new) (E.has_given_up patience.new))
+        (run_state (L.seen link.old) (K.kept keeper.old) (E.has_given_up patience.old)
+        (E.asked patience.old))
+        (run_state (L.seen link.new) (K.kept keeper.new) (E.has_given_up patience.new)
+        (E.asked patience.new))
         (AreUntouched link.old link.new keeper.old keeper.new))
         (call_on_printer input.now.report input.now.path.now result P.own_fault P.IsWhole
         (P.contents printer.old) (P.contents printer.new)) }
 {
     onward_is_an_order();
+    sound_is_safe();
     match read_plan(alloc, plan) {
         Ok(plan) => run_plan_to(alloc, &plan, input, saved, link, keeper, patience, printer),
         Err(fault) => print_refusal(alloc, &fault, printer),
@@ -244,8 +254,10 @@ fn run_plan_to<L: Link, K: Keeper, E: Patience, P: Printer>(
     ensures { RunsPlan plan.now
         (run_start (option_map (λ text. text.now) saved.entry) input.now.batch input.now.limit)
         (run_change
-        (run_state (L.seen link.old) (K.kept keeper.old) (E.has_given_up patience.old))
-        (run_state (L.seen link.new) (K.kept keeper.new) (E.has_given_up patience.new))
+        (run_state (L.seen link.old) (K.kept keeper.old) (E.has_given_up patience.old)
+        (E.asked patience.old))
+        (run_state (L.seen link.new) (K.kept keeper.new) (E.has_given_up patience.new)
+        (E.asked patience.new))
         (AreUntouched link.old link.new keeper.old keeper.new))
         (call_on_printer input.now.report input.now.path.now result P.own_fault P.IsWhole
         (P.contents printer.old) (P.contents printer.new)) }

@@ -18,6 +18,7 @@ use Rattle.kmip_client.specs.Places.{Onward, position}
 use Rattle.kmip_client.specs.Verdicts.{counts_of, verdicts_of}
 use Rattle.kmip_client.specs.declared.knowledge.Knowledge.{Knowledge}
 use Rattle.kmip_protocol.specs.Amid.{PassedAmid, seen_by_others}
+use Rattle.kmip_protocol.specs.Headline.{Safe}
 use Rattle.kmip_protocol.specs.Laws.{IsReached}
 use Rattle.kmip_protocol.specs.Past.{Past}
 use Rattle.kmip_protocol.specs.Seen.{Seen}
@@ -155,6 +156,13 @@ counts_reached objects [] [] held = tt
 counts_reached objects [] (known ∷ knowns) held = absurd held
 counts_reached objects (key ∷ keys) [] held = absurd held
 counts_reached objects (key ∷ keys) (known ∷ knowns) held = (held.0.holds.done_true, counts_reached objects keys knowns held.1)
+
+-- if all is good, the past is safe for what is known
+pub known_is_safe : CampaignLaws → (keys : List Key) (p : Past) (knowns : List Knowledge) → IsLawful keys → Sound keys p → Held p.objects keys knowns
+    → Safe keys p (reported_by keys (counts_of knowns))
+known_is_safe l keys p knowns lawful sound held =
+    l.safe keys p (reported_by keys (counts_of knowns)) sound
+    (by_reached l keys p keys (counts_of knowns) (all_of l keys lawful) (counts_reached p.objects keys knowns held))
 
 none_clashes : (key : Key) (known : Knowledge) → known.clash ≡ None → IsNoClash (verdict_of key known)
 none_clashes key known none = λ clash is. elim (cases_Bool (nat_le (chain_length key) known.done)) [

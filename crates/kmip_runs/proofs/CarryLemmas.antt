@@ -1,5 +1,5 @@
 -- Carrying out a plan: exchanges, what is saved of them, and the end.
-use Rattle.std.proofs.Common.{Option, Some, None, Bool, true, ◌++◌, ◌≡◌, ◌≢◌, ◌≤◌, ◌⊎◌, ℕ, suc, ◌+◌, nat_le, List, [], ◌∷◌, Result, Ok, Err, IfOk, OnErr, OnOk, false, sym, ap, subst, refl, ◌∙◌, inl, inr, arith}
+use Rattle.std.proofs.Common.{Option, Some, None, Bool, true, ◌++◌, ◌≡◌, ◌≢◌, ◌≤◌, ◌⊎◌, ℕ, suc, ◌+◌, nat_le, List, [], ◌∷◌, Result, Ok, Err, IfOk, OnErr, OnOk, false, sym, ap, append-nil, subst, refl, ◌∙◌, inl, inr, arith}
 use Rattle.std.proofs.lemmas.Bool.{cases_Bool, le-ltb, leb-true}
 use Rattle.kmip_objects.specs.Objects.{Object}
 use Rattle.kmip_plan.specs.Chains.{bound}
@@ -23,17 +23,19 @@ use Rattle.kmip_runs.specs.declared.stop.Stop.{Stop}
 use Rattle.kmip_runs.specs.declared.stop.Stop.TheVariants as stops
 use Rattle.kmip_runs.specs.Private.{IsBrokenOff, exchanges_made}
 use Rattle.kmip_runs.specs.Keeping.{Kept, MakesLast}
-use Rattle.kmip_runs.specs.Lasting.{Leaves}
+use Rattle.kmip_runs.specs.Lasting.{IsTried, KeepsMoments}
 use Rattle.kmip_runs.specs.PrivateCarried.{Carried, CarryingLaws, SavesProgress, Went}
 use Rattle.kmip_runs.specs.PrivateTurns.{MakesTurn}
-use Rattle.kmip_runs.specs.Saved.{AreSaved, AreUnsaved, Grounds, IsInMemory, IsLeft, IsWhole, Situation, Snapshot, grounds_in, moment, snapshot, snapshot_in, text_at}
+use Rattle.kmip_runs.specs.Saved.{AreUnsaved, Grounds, IsInMemory, IsLeft, IsWhole, Situation, grounds_in, moment, text_at}
 use Rattle.kmip_runs.specs.declared.save_fault.SaveFault.{SaveFault}
 use Rattle.kmip_runs.specs.declared.turn_fault.TurnFault.{TurnFault}
 use Rattle.kmip_runs.specs.declared.turn_fault.TurnFault.TheVariants.{Unmade, Unheard}
 use Rattle.kmip_runs.proofs.KnownLemmas.{learnt_nothing, learnt_still, stays_itself}
-use Rattle.kmip_runs.proofs.LastingLemmas.{leaves_closed, leaves_ended, leaves_from, leaves_not, leaves_one, leaves_same, leaves_then}
-use Rattle.kmip_runs.proofs.SavedLemmas.{StaysTrue, same_text, saved_broken, saved_closed, saved_none, saved_not, saved_one, saved_then}
-use Rattle.kmip_runs.proofs.WentLemmas.{kept_itself, learnt_delivered, stop_is, went_closed, went_nowhere, went_then, went_unbegun}
+use Rattle.kmip_runs.proofs.KeptLemmas.{keeps_closed, keeps_ended, keeps_from, keeps_then}
+use Rattle.kmip_runs.proofs.LastingLemmas.{leaves_not, leaves_one, leaves_same}
+use Rattle.kmip_runs.proofs.OnLemmas.{on_nowhere}
+use Rattle.kmip_runs.proofs.SavedLemmas.{StaysTrue, moments_broken, moments_none, moments_not, moments_one, same_text}
+use Rattle.kmip_runs.proofs.WentLemmas.{kept_itself, learnt_delivered, stop_is, went_closed, went_nowhere, went_passed, went_then, went_unbegun}
 
 -- ---- how the end of the run changes the answer
 
@@ -48,6 +50,12 @@ still_unsaved : {V E : Type 0} (closed : Result V E) (result last : Result Stop 
 still_unsaved (Ok v) result last same stop fault count are = subst (λ r. AreUnsaved r count) (sym same) are
 still_unsaved (Err e) (Ok s) last same stop fault count are = subst (λ r. AreUnsaved r count) (sym stop) (at_most_one s count are)
 still_unsaved (Err e) (Err f) last same stop fault count are = subst (λ r. AreUnsaved r count) (sym fault) are
+
+still_tried : {V E : Type 0} (closed : Result V E) (result last : Result Stop SaveFault) → OnOk closed (last ≡ result) → OnErr closed (OnOk result (last ≡ Ok stops.NoMemory))
+    → OnErr result (last ≡ result) → (text : List ℕ) (texts : List (List ℕ)) → IsTried result text texts → IsTried last text texts
+still_tried (Ok v) result last same stop fault text texts is = subst (λ r. IsTried r text texts) (sym same) is
+still_tried (Err e) (Ok s) last same stop fault text texts is = subst (λ r. IsTried r text texts) (sym stop) is
+still_tried (Err e) (Err f) last same stop fault text texts is = subst (λ r. IsTried r text texts) (sym fault) is
 
 pub memory_before : {V E : Type 0} (closed : Result V E) (result last : Result Stop SaveFault) → OnOk closed (last ≡ result) → OnErr closed (OnOk result (last ≡ Ok stops.NoMemory))
     → OnErr result (last ≡ result) → IsInMemory last → IsInMemory result
@@ -95,22 +103,6 @@ finished_settled objects (key ∷ keys) (known ∷ knowns) held finished = (
   finished_settled objects keys knowns held.1 (λ place below. finished (suc place) (omega (arith, below))),
 )
 
--- what is saved is so under another premise that gives the first
-saved_from_start : (keys : List Key) (most : ℕ) (before later : Grounds) (old new : Snapshot) (result : Result Stop SaveFault) (n : ℕ) → (before.good → later.good)
-    → (before.honest → later.honest) → AreSaved keys most later old new result n → AreSaved keys most before old new result n
-saved_from_start keys most before later old new result n betters gives a = record {
-  moments = a.moments;
-  texts_are = a.texts_are;
-  unsaved = a.unsaved;
-  are_unsaved = a.are_unsaved;
-  as_many = a.as_many;
-  forgets_nothing = a.forgets_nothing;
-  taught = λ h. a.taught (gives h);
-  rest = λ h. a.rest (gives h);
-  true_of = λ g. a.true_of (betters g);
-  last_is = λ h. a.last_is (gives h);
-}
-
 -- ---- one exchange
 
 -- what a turn promises in which memory did not run out, whether it asked or not
@@ -156,82 +148,85 @@ broke a b fault follows turn = record {
   near = λ settling whole. absurd (whole refl);
 }
 
--- where memory ran out
+-- if memory ran out
 pub carried_broken : (a : Situation) (next : ClientState) (y : Seen) (fault : TurnFault) (n : ℕ) → n ≡ exchanges_made fault
     → Went a (record a { client = next; link = y }) (Ok stops.NoMemory) (exchanges_made fault) → Carried a (record a { client = next; link = y }) (Ok stops.NoMemory) n
 carried_broken a next y fault n made went = record {
   went = subst (λ n. Went a (record a { client = next; link = y }) (Ok stops.NoMemory) n) (sym made) went;
-  saved = λ keeping. (
-    keeping,
-    saved_broken a.client.keys a.client.batch (grounds_in a) (moment a.client a.link) (moment next y) n a.keeper.saved went.keeps.kept
-        (subst (λ n. n ≤ 1) (sym made) (one_at_most fault)),
-  );
-  any_moment = λ lawful. leaves_same a.client.keys (grounds_in a) a next y (Ok stops.NoMemory) n lawful went.keeps.kept (λ whole. absurd (whole refl));
+  kept = record {
+    moments = [];
+    are = moments_broken a.client.keys a.client.batch (grounds_in a) (moment a.client a.link) (moment next y) n went.keeps.kept went.onward
+        (subst (λ n. n ≤ 1) (sym made) (one_at_most fault));
+    saved = λ remembers. (remembers, sym (append-nil a.keeper.saved));
+    any_moment = λ lawful. leaves_same a.client.keys (grounds_in a).honest (moment next y) a.keeper.disk stops.NoMemory n lawful (λ whole. absurd (whole refl));
+  };
 }
 
 learns : (a b : Situation) (stop : Stop) (n : ℕ) → stop ≢ stops.NoMemory → Went a b (Ok stop) n → a.link.honest (is_planned a.client.keys)
     → Learnt a.client.keys a.client.batch a.link.past b.link.past a.client.knowns b.client.knowns n
 learns a b stop n in_memory went holds = (went.learns holds).1 (λ is. in_memory (stop_is stop stops.NoMemory is))
 
--- where no exchange was made
+-- if no exchange was made
 pub carried_none : (a : Situation) (next : ClientState) (y : Seen) (stop : Stop) → Went a (record a { client = next; link = y }) (Ok stop) 0
     → Carried a (record a { client = next; link = y }) (Ok stop) 0
 carried_none a next y stop went = record {
   went = went;
-  saved = λ keeping. (
-    keeping,
-    saved_none a.client.keys a.client.batch (grounds_in a) (moment a.client a.link) (moment next y) stop a.keeper.saved went.keeps.kept
-        (λ holds memory. learns a (record a { client = next; link = y }) stop 0 memory went holds),
-  );
-  any_moment = λ lawful. leaves_same a.client.keys (grounds_in a) a next y (Ok stop) 0 lawful went.keeps.kept (λ whole. refl);
+  kept = record {
+    moments = [];
+    are = moments_none a.client.keys a.client.batch (grounds_in a) (moment a.client a.link) (moment next y) stop went.keeps.kept went.onward
+        (λ holds memory. learns a (record a { client = next; link = y }) stop 0 memory went holds);
+    saved = λ remembers. (remembers, sym (append-nil a.keeper.saved));
+    any_moment = λ lawful. leaves_same a.client.keys (grounds_in a).honest (moment next y) a.keeper.disk stop 0 lawful (λ whole. refl);
+  };
 }
 
--- where there was no memory to begin with
+-- if there was no memory to begin with
 pub carried_unbegun : CarryingLaws → (a : Situation) → Carried a a (Ok stops.NoMemory) 0
 carried_unbegun l a = record {
   went = went_unbegun l a;
-  saved = λ keeping. (
-    keeping,
-    saved_broken a.client.keys a.client.batch (grounds_in a) (moment a.client a.link) (moment a.client a.link) 0 a.keeper.saved (kept_itself a.client.knowns) (omega arith),
-  );
-  any_moment = λ lawful. leaves_same a.client.keys (grounds_in a) a a.client a.link (Ok stops.NoMemory) 0 lawful (kept_itself a.client.knowns) (λ whole. refl);
+  kept = record {
+    moments = [];
+    are = moments_broken a.client.keys a.client.batch (grounds_in a) (moment a.client a.link) (moment a.client a.link) 0 (kept_itself a.client.knowns)
+        (λ good. on_nowhere l.itself l.nothing a.client.keys a.link.past) (omega arith);
+    saved = λ remembers. (remembers, sym (append-nil a.keeper.saved));
+    any_moment = λ lawful. leaves_same a.client.keys (grounds_in a).honest (moment a.client a.link) a.keeper.disk stops.NoMemory 0 lawful (λ whole. refl);
+  };
 }
 
--- where it was saved
-pub carried_one : (a b : Situation) (stop : Stop) (done : Unit {0}) → stop ≢ stops.NoMemory
-    → (a.keeper.disk.lawful → b.keeper.disk.lawful × (b.keeper.saved ≡ a.keeper.saved ++ progress_text b.client.keys (progress b.client) ∷ []))
+-- if it was saved
+pub carried_one : CarryingLaws → (a b : Situation) (stop : Stop) (done : Unit {0}) → stop ≢ stops.NoMemory
+    → (a.keeper.remembers → b.keeper.remembers × (b.keeper.saved ≡ a.keeper.saved ++ progress_text b.client.keys (progress b.client) ∷ []))
     → (a.keeper.disk.lawful → SavesProgress a.keeper.disk b.client (Ok done) b.keeper.disk) → Went a b (Ok stop) 1
     → Carried a b (Ok stop) 1
-carried_one a b stop done memory saves whole went = record {
+carried_one l a b stop done memory saves whole went = record {
   went = went;
-  saved = λ keeping.
-      let so = saves keeping in (
-        so.0,
-        saved_one a.client.keys a.client.batch (grounds_in a) (moment a.client a.link) (moment b.client b.link) stop a.keeper.saved b.keeper.saved went.keeps.kept
-            (learns a b stop 1 memory went)
-            (subst (λ ks. b.keeper.saved ≡ a.keeper.saved ++ progress_text ks (progress b.client) ∷ []) went.keeps.keys_stay so.1)
-            (λ good. subst (λ ks. Held b.link.past.objects ks b.client.knowns) went.keeps.keys_stay (went.good good).held),
-      );
-  any_moment = λ lawful.
-      leaves_one a.client.keys (grounds_in a) a b stop done went.keeps.keys_stay went.keeps.kept
-      (λ good. subst (λ ks. Held b.link.past.objects ks b.client.knowns) went.keeps.keys_stay (went.good good).held) (whole lawful);
+  kept = record {
+    moments = moment b.client b.link ∷ [];
+    are = moments_one a.client.keys a.client.batch (grounds_in a) (moment a.client a.link) (moment b.client b.link) stop went.keeps.kept went.onward
+        (λ good. on_nowhere l.itself l.nothing a.client.keys b.link.past) (learns a b stop 1 memory went)
+        (λ good. subst (λ ks. Held b.link.past.objects ks b.client.knowns) went.keeps.keys_stay (went.good good).held);
+    saved = λ remembers.
+        let so = saves remembers in
+        (so.0, subst (λ ks. b.keeper.saved ≡ a.keeper.saved ++ progress_text ks (progress b.client) ∷ []) went.keeps.keys_stay so.1);
+    any_moment = λ lawful.
+        leaves_one a.client.keys (grounds_in a).honest b.client (moment b.client b.link) a.keeper.disk b.keeper.disk stop done went.keeps.keys_stay refl (whole lawful);
+  };
 }
 
--- where it was not saved
-pub carried_not : (a b : Situation) (fault : SaveFault) → (a.keeper.disk.lawful → b.keeper.disk.lawful × (b.keeper.saved ≡ a.keeper.saved))
+-- if it was not saved
+pub carried_not : (a b : Situation) (fault : SaveFault) → (a.keeper.remembers → b.keeper.remembers × (b.keeper.saved ≡ a.keeper.saved))
     → (a.keeper.disk.lawful → SavesProgress a.keeper.disk b.client (Err fault) b.keeper.disk)
     → Went a b (Err fault) 1 → Carried a b (Err fault) 1
 carried_not a b fault saves whole went = record {
   went = went;
-  saved = λ keeping.
-      let so = saves keeping in (
-        so.0,
-        saved_not a.client.keys a.client.batch (grounds_in a) (moment a.client a.link) (moment b.client b.link) fault a.keeper.saved b.keeper.saved went.keeps.kept
-            (λ holds. (went.learns holds).1 (λ is. absurd cc)) so.1,
-      );
-  any_moment = λ lawful.
-      leaves_not a.client.keys (grounds_in a) a b fault went.keeps.keys_stay went.keeps.kept
-      (λ good. subst (λ ks. Held b.link.past.objects ks b.client.knowns) went.keeps.keys_stay (went.good good).held) (whole lawful);
+  kept = record {
+    moments = [];
+    are = moments_not a.client.keys a.client.batch (grounds_in a) (moment a.client a.link) (moment b.client b.link) fault went.keeps.kept went.onward
+        (λ holds. (went.learns holds).1 (λ is. absurd cc));
+    saved = λ remembers. let so = saves remembers in (so.0, so.1 ∙ sym (append-nil a.keeper.saved));
+    any_moment = λ lawful.
+        leaves_not a.client.keys (grounds_in a).honest b.client (moment b.client b.link) a.keeper.disk b.keeper.disk fault went.keeps.keys_stay refl (whole lawful);
+  };
 }
 
 -- ---- several exchanges
@@ -241,12 +236,13 @@ carried_rest l a stop memory =
     let went = went_nowhere l a (Ok stop) (λ is. memory (stop_is stop stops.NoMemory is)) in
     record {
       went = went;
-      saved = λ keeping. (
-        keeping,
-        saved_none a.client.keys a.client.batch (grounds_in a) (moment a.client a.link) (moment a.client a.link) stop a.keeper.saved (kept_itself a.client.knowns)
-            (λ holds memory. learns a a stop 0 memory went holds),
-      );
-      any_moment = λ lawful. leaves_same a.client.keys (grounds_in a) a a.client a.link (Ok stop) 0 lawful (kept_itself a.client.knowns) (λ whole. refl);
+      kept = record {
+        moments = [];
+        are = moments_none a.client.keys a.client.batch (grounds_in a) (moment a.client a.link) (moment a.client a.link) stop (kept_itself a.client.knowns) went.onward
+            (λ holds memory. learns a a stop 0 memory went holds);
+        saved = λ remembers. (remembers, sym (append-nil a.keeper.saved));
+        any_moment = λ lawful. leaves_same a.client.keys (grounds_in a).honest (moment a.client a.link) a.keeper.disk stop 0 lawful (λ whole. refl);
+      };
     }
 
 pub carried_itself : CarryingLaws → (a : Situation) → Carried a a (Ok stops.Limit) 0
@@ -279,23 +275,15 @@ carried_then l a b c result m n lawful first second =
     (subst (λ ks. WentOn ks b.link.past c.link.past) keys (second.went.onward (first.went.good good))).onward in
     record {
       went = went_then l a b c stops.Limit result m n memory first.went second.went;
-      saved = λ keeping.
-          let before = first.saved keeping in
-          let after = second.saved before.0 in (
-            after.0,
-            saved_then l.blind a.client.keys a.client.batch (grounds_in a) (moment a.client a.link) (moment b.client b.link) (moment c.client c.link) stops.Limit result m n a.keeper.saved
-                b.keeper.saved c.keeper.saved memory stays before.1
-                (saved_from_start a.client.keys a.client.batch (grounds_in a) (grounds_for a.client.keys) (snapshot_in b) (snapshot_in c) result n first.went.good
-                (λ holds. (first.went.learns holds).0)
-                (subst (λ ks. AreSaved ks a.client.batch (grounds_for ks) (snapshot_in b) (snapshot_in c) result n) keys
-                (subst (λ most. AreSaved b.client.keys most (grounds_in b) (snapshot_in b) (snapshot_in c) result n) first.went.keeps.batch_stays after.1))),
-          );
-      any_moment = λ kept.
-          let before = first.any_moment kept in
-          leaves_then a.client.keys (grounds_in a) a b c stops.Limit result m n memory stays
-          (λ honest whole none. same_text_then a b c result m n first.went second.went honest whole none) before
-          (leaves_from a.client.keys (grounds_in a) (grounds_for a.client.keys) b c result n first.went.good (λ holds. (first.went.learns holds).0)
-          (subst (λ ks. Leaves ks (grounds_for ks) b c result n) keys (second.any_moment before.lawful)));
+      kept =
+          keeps_then l.blind l.twice l.joins a.client.keys a.client.batch (grounds_in a) (moment a.client a.link) (moment b.client b.link) (moment c.client c.link)
+          a.keeper b.keeper c.keeper stops.Limit result m n memory stays
+          (λ honest whole none. same_text_then a b c result m n first.went second.went honest whole none) first.kept
+          (keeps_from a.client.keys a.client.batch (grounds_in a) (grounds_for a.client.keys) (moment b.client b.link) (moment c.client c.link) b.keeper c.keeper result n
+          first.went.good (λ holds. (first.went.learns holds).0)
+          (subst (λ ks. KeepsMoments ks a.client.batch (grounds_for ks) (moment b.client b.link) (moment c.client c.link) b.keeper c.keeper result n) keys
+          (subst (λ most. KeepsMoments b.client.keys most (grounds_in b) (moment b.client b.link) (moment c.client c.link) b.keeper c.keeper result n) first.went.keeps.batch_stays
+          second.kept)));
     }
 
 -- and one more, after which some key is worked on still
@@ -324,26 +312,25 @@ pub carried_closed : {V E : Type 0} → CarryingLaws → (a b : Situation) (z : 
 carried_closed l a b z result ended closed m lawful delivers passes calms same stop fault first =
     let memory = memory_before closed result ended same stop fault in
     let whole = whole_before {P = z.past ≡ b.link.past} closed result ended same stop fault in
+    let over : IsGood a.client a.link → z.amid a.client.keys × PassedAmid a.client.keys b.link.past z.past =
+    λ good.
+    passes a.client.keys (subst (λ ks. b.link.amid ks) first.went.keeps.keys_stay (first.went.good good).amid_for)
+    (subst (λ ks. Sound ks b.link.past) first.went.keeps.keys_stay (first.went.good good).sound) in
     let stays : StaysTrue a.client.keys (IsGood a.client a.link) (moment b.client b.link) (moment b.client z) =
     λ good knowns.
     l.known_for_good a.client.keys knowns b.link.past.objects z.past.objects lawful
-    (l.passing a.client.keys b.link.past z.past (subst (λ ks. Sound ks b.link.past) first.went.keeps.keys_stay (first.went.good good).sound)
-    (passes a.client.keys (subst (λ ks. b.link.amid ks) first.went.keeps.keys_stay (first.went.good good).amid_for)
-    (subst (λ ks. Sound ks b.link.past) first.went.keeps.keys_stay (first.went.good good).sound)).1).1 in
+    (l.passing a.client.keys b.link.past z.past (subst (λ ks. Sound ks b.link.past) first.went.keeps.keys_stay (first.went.good good).sound) (over good).1).1 in
     record {
       went = went_closed l a b z result ended closed m lawful delivers passes calms memory (λ is. cut_before closed result ended same stop fault is) whole first.went;
-      saved = λ keeping.
-          let before = first.saved keeping in (
-            before.0,
-            saved_closed l.blind a.client.keys a.client.batch (grounds_in a) (moment a.client a.link) (moment b.client b.link) (moment b.client z) result ended m a.keeper.saved b.keeper.saved
-                refl
-                (λ holds.
-                learnt_delivered l.requests a.client.keys a.client.batch (is_planned a.client.keys) b.link.past z.past b.client.knowns
-                (delivers (is_planned a.client.keys) (first.went.learns holds).0).1)
-                (still_unsaved closed result ended same stop fault) memory (λ done. (whole done).0) stays before.1,
-          );
-      any_moment = λ kept.
-          leaves_ended a.client.keys (grounds_in a) a b z result ended m (λ done. (whole done).0) stays (first.any_moment kept);
+      kept =
+          keeps_ended l.blind l.twice l.joins a.client.keys a.client.batch (grounds_in a) (moment a.client a.link) (moment b.client b.link) (moment b.client z) a.keeper b.keeper
+          result ended m refl
+          (λ good.
+          went_passed l a.client.keys b.link.past z.past (subst (λ ks. Sound ks b.link.past) first.went.keeps.keys_stay (first.went.good good).sound) (over good).1)
+          (λ holds.
+          learnt_delivered l.requests a.client.keys a.client.batch (is_planned a.client.keys) b.link.past z.past b.client.knowns
+          (delivers (is_planned a.client.keys) (first.went.learns holds).0).1)
+          (still_unsaved closed result ended same stop fault) (still_tried closed result ended same stop fault) memory (λ done. (whole done).0) stays first.kept;
     }
 
 went_kept : (a b : Situation) (k : Kept) (result : Result Stop SaveFault) (m : ℕ) → Went a b result m → Went a (record b { keeper = k }) result m
@@ -359,19 +346,12 @@ went_kept a b k result m went = record {
 
 -- and the keeper's
 pub carried_kept : {E : Type 0} (a b : Situation) (k : Kept) (result : Result Stop SaveFault) (closed : Result (Unit {0}) E) (m : ℕ)
-    → (b.keeper.disk.lawful → k.disk.lawful × (k.saved ≡ b.keeper.saved)) → (b.keeper.disk.lawful → MakesLast b.keeper.disk closed k.disk)
+    → (b.keeper.remembers → k.remembers × (k.saved ≡ b.keeper.saved)) → (b.keeper.disk.lawful → MakesLast b.keeper.disk closed k.disk)
     → Carried a b result m → Carried a (record b { keeper = k }) result m
-carried_kept a b k result closed m kept lasts first = record {
+carried_kept a b k result closed m same lasts first = record {
   went = went_kept a b k result m first.went;
-  saved = λ lawful.
-      let before = first.saved lawful in
-      let same = kept before.0 in (
-        same.0,
-        subst (λ texts. AreSaved a.client.keys a.client.batch (grounds_in a) (snapshot_in a) (snapshot (moment b.client b.link) texts) result m) (sym same.1) before.1,
-      );
-  any_moment = λ lawful.
-      let before = first.any_moment lawful in
-      leaves_closed a.client.keys (grounds_in a) a b k result closed m (lasts before.lawful) before;
+  kept =
+      keeps_closed a.client.keys a.client.batch (grounds_in a) (moment a.client a.link) (moment b.client b.link) a.keeper b.keeper k result closed m same lasts first.kept;
 }
 
 -- ---- how it ends

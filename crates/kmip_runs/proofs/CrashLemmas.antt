@@ -1,6 +1,6 @@
 -- Runs of which a crash may end some: what a crash leaves is true, and takes back nothing of what its run began with.
 use Rattle.std.specs.Prelude.{IsSome}
-use Rattle.std.proofs.Common.{◌≡◌, ◌≢◌, ◌≤◌, ◌<◌, ℕ, false, get_or, IsTrue, zero, suc, List, [], ◌∷◌, ◌++◌, length, map, take, slice_get, None, Some, Ok, Err, Result, OnErr, OnOk, inl, inr, refl, sym, subst, ap, ◌∙◌, ◌⊎◌, arith}
+use Rattle.std.proofs.Common.{◌≡◌, ◌≢◌, ◌≤◌, ◌<◌, ℕ, false, get_or, IsTrue, zero, suc, List, [], ◌∷◌, ◌++◌, length, map, take, slice_get, None, Some, Ok, Err, Result, OnErr, OnOk, inl, inr, refl, sym, subst, ap, ◌∙◌, ◌⊎◌, ⊎_elim, arith}
 use Rattle.std.specs.List.{All, AllZip}
 use Rattle.std.proofs.lemmas.List.{length-append}
 use Rattle.std.proofs.lemmas.List.Elements.{All-head, All-nil, All-tail}
@@ -27,11 +27,11 @@ use Rattle.kmip_runs.specs.Campaign.{IsEnd}
 use Rattle.kmip_runs.specs.Crashes.{AreMade, Between, CrashesWell, IsMade, MayCrash, at_first}
 use Rattle.kmip_runs.specs.Driving.{IsBorneOut, IsGood, SomeClash, WentOn}
 use Rattle.kmip_runs.specs.Headline.{reported}
-use Rattle.kmip_runs.specs.Lasting.{IsReadBack, Leaves}
+use Rattle.kmip_runs.specs.Lasting.{IsReadBack, IsTextOf, KeepsBetween, Leaves}
 use Rattle.kmip_runs.specs.PrivateCampaignParts.{CampaignLaws, CampaignStage, HasEnded, HasRun, IsBroken, Noted, RunsOne}
 use Rattle.kmip_runs.specs.PrivateCrashes.{AreCrashing, BeginsWith, CrashStage, CrashesEach, CrashesGood, CrashesOne, HasCome, IsLeftOn, IsStanding, IsUnchanged, StandsOn, between}
 use Rattle.kmip_runs.specs.Remembering.{start_knowns}
-use Rattle.kmip_runs.specs.Saved.{AreKept, Moment, Situation, grounds_in, text_at}
+use Rattle.kmip_runs.specs.Saved.{AreKept, Moment, Situation, grounds_in, moment, text_at}
 use Rattle.kmip_runs.specs.declared.crashes_end.CrashesEnd.{CrashesEnd}
 use Rattle.kmip_runs.specs.declared.crash.Crash.{Crash}
 use Rattle.kmip_runs.specs.declared.crash_fault.CrashFault.{CrashFault}
@@ -98,39 +98,71 @@ one_is_fine keys begun knowns good objects (m ∷ moments) rest text left kept r
     one_is_fine keys begun m.knowns good objects moments rest text left (kept_then begun knowns m.knowns kept grows.0)
     (All-tail (IsReadBack keys) m moments read) grows.1 (λ all. All-tail (λ (m : Moment). Held objects keys m.knowns) m moments (held all)) said one
 
--- none of these texts is no file
-none_is_none : (keys : List Key) (moments : List Moment) {X : Type 0} → IsOneOf (map (text_at keys) moments) None → X
-none_is_none keys [] one = absurd one
-none_is_none keys (m ∷ moments) (inl is) = absurd cc
-none_is_none keys (m ∷ moments) (inr one) = none_is_none keys moments one
+-- so is the text of its end, if that was tried
+tried_is_fine : (keys : List Key) (begun : List Knowledge) (good : Type 0) (objects : List Object) (ended : Moment) (tried : List (List ℕ)) (text : List ℕ) (left : List Known)
+    → AllZip IsKept begun ended.knowns → All (IsTextOf keys ended) tried → (good → Held objects keys ended.knowns) → read_text keys text ≡ Ok left
+    → IsOneOf tried (Some text) → IsFine keys begun good objects left
+tried_is_fine keys begun good objects ended [] text left kept read held said one = absurd one
+tried_is_fine keys begun good objects ended (t ∷ tried) text left kept read held said (inl is) =
+    let same : text ≡ t = cc in
+    fine_at keys begun ended.knowns good objects left kept held
+    (same_saved left (map known_of ended.knowns) (sym said ∙ ap (λ t. read_text keys t) same ∙ (All-head (IsTextOf keys ended) t tried read).1))
+tried_is_fine keys begun good objects ended (t ∷ tried) text left kept read held said (inr one) =
+    tried_is_fine keys begun good objects ended tried text left kept (All-tail (IsTextOf keys ended) t tried read) held said one
+
+-- one of the texts of the run is one of its moments, or of the end
+one_of_either : (first second : List (List ℕ)) (c : Content) → IsOneOf (first ++ second) c → IsOneOf first c ⊎ IsOneOf second c
+one_of_either [] second c one = inr one
+one_of_either (text ∷ first) second c (inl is) = inl (inl is)
+one_of_either (text ∷ first) second c (inr one) = ⊎_elim (λ in_first. inl (inr in_first)) (λ in_second. inr in_second) (one_of_either first second c one)
+
+none_tried : (texts : List (List ℕ)) {X : Type 0} → IsOneOf texts None → X
+none_tried [] one = absurd one
+none_tried (text ∷ texts) (inl is) = absurd cc
+none_tried (text ∷ texts) (inr one) = none_tried texts one
+
+-- the end takes back nothing
+kept_to_end : (knowns : List Knowledge) (moments : List Moment) (ended : Moment) → AreKept knowns (moments ++ ended ∷ []) → AllZip IsKept knowns ended.knowns
+kept_to_end knowns [] ended kept = kept.0
+kept_to_end knowns (m ∷ moments) ended kept = kept_then knowns m.knowns ended.knowns kept.0 (kept_to_end m.knowns moments ended kept.1)
 
 -- what a crash leaves after a run is fine
 pub left_is_fine : (keys : List Key) (old new : Situation) (result : Result Stop SaveFault) (made : ℕ) (left : List Known) → old.client.keys ≡ keys
-    → old.keeper.disk.lawful → new.keeper.disk.lawful → BeginsWith old.client old.keeper.disk → Leaves old.client.keys (grounds_in old) old new result made
+    → old.keeper.disk.lawful → new.keeper.disk.lawful → BeginsWith old.client old.keeper.disk → KeepsBetween old new result made
     → (IsGood old.client old.link → Held new.link.past.objects old.client.keys old.client.knowns)
+    → (IsGood old.client old.link → Held new.link.past.objects old.client.keys new.client.knowns)
     → IsLeftOn new.keeper.disk keys left → IsFine keys old.client.knowns (IsGood old.client old.link) new.link.past.objects left
-left_is_fine keys old new result made left same rules still begins leaves held is =
+left_is_fine keys old new result made left same rules still begins keeps held ended is =
     subst (λ ks. IsFine ks old.client.knowns (IsGood old.client old.link) new.link.past.objects left) same (fine (subst (λ ks. IsLeftOn new.keeper.disk ks left) (sym same) is))
   where
     own : List Key
     own = old.client.keys
 
-    had : (c : Content) → new.keeper.disk.may_leave c → old.keeper.disk.may_leave c ⊎ IsOneOf (map (text_at own) leaves.moments) c
+    leaves : Leaves own (grounds_in old).honest keeps.moments (moment new.client new.link) old.keeper.disk new.keeper.disk result made
+    leaves = keeps.any_moment rules
+
+    had : (c : Content) → new.keeper.disk.may_leave c → old.keeper.disk.may_leave c ⊎ IsOneOf (map (text_at own) keeps.moments ++ leaves.tried) c
     had c may = leaves.any_moment.each c (new.keeper.disk.counts_now still old.keeper.disk.moment c leaves.any_moment.later may)
 
-    by_text : (text : List ℕ) → read_text own text ≡ Ok left → old.keeper.disk.may_leave (Some text) ⊎ IsOneOf (map (text_at own) leaves.moments) (Some text)
+    by_text : (text : List ℕ) → read_text own text ≡ Ok left → old.keeper.disk.may_leave (Some text) ⊎ IsOneOf (map (text_at own) keeps.moments ++ leaves.tried) (Some text)
         → IsFine own old.client.knowns (IsGood old.client old.link) new.link.past.objects left
     by_text text said (inl may) =
         let is_first : text ≡ progress_text own (progress old.client) = let e = begins.leaves (Some text) may in cc in
         fine_at own old.client.knowns old.client.knowns _ new.link.past.objects left (kept_itself old.client.knowns) held
         (same_saved left (progress old.client) (sym said ∙ ap (λ t. read_text own t) is_first ∙ begins.read_back))
     by_text text said (inr one) =
-        one_is_fine own old.client.knowns old.client.knowns _ new.link.past.objects leaves.moments _ text left (kept_itself old.client.knowns)
-        leaves.read_back leaves.forgets_nothing leaves.true_of said one
+        ⊎_elim
+        (λ early.
+        one_is_fine own old.client.knowns old.client.knowns _ new.link.past.objects keeps.moments _ text left (kept_itself old.client.knowns)
+        leaves.read_back keeps.are.forgets_nothing keeps.are.true_of said early)
+        (λ late.
+        tried_is_fine own old.client.knowns _ new.link.past.objects (moment new.client new.link) leaves.tried text left
+        (kept_to_end old.client.knowns keeps.moments (moment new.client new.link) keeps.are.forgets_nothing) leaves.tried_read_back ended said late)
+        (one_of_either (map (text_at own) keeps.moments) leaves.tried (Some text) one)
 
-    no_file : {X : Type 0} → old.keeper.disk.may_leave None ⊎ IsOneOf (map (text_at own) leaves.moments) None → X
+    no_file : {X : Type 0} → old.keeper.disk.may_leave None ⊎ IsOneOf (map (text_at own) keeps.moments ++ leaves.tried) None → X
     no_file (inl may) = let e = begins.leaves None may in absurd cc
-    no_file (inr one) = none_is_none own leaves.moments one
+    no_file (inr one) = none_tried (map (text_at own) keeps.moments ++ leaves.tried) one
 
     fine : IsLeftOn new.keeper.disk own left → IsFine own old.client.knowns (IsGood old.client old.link) new.link.past.objects left
     fine (inl (text, may, said)) = by_text text said (had (Some text) may)

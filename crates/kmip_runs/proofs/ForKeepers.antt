@@ -1,9 +1,16 @@
--- For keepers over a disk: what the calls of a file that is replaced whole are to who keeps texts in it.
+-- For keepers over a disk: what the calls of a file that is replaced whole are to who keeps texts in it. For commands: what is kept of a run
+-- under other premises.
 use Rattle.std.proofs.Common.{Err, Ok, List, OnOk, Result, inl, refl, ℕ}
 use Rattle.kmip_disk.specs.Views.{Content, DiskView}
 use Rattle.kmip_disk.specs.Whole.{Closes, IsBeforeOrText, WritesWhole}
 use Rattle.kmip_disk.proofs.ForCallers.{nothing_since}
-use Rattle.kmip_runs.specs.Keeping.{MakesLast, SavesText}
+use Rattle.kmip_plan.specs.declared.key.Key.{Key}
+use Rattle.kmip_runs.specs.Keeping.{Kept, MakesLast, SavesText}
+use Rattle.kmip_runs.specs.Lasting.{KeepsMoments}
+use Rattle.kmip_runs.specs.Saved.{Grounds, Moment}
+use Rattle.kmip_runs.specs.declared.save_fault.SaveFault.{SaveFault}
+use Rattle.kmip_runs.specs.declared.stop.Stop.{Stop}
+use Rattle.kmip_runs.proofs.KeptLemmas.{keeps_from as premises_less}
 
 -- nothing was written
 pub saves_nothing : {E : Type 0} (disk : DiskView) (text : List ℕ) (fault : E) → disk.lawful → SavesText disk text (Err fault) disk
@@ -54,3 +61,8 @@ lasts_not old new fault other closed = record {
   still = closed.still;
   lasts = λ written. tt;
 }
+
+-- what is kept of a run, under other premises that give the first
+pub keeps_from : (keys : List Key) (most : ℕ) (before later : Grounds) (begun ended : Moment) (old new : Kept) (result : Result Stop SaveFault) (n : ℕ)
+    → (before.good → later.good) → (before.honest → later.honest) → KeepsMoments keys most later begun ended old new result n → KeepsMoments keys most before begun ended old new result n
+keeps_from = premises_less

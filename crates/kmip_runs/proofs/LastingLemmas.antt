@@ -1,84 +1,89 @@
--- What a crash may leave of exchanges, one after the other.
-use Rattle.std.proofs.Common.{◌≡◌, ◌≢◌, ◌≤◌, ◌⊎◌, ℕ, zero, suc, ◌+◌, List, [], ◌∷◌, ◌++◌, map, Result, Ok, Err, OnErr, OnOk, Some, sym, ap, subst, refl, ◌∙◌, append_assoc, inl, inr, arith}
+-- What is kept of exchanges, one after the other: their moments, the texts that were saved, and what a crash may leave.
+use Rattle.std.proofs.Common.{◌≡◌, ◌≢◌, ◌≤◌, ◌⊎◌, ℕ, zero, suc, ◌+◌, List, [], ◌∷◌, ◌++◌, map, Result, Ok, Err, OnErr, OnOk, Some, sym, ap, subst, refl, ◌∙◌, append_assoc, append-nil, inl, inr, arith}
 use Rattle.std.proofs.lemmas.List.{map-append}
 use Rattle.std.proofs.lemmas.List.Elements.{All-append, All-cons, All-nil}
-use Rattle.std.specs.List.{AllZip}
 use Rattle.kmip_client.specs.Clients.{ClientState}
-use Rattle.kmip_client.specs.Held.{Held}
-use Rattle.kmip_client.specs.Shapes.{IsKept}
 use Rattle.kmip_disk.specs.Views.{DiskView}
 use Rattle.kmip_disk.specs.Whole.{IsWritten, LeavesOneOf}
 use Rattle.kmip_disk.proofs.ForCallers.{more_saved, none_more, none_saved, one_saved}
 use Rattle.kmip_plan.specs.declared.key.Key.{Key}
-use Rattle.kmip_protocol.specs.Seen.{Seen}
 use Rattle.kmip_runs.specs.declared.stop.Stop.{Stop}
 use Rattle.kmip_runs.specs.declared.stop.Stop.TheVariants as stops
 use Rattle.kmip_runs.specs.declared.save_fault.SaveFault.{SaveFault}
 use Rattle.kmip_runs.specs.Keeping.{Kept, MakesLast}
-use Rattle.kmip_runs.specs.Lasting.{IsReadBack, Leaves, LeavesTheFile, WasTrue}
+use Rattle.kmip_runs.specs.Lasting.{IsReadBack, IsTextOf, IsTried, Leaves, LeavesTheFile}
 use Rattle.kmip_runs.specs.PrivateCarried.{SavesProgress, WritesNothing, WritesProgress}
-use Rattle.kmip_runs.specs.Saved.{AreKept, Grounds, IsWhole, Moment, Situation, moment, text_at}
-use Rattle.kmip_runs.proofs.SavedLemmas.{StaysTrue, kept_joined, still_true}
-use Rattle.kmip_runs.proofs.WentLemmas.{kept_itself}
+use Rattle.kmip_runs.specs.Saved.{IsWhole, Moment, text_at}
 
--- what a read gives at the end, where all was saved
-abbrev pub HasLast : List Key → Situation → Type 0
-HasLast keys b = (b.keeper.disk.file ≡ Some (text_at keys (moment b.client b.link))) × IsWritten b.keeper.disk
+-- a read gives the text of what was known at this moment
+abbrev pub HasLast : List Key → Moment → DiskView → Type 0
+HasLast keys m disk = (disk.file ≡ Some (text_at keys m)) × IsWritten disk
 
--- the same keeper: nothing was written
-pub leaves_same : (keys : List Key) (grounds : Grounds) (a : Situation) (next : ClientState) (y : Seen) (result : Result Stop SaveFault) (made : ℕ) → a.keeper.disk.lawful
-    → AllZip IsKept a.client.knowns next.knowns → (IsWhole result → made ≡ 0)
-    → Leaves keys grounds a (record a { client = next; link = y }) result made
-leaves_same keys grounds a next y result made lawful kept none = record {
+-- nothing was written
+pub leaves_same : (keys : List Key) (honest : Type 0) (ended : Moment) (disk : DiskView) (stop : Stop) (made : ℕ) → disk.lawful
+    → (IsWhole (Ok stop) → made ≡ 0) → Leaves keys honest [] ended disk disk (Ok stop) made
+leaves_same keys honest ended disk stop made lawful none = record {
   lawful = lawful;
-  moments = [];
-  any_moment = none_saved a.keeper.disk lawful;
+  tried = [];
+  is_tried = refl;
+  any_moment = none_saved disk lawful;
   read_back = All-nil (IsReadBack keys);
-  forgets_nothing = (kept, tt);
-  true_then = λ good. All-nil (WasTrue keys);
-  true_of = λ good. All-nil (λ (m : Moment). Held y.past.objects keys m.knowns);
+  tried_read_back = All-nil (IsTextOf keys ended);
   still = λ was. was;
   same = λ is. refl;
-  file = λ honest whole some. absurd (omega (arith, none whole, some));
+  file = λ holds whole some. absurd (omega (arith, none whole, some));
 }
 
--- the text was given to the disk
-wrote : (keys : List Key) (grounds : Grounds) (a b : Situation) (result : Result Stop SaveFault) (saved : Result (Unit {0}) SaveFault) → b.client.keys ≡ keys
-    → AllZip IsKept a.client.knowns b.client.knowns → (grounds.good → Held b.link.past.objects keys b.client.knowns)
-    → (IsWhole result → OnOk saved (HasLast keys b) → HasLast keys b)
-    → WritesProgress a.keeper.disk b.client saved b.keeper.disk → Leaves keys grounds a b result 1
-wrote keys grounds a b result saved same kept held whole w =
-    let w : WritesProgress a.keeper.disk (record { keys = keys; knowns = b.client.knowns; next = b.client.next; batch = b.client.batch }) saved b.keeper.disk =
-    subst (λ ks. WritesProgress a.keeper.disk (record { keys = ks; knowns = b.client.knowns; next = b.client.next; batch = b.client.batch }) saved b.keeper.disk) same w in
-    let m = moment b.client b.link in
-    let P : Moment → Type 0 = λ m. Held b.link.past.objects keys m.knowns in
+for_keys : (keys : List Key) (c : ClientState) → c.keys ≡ keys → c ≡ record { keys = keys; knowns = c.knowns; next = c.next; batch = c.batch }
+for_keys keys c same = ap (λ ks. record { keys = ks; knowns = c.knowns; next = c.next; batch = c.batch }) same
+
+-- the text of what is known was saved
+pub leaves_one : (keys : List Key) (honest : Type 0) (c : ClientState) (ended : Moment) (old new : DiskView) (stop : Stop) (done : Unit {0}) → c.keys ≡ keys
+    → ended.knowns ≡ c.knowns → SavesProgress old c (Ok done) new → Leaves keys honest (ended ∷ []) ended old new (Ok stop) 1
+leaves_one keys honest c ended old new stop done same known w =
+    let w : WritesProgress old (record { keys = keys; knowns = ended.knowns; next = c.next; batch = c.batch }) (Ok done) new =
+    subst (λ ks. WritesProgress old (record { keys = keys; knowns = ks; next = c.next; batch = c.batch }) (Ok done) new) (sym known)
+    (subst (λ state. WritesProgress old state (Ok done) new) (for_keys keys c same) w) in
     record {
       lawful = w.saves.lawful;
-      moments = m ∷ [];
-      any_moment = one_saved a.keeper.disk b.keeper.disk (text_at keys m) w.saves.any_moment;
-      read_back = All-cons (IsReadBack keys) m [] w.read_back (All-nil (IsReadBack keys));
-      forgets_nothing = (kept, (kept_itself b.client.knowns, tt));
-      true_then = λ good. All-cons (WasTrue keys) m [] (held good) (All-nil (WasTrue keys));
-      true_of = λ good. All-cons P m [] (held good) (All-nil P);
+      tried = [];
+      is_tried = refl;
+      any_moment = one_saved old new (text_at keys ended) w.saves.any_moment;
+      read_back = All-cons (IsReadBack keys) ended [] w.read_back (All-nil (IsReadBack keys));
+      tried_read_back = All-nil (IsTextOf keys ended);
       still = w.saves.still;
       same = λ none. absurd (omega (arith, none));
-      file = λ honest done some. whole done w.saves.written;
+      file = λ holds whole some. w.saves.written;
     }
 
--- it was not
-pub leaves_unwritten : (keys : List Key) (grounds : Grounds) (a b : Situation) (fault : SaveFault) → AllZip IsKept a.client.knowns b.client.knowns
-    → WritesNothing a.keeper.disk b.keeper.disk → Leaves keys grounds a b (Err fault) 1
-leaves_unwritten keys grounds a b fault kept w = record {
+-- or it could not be saved
+pub leaves_not : (keys : List Key) (honest : Type 0) (c : ClientState) (ended : Moment) (old new : DiskView) (fault : SaveFault) → c.keys ≡ keys
+    → ended.knowns ≡ c.knowns → SavesProgress old c (Err fault) new → Leaves keys honest [] ended old new (Err fault) 1
+leaves_not keys honest c ended old new fault same known (inl w) =
+    let w : WritesProgress old (record { keys = keys; knowns = ended.knowns; next = c.next; batch = c.batch }) (Err fault) new =
+    subst (λ ks. WritesProgress old (record { keys = keys; knowns = ks; next = c.next; batch = c.batch }) (Err fault) new) (sym known)
+    (subst (λ state. WritesProgress old state (Err fault) new) (for_keys keys c same) w) in
+    record {
+      lawful = w.saves.lawful;
+      tried = text_at keys ended ∷ [];
+      is_tried = inr refl;
+      any_moment = one_saved old new (text_at keys ended) w.saves.any_moment;
+      read_back = All-nil (IsReadBack keys);
+      tried_read_back = All-cons (IsTextOf keys ended) (text_at keys ended) [] (refl, w.read_back) (All-nil (IsTextOf keys ended));
+      still = w.saves.still;
+      same = λ none. absurd (omega (arith, none));
+      file = λ holds whole some. absurd whole;
+    }
+leaves_not keys honest c ended old new fault same known (inr w) = record {
   lawful = w.lawful;
-  moments = [];
+  tried = [];
+  is_tried = inl refl;
   any_moment = w.any_moment;
   read_back = All-nil (IsReadBack keys);
-  forgets_nothing = (kept, tt);
-  true_then = λ good. All-nil (WasTrue keys);
-  true_of = λ good. All-nil (λ (m : Moment). Held b.link.past.objects keys m.knowns);
+  tried_read_back = All-nil (IsTextOf keys ended);
   still = w.still;
   same = λ none. absurd (omega (arith, none));
-  file = λ honest whole some. absurd whole;
+  file = λ holds whole some. absurd whole;
 }
 
 -- so it was saved, or at a fault given to the disk
@@ -86,99 +91,88 @@ pub saves_progress : (old new : DiskView) (client : ClientState) (result : Resul
 saves_progress old new client (Ok done) w = w
 saves_progress old new client (Err fault) w = inl w
 
--- it was saved
-pub leaves_one : (keys : List Key) (grounds : Grounds) (a b : Situation) (stop : Stop) (done : Unit {0}) → b.client.keys ≡ keys
-    → AllZip IsKept a.client.knowns b.client.knowns → (grounds.good → Held b.link.past.objects keys b.client.knowns)
-    → SavesProgress a.keeper.disk b.client (Ok done) b.keeper.disk → Leaves keys grounds a b (Ok stop) 1
-leaves_one keys grounds a b stop done same kept held w = wrote keys grounds a b (Ok stop) (Ok done) same kept held (λ whole last. last) w
-
--- or it could not be saved
-pub leaves_not : (keys : List Key) (grounds : Grounds) (a b : Situation) (fault : SaveFault) → b.client.keys ≡ keys
-    → AllZip IsKept a.client.knowns b.client.knowns → (grounds.good → Held b.link.past.objects keys b.client.knowns)
-    → SavesProgress a.keeper.disk b.client (Err fault) b.keeper.disk → Leaves keys grounds a b (Err fault) 1
-leaves_not keys grounds a b fault same kept held (inl w) = wrote keys grounds a b (Err fault) (Err fault) same kept held (λ whole last. absurd whole) w
-leaves_not keys grounds a b fault same kept held (inr w) = leaves_unwritten keys grounds a b fault kept w
-
 -- what a read gives after more exchanges, or none
-last_then : (keys : List Key) (b c : Situation) (m n : ℕ) → 1 ≤ m + n → (1 ≤ m → HasLast keys b) → (1 ≤ n → HasLast keys c)
-    → (n ≡ 0 → text_at keys (moment c.client c.link) ≡ text_at keys (moment b.client b.link))
-    → (n ≡ 0 → c.keeper.disk.file ≡ b.keeper.disk.file) → (IsWritten b.keeper.disk → IsWritten c.keeper.disk) → HasLast keys c
-last_then keys b c m zero some first second text file still =
+last_then : (keys : List Key) (mid ended : Moment) (b c : DiskView) (m n : ℕ) → 1 ≤ m + n → (1 ≤ m → HasLast keys mid b) → (1 ≤ n → HasLast keys ended c)
+    → (n ≡ 0 → text_at keys ended ≡ text_at keys mid) → (n ≡ 0 → c.file ≡ b.file) → (IsWritten b → IsWritten c) → HasLast keys ended c
+last_then keys mid ended b c m zero some first second text file still =
     let had = first (omega (arith, some)) in
     (file refl ∙ had.0 ∙ ap Some (sym (text refl)), still had.1)
-last_then keys b c m (suc n) some first second text file still = second (omega arith)
+last_then keys mid ended b c m (suc n) some first second text file still = second (omega arith)
+
+texts_joined : (keys : List Key) (first second : List Moment) (tried more : List (List ℕ)) → tried ≡ []
+    → (map (text_at keys) first ++ tried) ++ (map (text_at keys) second ++ more) ≡ map (text_at keys) (first ++ second) ++ more
+texts_joined keys first second tried more none =
+    ap (λ ts. (map (text_at keys) first ++ ts) ++ (map (text_at keys) second ++ more)) none
+    ∙ ap (λ ts. ts ++ (map (text_at keys) second ++ more)) (append-nil (map (text_at keys) first))
+    ∙ sym (append_assoc (map (text_at keys) first) (map (text_at keys) second) more)
+    ∙ ap (λ ts. ts ++ more) (sym (map-append (text_at keys) first second))
 
 -- more exchanges
-pub leaves_then : (keys : List Key) (grounds : Grounds) (a b c : Situation) (stop : Stop) (result : Result Stop SaveFault) (m n : ℕ) → stop ≢ stops.NoMemory
-    → StaysTrue keys grounds.good (moment b.client b.link) (moment c.client c.link)
-    → (grounds.honest → IsWhole result → n ≡ 0 → text_at keys (moment c.client c.link) ≡ text_at keys (moment b.client b.link))
-    → Leaves keys grounds a b (Ok stop) m → Leaves keys grounds b c result n → Leaves keys grounds a c result (m + n)
-leaves_then keys grounds a b c stop result m n memory stays text first second = record {
-  lawful = second.lawful;
-  moments = first.moments ++ second.moments;
+pub leaves_then : (keys : List Key) (honest : Type 0) (mid ended : Moment) (a b c : DiskView) (stop : Stop) (result : Result Stop SaveFault) (m n : ℕ)
+    (first second : List Moment) → stop ≢ stops.NoMemory
+    → (honest → IsWhole result → n ≡ 0 → text_at keys ended ≡ text_at keys mid)
+    → Leaves keys honest first mid a b (Ok stop) m → Leaves keys honest second ended b c result n → Leaves keys honest (first ++ second) ended a c result (m + n)
+leaves_then keys honest mid ended a b c stop result m n first second memory text before after = record {
+  lawful = after.lawful;
+  tried = after.tried;
+  is_tried = after.is_tried;
   any_moment =
-      subst (λ texts. LeavesOneOf a.keeper.disk texts c.keeper.disk) (sym (map-append (text_at keys) first.moments second.moments))
-      (more_saved a.keeper.disk b.keeper.disk c.keeper.disk (map (text_at keys) first.moments) (map (text_at keys) second.moments) first.lawful first.any_moment second.any_moment);
-  read_back = All-append (IsReadBack keys) first.moments second.moments first.read_back second.read_back;
-  forgets_nothing = subst (λ ms. AreKept a.client.knowns ms) (sym (append_assoc first.moments second.moments (moment c.client c.link ∷ [])))
-      (kept_joined a.client.knowns first.moments (moment b.client b.link) (second.moments ++ moment c.client c.link ∷ []) first.forgets_nothing second.forgets_nothing);
-  true_then = λ good. All-append (WasTrue keys) first.moments second.moments (first.true_then good) (second.true_then good);
-  true_of = λ good.
-      All-append (λ (x : Moment). Held c.link.past.objects keys x.knowns) first.moments second.moments
-      (still_true keys grounds.good (moment b.client b.link) (moment c.client c.link) first.moments stays good (first.true_of good)) (second.true_of good);
-  still = λ was. second.still (first.still was);
-  same = λ none. second.same (omega (arith, none)) ∙ first.same (omega (arith, none));
-  file = λ honest whole some.
-      last_then keys b c m n some (first.file honest memory) (second.file honest whole) (text honest whole) second.same second.still;
+      subst (λ texts. LeavesOneOf a texts c) (texts_joined keys first second before.tried after.tried before.is_tried)
+      (more_saved a b c (map (text_at keys) first ++ before.tried) (map (text_at keys) second ++ after.tried) before.lawful before.any_moment after.any_moment);
+  read_back = All-append (IsReadBack keys) first second before.read_back after.read_back;
+  tried_read_back = after.tried_read_back;
+  still = λ was. after.still (before.still was);
+  same = λ none. after.same (omega (arith, none)) ∙ before.same (omega (arith, none));
+  file = λ holds whole some.
+      last_then keys mid ended b c m n some (before.file holds memory) (after.file holds whole) (text holds whole) after.same after.still;
 }
 
 -- under another premise that gives the first
-pub leaves_from : (keys : List Key) (before later : Grounds) (a b : Situation) (result : Result Stop SaveFault) (n : ℕ) → (before.good → later.good)
-    → (before.honest → later.honest) → Leaves keys later a b result n → Leaves keys before a b result n
-leaves_from keys before later a b result n betters gives l = record {
+pub leaves_from : (keys : List Key) (honest later : Type 0) (moments : List Moment) (ended : Moment) (a b : DiskView) (result : Result Stop SaveFault) (n : ℕ)
+    → (honest → later) → Leaves keys later moments ended a b result n → Leaves keys honest moments ended a b result n
+leaves_from keys honest later moments ended a b result n gives l = record {
   lawful = l.lawful;
-  moments = l.moments;
+  tried = l.tried;
+  is_tried = l.is_tried;
   any_moment = l.any_moment;
   read_back = l.read_back;
-  forgets_nothing = l.forgets_nothing;
-  true_then = λ good. l.true_then (betters good);
-  true_of = λ good. l.true_of (betters good);
+  tried_read_back = l.tried_read_back;
   still = l.still;
   same = l.same;
-  file = λ honest. l.file (gives honest);
+  file = λ holds. l.file (gives holds);
 }
 
 -- the end of the run over the link writes nothing
-pub leaves_ended : (keys : List Key) (grounds : Grounds) (a b : Situation) (z : Seen) (result last : Result Stop SaveFault) (n : ℕ) → (IsWhole last → IsWhole result)
-    → StaysTrue keys grounds.good (moment b.client b.link) (moment b.client z)
-    → Leaves keys grounds a b result n → Leaves keys grounds a (record b { link = z }) last n
-leaves_ended keys grounds a b z result last n whole stays l = record {
-  lawful = l.lawful;
-  moments = l.moments;
-  any_moment = l.any_moment;
-  read_back = l.read_back;
-  forgets_nothing = kept_joined a.client.knowns l.moments (moment b.client b.link) (moment b.client z ∷ []) l.forgets_nothing (kept_itself b.client.knowns, tt);
-  true_then = l.true_then;
-  true_of = λ good. still_true keys grounds.good (moment b.client b.link) (moment b.client z) l.moments stays good (l.true_of good);
-  still = l.still;
-  same = l.same;
-  file = λ honest done. l.file honest (whole done);
-}
+pub leaves_ended : (keys : List Key) (honest : Type 0) (moments : List Moment) (mid ended : Moment) (a b : DiskView) (result last : Result Stop SaveFault) (n : ℕ)
+    → (IsWhole last → IsWhole result) → ((text : List ℕ) (texts : List (List ℕ)) → IsTried result text texts → IsTried last text texts) → mid.knowns ≡ ended.knowns
+    → Leaves keys honest moments mid a b result n → Leaves keys honest moments ended a b last n
+leaves_ended keys honest moments mid ended a b result last n whole tried same l =
+    let l : Leaves keys honest moments (record mid { knowns = ended.knowns }) a b result n = subst (λ ks. Leaves keys honest moments (record mid { knowns = ks }) a b result n) same l in
+    record {
+      lawful = l.lawful;
+      tried = l.tried;
+      is_tried = tried (text_at keys ended) l.tried l.is_tried;
+      any_moment = l.any_moment;
+      read_back = l.read_back;
+      tried_read_back = l.tried_read_back;
+      still = l.still;
+      same = l.same;
+      file = λ holds done. l.file holds (whole done);
+    }
 
 -- and to make the last text last adds no text
-pub leaves_closed : {E : Type 0} (keys : List Key) (grounds : Grounds) (a b : Situation) (k : Kept) (result : Result Stop SaveFault) (closed : Result (Unit {0}) E) (n : ℕ)
-    → MakesLast b.keeper.disk closed k.disk → Leaves keys grounds a b result n → Leaves keys grounds a (record b { keeper = k }) result n
-leaves_closed keys grounds a b k result closed n makes l = record {
+pub leaves_closed : {E : Type 0} (keys : List Key) (honest : Type 0) (moments : List Moment) (ended : Moment) (a b c : DiskView) (result : Result Stop SaveFault)
+    (closed : Result (Unit {0}) E) (n : ℕ) → MakesLast b closed c → Leaves keys honest moments ended a b result n → Leaves keys honest moments ended a c result n
+leaves_closed keys honest moments ended a b c result closed n makes l = record {
   lawful = makes.lawful;
-  moments = l.moments;
-  any_moment = none_more a.keeper.disk b.keeper.disk k.disk (map (text_at keys) l.moments) l.lawful l.any_moment makes.any_moment;
+  tried = l.tried;
+  is_tried = l.is_tried;
+  any_moment = none_more a b c (map (text_at keys) moments ++ l.tried) l.lawful l.any_moment makes.any_moment;
   read_back = l.read_back;
-  forgets_nothing = l.forgets_nothing;
-  true_then = l.true_then;
-  true_of = l.true_of;
+  tried_read_back = l.tried_read_back;
   still = λ was. makes.still (l.still was);
   same = λ none. makes.same ∙ l.same none;
-  file = λ honest done some. let had = l.file honest done some in (makes.same ∙ had.0, makes.still had.1);
+  file = λ holds done some. let had = l.file holds done some in (makes.same ∙ had.0, makes.still had.1);
 }
 
 -- once it is closed, a crash leaves the file alone, unless that could not be done

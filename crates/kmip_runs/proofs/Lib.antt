@@ -2,6 +2,7 @@ pub mod PutLemmas
 pub mod FactLemmas
 pub mod KnownLemmas
 pub mod TurnLemmas
+pub mod TurnedLemmas
 pub mod OnLemmas
 pub mod GoodLemmas
 pub mod ReportLemmas
@@ -24,6 +25,7 @@ pub mod PlanLemmas
 pub mod WentLemmas
 pub mod SavedLemmas
 pub mod LastingLemmas
+pub mod KeptLemmas
 pub mod SightLemmas
 pub mod CarryLemmas
 pub mod CarryEndingLemmas

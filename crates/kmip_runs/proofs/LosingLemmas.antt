@@ -9,7 +9,7 @@ use Rattle.kmip_client.specs.Clients.{AreSettled, ClientState, WorksAt}
 use Rattle.kmip_plan.specs.declared.key.Key.{Key}
 use Rattle.kmip_client.specs.declared.knowledge.Knowledge.{Knowledge}
 use Rattle.kmip_client.specs.declared.question.Question.{Question}
-use Rattle.kmip_protocol.specs.Clean.{Counted, Disturbances, IsCounted}
+use Rattle.kmip_protocol.specs.Clean.{AreNoFewer, Counted, Disturbances, IsCounted, one_disturbed}
 use Rattle.kmip_protocol.specs.Exchanges.{Exchanged, HandsOver}
 use Rattle.kmip_protocol.specs.Past.{Names, Past, is_planned}
 use Rattle.kmip_protocol.specs.Seen.{Seen}
@@ -100,3 +100,22 @@ paid_limit l c now x y limit lawful good still paid enough =
 pub paid_end : Lawbook → (c : ClientState) (x : Seen) → IsGood c x → AreSettled c.keys c.knowns → AreFinished c.keys c.knowns
 paid_end l c x good settled =
     l.needless c.keys x.past.objects c.knowns good.held (l.needed c.keys x.past.objects c.knowns good.held settled)
+
+-- ---- counts
+
+counted_no_fewer : (names : Names) (old new : Past) (sent : List ℕ) (answer : Option (List ℕ)) (d e : Disturbances) → IsCounted names old sent answer new d e → AreNoFewer d e
+counted_no_fewer names old new sent answer d e (inl clean) =
+    (omega (arith, ap (λ (x : Disturbances). x.disturbed) clean.1), omega (arith, ap (λ (x : Disturbances). x.requests) clean.1), omega (arith, ap (λ (x : Disturbances). x.strange) clean.1))
+counted_no_fewer names old new sent answer d e (inr more) =
+    (omega (arith, ap (λ (x : Disturbances). x.disturbed) more.2), omega (arith, ap (λ (x : Disturbances). x.requests) more.2), omega (arith, ap (λ (x : Disturbances). x.strange) more.2))
+
+-- no count falls in an exchange
+pub no_fewer : (names : Names) (old new : Past) (sent : List ℕ) (answered : Result (Option (List ℕ)) LinkFault) (d e : Disturbances) → Counted names old sent answered new d e → AreNoFewer d e
+no_fewer names old new sent (Ok answer) d e counted = counted_no_fewer names old new sent answer d e counted
+no_fewer names old new sent (Err Io) d e counted = counted_no_fewer names old new sent None d e counted
+no_fewer names old new sent (Err Frame) d e counted = counted_no_fewer names old new sent None d e counted
+no_fewer names old new sent (Err NoMemory) d e counted = counted
+
+-- nor in several
+pub no_fewer_then : (d e f : Disturbances) → AreNoFewer d e → AreNoFewer e f → AreNoFewer d f
+no_fewer_then d e f first second = (omega (arith, first.0, second.0), omega (arith, first.1, second.1), omega (arith, first.2, second.2))

@@ -5,7 +5,7 @@ use Rattle.kmip_plan.specs.declared.key.Key.{Key}
 use Rattle.kmip_progress.specs.declared.known.Known.{Known}
 use Rattle.kmip_client.specs.Clients.{ClientState}
 use Rattle.kmip_client.specs.Held.{Held, TrueProgress}
-use Rattle.kmip_protocol.specs.Clean.{Disturbances}
+use Rattle.kmip_protocol.specs.Clean.{AreNoFewer, Disturbances}
 use Rattle.kmip_protocol.specs.Past.{is_planned}
 use Rattle.kmip_protocol.specs.Seen.{Seen}
 use Rattle.kmip_runs.specs.PrivateCampaignParts.{IsNoted, Standing}
@@ -21,11 +21,11 @@ use Rattle.kmip_runs.proofs.OrderLemmas.{one_further}
 
 -- one more run behind all others
 outlast_push : (keys : List Key) (runs : List Run) (ends : List RunEnd) (run : Run) (end : RunEnd) (d e f : Disturbances) → AllOutlast keys runs ends d e
-    → Outlasts keys run end e f → AllOutlast keys (runs ++ run ∷ []) (ends ++ end ∷ []) d f
-outlast_push keys [] [] run end d e f is one = (f, subst (λ x. Outlasts keys run end x f) is one, refl)
-outlast_push keys [] (other ∷ ends) run end d e f is one = absurd is
-outlast_push keys (other ∷ runs) [] run end d e f is one = absurd is
-outlast_push keys (other ∷ runs) (first ∷ ends) run end d e f is one = (is.0, is.1, outlast_push keys runs ends run end is.0 e f is.2 one)
+    → AreNoFewer e f → Outlasts keys run end e f → AllOutlast keys (runs ++ run ∷ []) (ends ++ end ∷ []) d f
+outlast_push keys [] [] run end d e f is counts one = (f, subst (λ x. AreNoFewer x f) is counts, subst (λ x. Outlasts keys run end x f) is one, refl)
+outlast_push keys [] (other ∷ ends) run end d e f is counts one = absurd is
+outlast_push keys (other ∷ runs) [] run end d e f is counts one = absurd is
+outlast_push keys (other ∷ runs) (first ∷ ends) run end d e f is counts one = (is.0, is.1, is.2, outlast_push keys runs ends run end is.0 e f is.3 counts one)
 
 pub outlast_none : (keys : List Key) (runs : List Run) (ends : List RunEnd) (d e : Disturbances) → ends ≡ [] → e ≡ d → AllOutlast keys (take 0 runs) ends d e
 outlast_none keys [] ends d e none same = rw none same
@@ -35,7 +35,7 @@ pub outlast_more : (keys : List Key) (runs : List Run) (at : ℕ) (run : Run) (e
     → AllOutlast keys (take at runs) ends d e → HasOutlasted keys run ends nexts e f → AllOutlast keys (take (suc at) runs) nexts d f
 outlast_more keys runs at run ends nexts d e f is all one =
     subst (λ front. AllOutlast keys front nexts d f) (sym (one_further runs at run is))
-    (subst (λ es. AllOutlast keys (take at runs ++ run ∷ []) es d f) (sym one.joined) (outlast_push keys (take at runs) ends run one.end d e f all one.outlasts))
+    (subst (λ es. AllOutlast keys (take at runs ++ run ∷ []) es d f) (sym one.joined) (outlast_push keys (take at runs) ends run one.end d e f all one.counts one.outlasts))
 
 module _ (keys : List Key) where
   -- begun, driven, noted and closed
@@ -44,13 +44,14 @@ module _ (keys : List Key) where
       → (All (TrueProgress x.past.objects keys) saved → Held x.past.objects a.keys a.knowns → Held x.past.objects b.keys b.knowns)
       → (IsGood b x → x.honest (is_planned b.keys) → driven.0 ≢ stops.NoMemory → IsEnough b.keys run.limit x.disturbances y.disturbances → driven.0 ≡ stops.AllFinished)
       → driven.0 ≢ stops.NoMemory → IsNoted c.keys run c.knowns driven ends nexts → (z.disturbances ≡ y.disturbances)
-      → Standing keys a x ends saved → x.honest (is_planned keys) → HasOutlasted keys run ends nexts x.disturbances z.disturbances
-  outlasted_run run a b c x y z driven ends nexts saved a_keys b_keys c_keys begun outlasts memory noted same standing honest =
+      → AreNoFewer x.disturbances y.disturbances → Standing keys a x ends saved → x.honest (is_planned keys) → HasOutlasted keys run ends nexts x.disturbances z.disturbances
+  outlasted_run run a b c x y z driven ends nexts saved a_keys b_keys c_keys begun outlasts memory noted same counts standing honest =
       let held = begun standing.noted.true_saved standing.good.held in
       let good = good_with a b x (b_keys ∙ sym a_keys) standing.good held in
       record {
         end = noted.end;
         joined = noted.joined;
+        counts = subst (λ d. AreNoFewer x.disturbances d) (sym same) counts;
         outlasts = λ enough.
             noted.stop_is
             ∙ outlasts good (subst (λ ks. x.honest (is_planned ks)) (sym b_keys) honest) memory

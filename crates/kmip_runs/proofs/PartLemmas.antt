@@ -79,6 +79,15 @@ module _ (premises : Premises) where
     order = is.order;
     complete = λ holds. is.complete (to holds);
     known = known_if keys carried list part premises.honest whole other old new to is.known;
+    turned = record {
+      talks = is.turned.talks;
+      clients = is.turned.clients;
+      turned = is.turned.turned;
+      until = is.turned.until;
+      sent_are = is.turned.sent_are;
+      handed_are = is.turned.handed_are;
+      no_more = λ holds. is.turned.no_more (to holds);
+    };
     settles = λ calmly holds. is.settles calmly (to holds);
   }
 

@@ -31,6 +31,7 @@ use Rattle.kmip_runs.specs.PrivateCampaignsParts.{HasRunBroken, HasRunPart, HasR
 use Rattle.kmip_runs.specs.Remembering.{AreKnownFrom, Notes, Shows, noted_ends, noted_saves, notes_of, saved_after, saved_from}
 use Rattle.kmip_runs.specs.declared.campaign_end.CampaignEnd.{CampaignEnd}
 use Rattle.kmip_runs.specs.declared.run.Run.{Run}
+use Rattle.kmip_runs.specs.TurnedRuns.{AreTurnedFrom}
 use Rattle.kmip_runs.specs.declared.run_end.RunEnd.{RunEnd}
 use Rattle.kmip_runs.proofs.CampaignLemmas.{true_onward}
 use Rattle.kmip_runs.proofs.LastLemmas.{noted_for_both, noted_for_none, noted_for_onward, noted_over, true_over}
@@ -95,6 +96,19 @@ known_for keys carried runs notes honest other whole old new to is = record {
   takes_nothing_back = λ holds. is.takes_nothing_back (to holds);
   few_more = λ holds. is.few_more (to holds);
   no_more = is.no_more;
+}
+
+-- the turns of runs, under other premises that give the first
+pub turned_for : (keys : List Key) (carried : List (List Known)) (runs : List Run) (ends : List RunEnd) (honest other whole less : Type 0) (old new : Past)
+    → (other → honest) → (less → whole) → AreTurnedFrom keys carried runs ends honest whole old new → AreTurnedFrom keys carried runs ends other less old new
+turned_for keys carried runs ends honest other whole less old new to of is = record {
+  talks = is.talks;
+  clients = is.clients;
+  turned = is.turned;
+  until = is.until;
+  sent_are = λ holds. is.sent_are (to holds);
+  handed_are = λ holds. is.handed_are (to holds);
+  no_more = λ holds. is.no_more (of holds);
 }
 
 pub if_ok_more : {A E : Type 0} (P Q : A → Type 0) (r : Result A E) → ((a : A) → P a → Q a) → IfOk r P → IfOk r Q
@@ -238,10 +252,11 @@ module _ (plans : List (List Key)) (runs : List (List Run)) where
 
     part_of : (start x y : Seen) (place : ℕ) (keys : List Key) (list : List Run) (old : CampaignEnd) (carried : List (List Known)) (whole : Type 0) → IsLawful keys
         → slice_get plans place ≡ Some keys → (before : Turning start x place old carried) (part : CampaignEnd) → HasRunAll keys carried list (notes_of part) (part.fault ≡ None) x y
+        → AreTurnedFrom keys carried list part.runs.items (x.honest (is_planned keys)) (part.fault ≡ None) x.past y.past
         → (whole → part.fault ≡ None)
         → IsPart keys (map (carried_over keys) ([] ++ flat_map noted_saves before.parts)) list (record { ends = part.runs.items; saved = part.saved.items })
         (premises_of plans start) whole x.past y.past
-    part_of start x y place keys list old carried whole lawful_keys is before part all to =
+    part_of start x y place keys list old carried whole lawful_keys is before part all turns to =
         let names = l.names (last_plan plans) keys lawful (last_prolongs l plans place keys prolonged is) in
         let carried_is : carried ≡ map (carried_over keys) (flat_map noted_saves before.parts) = (before.carried_are keys is).0 ∙ ap (map (carried_over keys)) before.saved_are in
         record {
@@ -251,6 +266,9 @@ module _ (plans : List (List Key)) (runs : List (List Run)) where
               (known_for keys carried list (notes_of part) (x.honest (is_planned keys)) (start.honest (is_planned (last_plan plans))) whole x.past y.past
               (λ holds. (x.fewer (is_planned (last_plan plans)) (is_planned keys) names).0 (before.honest_still (is_planned (last_plan plans)) holds))
               (known_if keys carried list (notes_of part) (x.honest (is_planned keys)) (part.fault ≡ None) whole x.past y.past to all.known));
+          turned = subst (λ cs. AreTurnedFrom keys cs list part.runs.items (start.honest (is_planned (last_plan plans))) whole x.past y.past) carried_is
+              (turned_for keys carried list part.runs.items (x.honest (is_planned keys)) (start.honest (is_planned (last_plan plans))) (part.fault ≡ None) whole x.past y.past
+              (λ holds. (x.fewer (is_planned (last_plan plans)) (is_planned keys) names).0 (before.honest_still (is_planned (last_plan plans)) holds)) to turns);
           settles = λ begun holds.
               (all.settles (calm_of start x place old keys carried is lawful_keys before begun)
               ((before.stands (begun_of start begun)).carried_true keys is) (to holds)).0;
@@ -268,7 +286,7 @@ module _ (plans : List (List Key)) (runs : List (List Run)) where
           ends_are = ran.runs_are ∙ ap (λ ends. ends ++ ran.part.runs.items) before.ends_are ∙ flat_push noted_ends before.parts part;
           saved_are = ran.saved_are ∙ ap (λ saved. saved ++ ran.part.saved.items) before.saved_are ∙ flat_push noted_saves before.parts part;
           each = parts_more (premises_of plans start) plans runs [] before.parts place keys list part whole start.past
-              x.past y.past is so before.each (part_of start x y place keys list old carried whole lawful_keys is before ran.part ran.all to);
+              x.past y.past is so before.each (part_of start x y place keys list old carried whole lawful_keys is before ran.part ran.all ran.turned to);
           good = λ begun.
               let reached = before.stands begun in
               let ended = ran.all.well (good_of start x place old keys carried is lawful_keys before begun) (reached.carried_true keys is) in

@@ -293,6 +293,14 @@ went_then l a b c stop result m n memory first second =
           };
     }
 
+-- what may happen meanwhile goes onward
+pub went_passed : CarryingLaws → (keys : List Key) (old new : Past) → Sound keys old → PassedAmid keys old new → WentOn keys old new
+went_passed l keys old new sound passed = record {
+  onward = (l.passing keys old new sound passed).1;
+  mirrored = λ image. l.images keys old new sound image passed;
+  passed = l.blind_to keys [] [] old new passed;
+}
+
 -- the end of the run, after these exchanges
 pub went_closed : {V E : Type 0} → CarryingLaws → (a b : Situation) (z : Seen) (result ended : Result Stop SaveFault) (closed : Result V E) (m : ℕ) → IsLawful a.client.keys
     → ((names : Names) → b.link.honest names → z.honest names × Delivered names b.link.past z.past)

@@ -14,6 +14,7 @@ use Rattle.kmip_protocol.specs.Sound.{NoneIsFurther, Sound}
 use Rattle.kmip_protocol.specs.Needs.{missing}
 use Rattle.kmip_runs.specs.Campaign.{IsEnd, Settles, saves}
 use Rattle.kmip_runs.specs.Remembering.{AreKnownFrom, Notes, noted_ends, noted_saves}
+use Rattle.kmip_runs.specs.TurnedRuns.{AreTurnedFrom}
 use Rattle.kmip_runs.specs.declared.run.Run.{Run}
 
 -- each plan prolongs the one before it
@@ -73,6 +74,8 @@ pub record IsPart (keys : List Key) (carried : List (List Known)) (runs : List R
   pub order : AllZip (IsEnd keys) (take (length part.ends) runs) part.ends
   pub complete : whole → AllZip (IsEnd keys) runs part.ends × (length part.saved ≡ length (filter saves runs))
   pub known : AreKnownFrom keys carried runs part premises.honest whole old new
+  -- each end shows what the turns of its run made of the client that it began with
+  pub turned : AreTurnedFrom keys carried runs part.ends premises.honest whole old new
   pub settles : premises.calm → whole → AllZip (Settles keys) runs part.ends
 
 -- The lists of runs were made on the plans in turn, the last of them whole or broken off. What was saved so

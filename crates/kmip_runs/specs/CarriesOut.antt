@@ -1,34 +1,42 @@
 -- What carrying out a plan over a link promises.
 -- Source: own (view).
-use Rattle.std.specs.Prelude.{Bool, Err, IfOk, IsTrue, Ok, Result, false, length, ℕ, ◌+◌, ◌<◌, ◌≡◌, ◌≢◌, ◌≤◌, ◌⊎◌}
+use Rattle.std.specs.Prelude.{Bool, Err, IfOk, IsTrue, Ok, Result, false, length, ℕ, ◌+◌, ◌-◌, ◌<◌, ◌≡◌, ◌≢◌, ◌≤◌, ◌⊎◌}
 use Rattle.kmip_client.specs.Clients.{ClientState}
+use Rattle.kmip_client.specs.Verdicts.{counts_of}
 use Rattle.kmip_plan.specs.Chains.{bound}
 use Rattle.kmip_protocol.specs.Ending.{EndedAt}
+use Rattle.kmip_protocol.specs.Headline.{Safe}
 use Rattle.kmip_protocol.specs.Past.{is_planned}
 use Rattle.kmip_protocol.specs.Seen.{Seen}
 use Rattle.kmip_runs.specs.Driving.{AsksOne, IsBorneOut, IsGood, IsSettling, Keeps, Learnt, LearntUntil, Nearer, TakesNothingBack, WentOn, need}
+use Rattle.kmip_runs.specs.Headline.{reported_by}
 use Rattle.kmip_runs.specs.Keeping.{Kept}
+use Rattle.kmip_disk.specs.Calls.{HasRisenBy}
 use Rattle.kmip_disk.specs.Whole.{IsWritten}
-use Rattle.kmip_runs.specs.Lasting.{LeavesBetween, LeavesTheFile}
+use Rattle.kmip_runs.specs.Lasting.{KeepsBetween, LeavesTheFile}
 use Rattle.kmip_runs.specs.Losing.{ArePaid, IsEnough, left_for}
 use Rattle.kmip_runs.specs.Refusals.{HasRisen}
-use Rattle.kmip_runs.specs.Saved.{AreSavedBetween, IsInMemory, IsLeft, IsWhole, Situation}
+use Rattle.kmip_runs.specs.Saved.{IsInMemory, IsLeft, IsWhole, Situation}
+use Rattle.kmip_runs.specs.Turning.{IsTurnedUntil, stop_in}
 use Rattle.kmip_runs.specs.declared.save_fault.SaveFault.{SaveFault}
 use Rattle.kmip_runs.specs.declared.stop.Stop.{Stop}
 use Rattle.kmip_runs.specs.declared.stop.Stop.TheVariants as stops
 use Rattle.kmip_runs.specs.declared.save_fault.SaveFault.TheVariants as faults
 
--- What is seen at a moment while a plan is carried out: of the link, of the client, of the keeper, and whether
--- patience has given up.
+-- What is seen at a moment while a plan is carried out: of the link, of the client, of the keeper, and of
+-- patience: whether it has given up.
 pub record Stage : Type 1 where
   pub link : Seen
   pub client : ClientState
   pub keeper : Kept
   pub is_tired : Bool
+  -- How often patience was asked whether to go on.
+  pub asked : ℕ
 
 -- The stage of these parts.
-abbrev pub stage : Seen → ClientState → Kept → Bool → Stage
-stage link client keeper is_tired = record { link = link; client = client; keeper = keeper; is_tired = is_tired }
+abbrev pub stage : Seen → ClientState → Kept → Bool → ℕ → Stage
+stage link client keeper is_tired asked =
+    record { link = link; client = client; keeper = keeper; is_tired = is_tired; asked = asked }
 
 -- What is seen at a stage, but for patience.
 abbrev pub situation : Stage → Situation
@@ -58,6 +66,8 @@ pub record CarriesOutWell (most : ℕ) (old : Stage) (stopped : Result Stop Save
       → stopped ≡ Ok stops.AllFinished
   -- Where all was good (`IsGood`), it does not stop with `Conflict`.
   pub no_conflict : stopped ≢ Ok stops.Conflict
+  -- If all was good, the past is safe for the steps that the client counts done at the end.
+  pub safe : Safe old.client.keys new.link.past (reported_by old.client.keys (counts_of new.client.knowns))
 
 -- What carrying out a plan promises over a link that was honest for its names.
 pub record CarriesOutHonestly (old : Stage) (stopped : Result Stop SaveFault) (made : ℕ) (new : Stage) : Type 0 where
@@ -112,17 +122,9 @@ pub record CarriesOut (most : ℕ) (old : Stage) (stopped : Result Stop SaveFaul
   -- Over any link the plan stays, and how many keys a message may ask about. No identifier or count is
   -- taken back.
   pub forgets_nothing : Keeps old.client new.client
-  -- A disk that kept the rules does so still. One text was saved for each exchange, in order,
-  -- and no other. The last exchange has none where its text was not saved, and may have none where
-  -- memory ran out. Each is the progress text of what was known at a moment; no moment, and not the
-  -- end, takes back an identifier or a count. `AreSaved` says what each text says over an honest link,
-  -- and what it says where all was good at the start.
-  pub saved : old.keeper.disk.lawful → new.keeper.disk.lawful
-      × AreSavedBetween (situation old) (situation new) stopped made
-  -- On a disk that kept the rules, a crash at any moment leaves what it might have left at the start, or
-  -- the text of what was known at a moment of the run. That text is whole, and where all was good it is true.
-  pub any_moment : old.keeper.disk.lawful
-      → LeavesBetween (situation old) (situation new) stopped made
+  -- What is known after each exchange is saved, and what a crash may leave is one of these texts
+  -- (`KeepsMoments`): if the disk keeps the rules, it is whole, and if all was good, it is true.
+  pub moments : KeepsBetween (situation old) (situation new) stopped made
   -- On a disk that kept the rules, once the run has ended: a crash leaves what a read gives, and nothing
   -- else. That is said where the bytes of the file were on the disk at the start, and unless the keeper's
   -- count of refusals has risen, or stands at its last value. An older text is as true.
@@ -143,5 +145,12 @@ pub record CarriesOut (most : ℕ) (old : Stage) (stopped : Result Stop SaveFaul
   pub given_up : old.is_tired ≡ false → IsTrue new.is_tired → IsLeft stopped × (made < most)
   -- At most `most` exchanges are made.
   pub within : made ≤ most
+  -- Patience was asked before each exchange but the first.
+  pub asked : HasRisenBy (made - 1) old.asked new.asked
+  -- Over any link the client took as many turns as exchanges are counted. In each it asked its next question,
+  -- and learnt from an answer or that none came. Over an honest link these are what was sent and handed over,
+  -- and the end of the run followed.
+  pub turned : IsTurnedUntil (old.link.honest (is_planned old.client.keys)) (stop_in stopped) made old.client
+      new.client old.link.past new.link.past
   -- Over a calm link, where the client was ready to settle, both of this hold.
   pub calmly : IsSettling old.client old.link → CarriesOutCalmly most old stopped made new

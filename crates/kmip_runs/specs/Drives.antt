@@ -5,6 +5,7 @@ use Rattle.kmip_client.specs.Clients.{ClientState}
 use Rattle.kmip_plan.specs.Chains.{bound}
 use Rattle.kmip_plan.specs.declared.key.Key.{Key}
 use Rattle.kmip_protocol.specs.Amid.{PassedAmid}
+use Rattle.kmip_protocol.specs.Clean.{AreNoFewer}
 use Rattle.kmip_protocol.specs.Ending.{EndedAt}
 use Rattle.kmip_protocol.specs.Moves.{Delivered}
 use Rattle.kmip_protocol.specs.Needs.{chains_and_looks}
@@ -115,6 +116,8 @@ pub record Drives (old : Seen) (client : ClientState) (most : ℕ) (driven : Sto
       × IsComplete client.keys new.past.objects next.knowns
   -- A link that is honest for some names is so after it.
   pub honest : (names : Names) → old.honest names → new.honest names
+  -- Over a link that is honest for some names no count of disturbed exchanges falls.
+  pub counts : (names : Names) → old.honest names → AreNoFewer old.disturbances new.disturbances
   -- Over a link that is honest for some names it ends no run.
   pub ended : (names : Names) → old.honest names → new.ended ≡ old.ended
   -- Unless memory ran out, the link after it is what calls made of the link before, as the link itself

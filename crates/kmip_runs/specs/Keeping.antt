@@ -1,18 +1,50 @@
 -- All that a contract sees of a keeper at a moment, as one value, and what its calls leave on the disk.
 -- Source: own (view): the standard knows no progress that is kept.
-use Rattle.std.specs.Prelude.{◌≡◌, ◌⊎◌, ℕ, List, OnOk, Result, Some}
+use Rattle.std.specs.Prelude.{◌≡◌, ◌⊎◌, [], ℕ, List, OnOk, Option, Result, Some}
 use Rattle.kmip_disk.specs.Views.{Content, DiskView}
-use Rattle.kmip_disk.specs.Whole.{IsBeforeOrText, IsWritten, LeavesOnly}
+use Rattle.kmip_disk.specs.Whole.{HasText, IsBeforeOrText, IsWritten, LeavesOnly}
 
--- What is seen of who keeps texts: which it saved, the disk that it keeps them on, and how often it could not.
+-- What is seen of a keeper: which texts it saved, the disk that it keeps them on, and how often it could not.
 pub record Kept : Type 1 where
-  -- Each text that was saved, the first one first.
+  -- That it remembers each text that it saved. A keeper that holds only the last one does not.
+  pub remembers : Type 0
+  -- If it does: each text that was saved, the first one first.
   pub saved : List (List ℕ)
   -- The disk, whose file has the text that was saved last. That it keeps the rules is a premise: of a real
   -- machine no contract can say so.
   pub disk : DiskView
   -- How often it could not write a text, or not make it last, up to 2^64 - 1.
   pub refusals : ℕ
+
+-- If a text is remembered as the one that was written last, the file has it.
+abbrev pub IsLastText : DiskView → Option (List ℕ) → Type 0
+IsLastText disk last = (text : List ℕ) → last ≡ Some text → HasText disk text
+
+-- A disk that keeps the rules only if this holds too.
+abbrev pub guarded : DiskView → Type 0 → DiskView
+guarded view P = record {
+  lawful = view.lawful × P;
+  file = view.file;
+  beside = view.beside;
+  file_may_keep = view.file_may_keep;
+  beside_may_keep = view.beside_may_keep;
+  may_leave = view.may_leave;
+  moment = view.moment;
+  left_since = view.left_since;
+  failures = view.failures;
+  kill_loses_nothing = λ both. view.kill_loses_nothing both.0;
+  counts_now = λ both. view.counts_now both.0;
+  only_now = λ both. view.only_now both.0;
+}
+
+-- What is seen of a keeper of one file, which remembers at most the text that it wrote last.
+abbrev pub kept_in_file : DiskView → Option (List ℕ) → ℕ → Kept
+kept_in_file disk last refusals = record {
+  remembers = ⊥;
+  saved = [];
+  disk = guarded disk (IsLastText disk last);
+  refusals = refusals;
+}
 
 -- A text is saved in place of the one before it.
 pub record SavesText {E : Type 0} (old : DiskView) (text : List ℕ) (result : Result (Unit {0}) E) (new : DiskView) : Type 0 where

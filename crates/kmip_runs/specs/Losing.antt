@@ -4,7 +4,7 @@ use Rattle.std.specs.Prelude.{◌≡◌, ◌≤◌, ◌+◌, ◌*◌, ℕ, List,
 use Rattle.kmip_plan.specs.Chains.{bound}
 use Rattle.kmip_plan.specs.declared.key.Key.{Key}
 use Rattle.kmip_client.specs.Clients.{ClientState}
-use Rattle.kmip_protocol.specs.Clean.{Disturbances}
+use Rattle.kmip_protocol.specs.Clean.{AreNoFewer, Disturbances}
 use Rattle.kmip_protocol.specs.Past.{Past}
 use Rattle.kmip_protocol.specs.Losing.{left_all}
 use Rattle.kmip_runs.specs.declared.run.Run.{Run}
@@ -34,10 +34,10 @@ IsEnough keys limit old new = bound keys + length keys + cost new ≤ limit + co
 abbrev pub Outlasts : List Key → Run → RunEnd → Disturbances → Disturbances → Type 0
 Outlasts keys run end old new = IsEnough keys run.limit old new → end.stop ≡ stops.AllFinished
 
--- each of the runs, in turn, stops with every key finished if its limit is enough, by what was disturbed in
--- it
+-- Each of the runs, in order, stops with every key finished if its limit is enough for what was disturbed in it.
+-- No count falls from one end to the next, so what was disturbed in the runs adds up.
 abbrev pub AllOutlast : List Key → List Run → List RunEnd → Disturbances → Disturbances → Type 0
 AllOutlast keys [] [] old new = new ≡ old
 AllOutlast keys (run ∷ runs) (end ∷ ends) old new =
-    (between : Disturbances) × Outlasts keys run end old between × AllOutlast keys runs ends between new
+    (between : Disturbances) × AreNoFewer old between × Outlasts keys run end old between × AllOutlast keys runs ends between new
 AllOutlast keys runs ends old new = ⊥

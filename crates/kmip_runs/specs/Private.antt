@@ -3,17 +3,18 @@
 use Rattle.std.specs.Prelude.{◌≡◌, ◌≤◌, ◌<◌, ◌+◌, ℕ, List, [], ◌∷◌, ◌++◌, length, Option, Some, None, Bool, true, false}
 use Rattle.std.specs.List.{All}
 use Rattle.kmip_plan.specs.declared.key.Key.{Key}
-use Rattle.kmip_client.specs.Asking.{IsAbout, after_ask, next_question}
+use Rattle.kmip_client.specs.Asking.{IsAbout, after_ask, next_places, next_question}
 use Rattle.kmip_client.specs.Clients.{ClientState}
 use Rattle.kmip_client.specs.declared.part.Part.{Part}
 use Rattle.kmip_client.specs.declared.question.Question.{Question}
-use Rattle.kmip_protocol.specs.Past.{Past}
+use Rattle.kmip_protocol.specs.Exchanges.{HandsOver}
+use Rattle.kmip_protocol.specs.Past.{Past, is_planned}
 use Rattle.kmip_runs.specs.declared.turn_fault.TurnFault.{TurnFault}
 use Rattle.kmip_runs.specs.declared.turn_fault.TurnFault.TheVariants.{Unmade, Unheard}
 use Rattle.kmip_runs.specs.Driving.{IsUnmade, IsUnheard}
 use Rattle.kmip_runs.specs.declared.run_end.RunEnd.{RunEnd}
 use Rattle.kmip_runs.specs.Ending.{AreEnded}
-use Rattle.kmip_protocol.specs.Clean.{Disturbances}
+use Rattle.kmip_protocol.specs.Clean.{AreNoFewer, Disturbances}
 use Rattle.kmip_runs.specs.declared.run.Run.{Run}
 use Rattle.kmip_runs.specs.Losing.{Outlasts}
 use Rattle.kmip_protocol.specs.Turns.{taught}
@@ -56,6 +57,7 @@ pub record EndsJoin (old new : List RunEnd) (whole : Type 0) (sent later : ℕ) 
 pub record HasOutlasted (keys : List Key) (run : Run) (ends nexts : List RunEnd) (old new : Disturbances) : Type 0 where
   pub end : RunEnd
   pub joined : nexts ≡ ends ++ end ∷ []
+  pub counts : AreNoFewer old new
   pub outlasts : Outlasts keys run end old new
 
 -- How many exchanges were made in a turn in which memory ran out.
@@ -75,18 +77,19 @@ pub record IsAnswered (honest : Type 0) (question : Question) (c next : ClientSt
   pub next_is : next ≡ taught question answer c
   pub sent_are : honest → after.sent ≡ before.sent ++ question.bytes ∷ []
   pub handed_are : honest → after.handed ≡ before.handed ++ answer ∷ []
+  pub hands_over : honest → HandsOver (is_planned c.keys) before question.bytes answer after
 
 -- A turn that asks the next question.
 pub record TurnsOnce (honest : Type 0) (c next : ClientState) (before after : Past) : Type 0 where
   pub question : Question
   pub question_is : next_question c ≡ Some question
+  pub about : IsAbout c.keys c.knowns (next_places c) question
   pub answered : IsAnswered honest question (after_ask c) next before after
 
 -- A turn in which there is no next question, so that nothing changes.
 pub record Rests (honest : Type 0) (c next : ClientState) (before after : Past) : Type 0 where
   pub next_is : next ≡ c
-  pub sent_stays : honest → after.sent ≡ before.sent
-  pub handed_stays : honest → after.handed ≡ before.handed
+  pub past_stays : honest → after ≡ before
 
 -- A turn, with a question or with none.
 abbrev pub TakesTurn : Type 0 → Bool → ClientState → ClientState → Past → Past → Type 0
@@ -97,6 +100,7 @@ TakesTurn honest false c next before after = Rests honest c next before after
 pub record IsUnanswered (honest : Type 0) (c next : ClientState) (before after : Past) : Type 0 where
   pub question : Question
   pub question_is : next_question c ≡ Some question
+  pub about : IsAbout c.keys c.knowns (next_places c) question
   pub next_is : next ≡ taught question None (after_ask c)
   pub sent_are : honest → after.sent ≡ before.sent ++ question.bytes ∷ []
 
@@ -116,4 +120,4 @@ pub record RanTurned (keys : List Key) (first last : ClientState) (honest : Type
 
 -- A keeper of which nothing is claimed, but how often it could not write a text.
 abbrev pub unclaimed : ℕ → Kept
-unclaimed refusals = record { saved = []; disk = unclaimed_disk refusals; refusals = refusals }
+unclaimed refusals = record { remembers = ⊥; saved = []; disk = unclaimed_disk refusals; refusals = refusals }

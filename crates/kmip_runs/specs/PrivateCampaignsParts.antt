@@ -20,6 +20,7 @@ use Rattle.kmip_runs.specs.Campaigns.{AreInTurn, GoodStart, IsTrueFor, carried_o
 use Rattle.kmip_runs.specs.Driving.{WentOn}
 use Rattle.kmip_runs.specs.Remembering.{notes_of}
 use Rattle.kmip_runs.specs.declared.campaign_end.CampaignEnd.{CampaignEnd}
+use Rattle.kmip_runs.specs.TurnedRuns.{AreTurnedFrom}
 use Rattle.kmip_runs.specs.declared.run.Run.{Run}
 use Rattle.kmip_runs.specs.declared.run_end.RunEnd.{RunEnd}
 
@@ -49,6 +50,7 @@ pub record HasRunPart (keys : List Key) (carried : List (List Known)) (runs : Li
   pub all : HasRunAll keys carried runs (notes_of part) (part.fault ≡ None) x y
   pub runs_are : new.runs.items ≡ old.runs.items ++ part.runs.items
   pub saved_are : new.saved.items ≡ old.saved.items ++ part.saved.items
+  pub turned : AreTurnedFrom keys carried runs part.runs.items (x.honest (is_planned keys)) (part.fault ≡ None) x.past y.past
 
 -- The runs of one more plan were made, and either one of them has no end, or there is a plan to which nothing
 -- was carried over.

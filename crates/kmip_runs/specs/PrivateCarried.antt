@@ -1,8 +1,9 @@
 -- Private: what the parts of carrying out a plan keep.
 -- Source: own (view).
-use Rattle.std.specs.Prelude.{Err, IfOk, IsTrue, Ok, Result, [], false, ℕ, ◌<◌, ◌≡◌, ◌≤◌, ◌⊎◌}
+use Rattle.std.specs.Prelude.{Err, IfOk, IsTrue, Ok, Result, [], false, ℕ, ◌-◌, ◌<◌, ◌≡◌, ◌≤◌, ◌⊎◌}
 use Rattle.kmip_client.specs.Clients.{ClientState}
 use Rattle.kmip_client.specs.Saving.{progress}
+use Rattle.kmip_disk.specs.Calls.{HasRisenBy}
 use Rattle.kmip_disk.specs.Views.{DiskView}
 use Rattle.kmip_disk.specs.Whole.{IsWritten, LeavesOneOf}
 use Rattle.kmip_progress.specs.Reading.{read_text}
@@ -16,14 +17,15 @@ use Rattle.kmip_protocol.specs.LosingLaws.{LateArrivalsAddNothing, LeftIsBounded
 use Rattle.kmip_runs.specs.Driving.{IsBorneOut, IsGood, IsSettling, Keeps, Learnt, LearntUntil, Nearer, TakesNothingBack, WentOn}
 use Rattle.kmip_runs.specs.declared.stop.Stop.{Stop}
 use Rattle.kmip_runs.specs.declared.stop.Stop.TheVariants as stops
-use Rattle.kmip_runs.specs.Saved.{AreSavedBetween, IsInMemory, IsLeft, IsWhole, Situation}
+use Rattle.kmip_runs.specs.Saved.{IsInMemory, IsLeft, IsWhole, Situation}
 use Rattle.kmip_runs.specs.declared.save_fault.SaveFault.{SaveFault}
 use Rattle.kmip_runs.specs.declared.save_fault.SaveFault.TheVariants as faults
 use Rattle.kmip_runs.specs.CarriesOut.{Stage, situation}
 use Rattle.kmip_runs.specs.Losing.{ArePaid, left_for}
 use Rattle.kmip_runs.specs.Keeping.{SavesText}
-use Rattle.kmip_runs.specs.Lasting.{LeavesBetween}
+use Rattle.kmip_runs.specs.Lasting.{KeepsBetween}
 use Rattle.kmip_runs.specs.Refusals.{HasRisen}
+use Rattle.kmip_runs.specs.Turning.{IsTurned, stop_in}
 
 -- The laws of the crates below that the proofs use.
 pub record CarryingLaws : Type 0 where
@@ -61,8 +63,7 @@ pub record Went (old new : Situation) (result : Result Stop SaveFault) (made : �
 -- So many exchanges were made, and what was known after each was saved.
 pub record Carried (old new : Situation) (result : Result Stop SaveFault) (made : ℕ) : Type 0 where
   pub went : Went old new result made
-  pub saved : old.keeper.disk.lawful → new.keeper.disk.lawful × AreSavedBetween old new result made
-  pub any_moment : old.keeper.disk.lawful → LeavesBetween old new result made
+  pub kept : KeepsBetween old new result made
 
 -- What exchanges make of a run, however many are made.
 pub record MakesExchanges (old new : Situation) (result : Result Stop SaveFault) (made : ℕ) : Type 0 where
@@ -74,6 +75,8 @@ pub record MakesExchanges (old new : Situation) (result : Result Stop SaveFault)
   pub output : result ≡ Err faults.Output → HasRisen old.keeper.refusals new.keeper.refusals
   -- How the keys stand bears out why no more were made.
   pub stops_for_its_reason : IfOk result (λ stop. IsBorneOut stop new.client.keys new.client.knowns)
+  -- The client took a turn for each.
+  pub turned : IsTurned (old.link.honest (is_planned old.client.keys)) (stop_in result) made old.client new.client old.link.past new.link.past
   -- Where all was good and nobody else asks, they are paid for.
   pub losing : IsGood old.client old.link → old.link.honest (is_planned old.client.keys) → IsInMemory result
       → ArePaid made (left_for old.client old.link.past) (left_for new.client new.link.past) old.link.disturbances new.link.disturbances
@@ -99,6 +102,8 @@ pub record MakesExchangesInTurn (most : ℕ) (old : Stage) (result : Result Stop
   pub given_up : old.is_tired ≡ false → IsTrue new.is_tired → IsLeft result × (made < most)
   -- `most` are made at most.
   pub within : made ≤ most
+  -- Patience was asked before each but the first.
+  pub asked : HasRisenBy (made - 1) old.asked new.asked
   -- Over a link that was honest for the names of the plan no run was ended.
   pub ended : old.link.honest (is_planned old.client.keys) → new.link.ended ≡ old.link.ended
 

@@ -5,6 +5,7 @@ use Rattle.kmip_client.specs.Clients.{AreSettled, ClientState, one_if}
 use Rattle.kmip_client.specs.Justified.{JustifiedMessage}
 use Rattle.kmip_client.specs.Known.{facts}
 use Rattle.kmip_client.specs.declared.question.Question.{Question}
+use Rattle.kmip_protocol.specs.Clean.{AreNoFewer}
 use Rattle.kmip_protocol.specs.Past.{Names, is_planned}
 use Rattle.kmip_protocol.specs.Seen.{Seen}
 use Rattle.kmip_protocol.specs.Turns.{taught}
@@ -46,6 +47,8 @@ pub record Tries {V : Type 0} (made : V → ℕ) (old : Seen) (client : ClientSt
       → IfOk done (λ v. ArePaid (made v) (left_for client old.past) (left_for next new.past) old.disturbances new.disturbances)
   -- A link that is honest for some names is so after it.
   pub honest : (names : Names) → old.honest names → new.honest names
+  -- Over a link that is honest for some names no count of disturbed exchanges falls.
+  pub counts : (names : Names) → old.honest names → AreNoFewer old.disturbances new.disturbances
   -- Over a link that is honest for some names it ends no run.
   pub ended : (names : Names) → old.honest names → new.ended ≡ old.ended
   -- Unless memory ran out, the link after it is what calls made of the link before.

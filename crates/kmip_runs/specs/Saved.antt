@@ -11,7 +11,7 @@ use Rattle.kmip_client.specs.Shapes.{IsKept}
 use Rattle.kmip_client.specs.declared.knowledge.Knowledge.{Knowledge}
 use Rattle.kmip_protocol.specs.Past.{Past, is_planned}
 use Rattle.kmip_protocol.specs.Seen.{Seen}
-use Rattle.kmip_runs.specs.Driving.{IsGood, Learnt}
+use Rattle.kmip_runs.specs.Driving.{IsGood, Learnt, WentOn}
 use Rattle.kmip_runs.specs.Keeping.{Kept}
 use Rattle.kmip_runs.specs.declared.stop.Stop.{Stop}
 use Rattle.kmip_runs.specs.declared.stop.Stop.TheVariants as stops
@@ -25,15 +25,6 @@ pub record Moment : Type 0 where
 -- What a client knows now, and what has happened over its link.
 abbrev pub moment : ClientState → Seen → Moment
 moment c link = record { knowns = c.knowns; past = link.past }
-
--- A moment, and the texts that were saved by then.
-pub record Snapshot : Type 0 where
-  pub moment : Moment
-  pub saved : List (List ℕ)
-
--- The snapshot of these.
-abbrev pub snapshot : Moment → List (List ℕ) → Snapshot
-snapshot moment saved = record { moment = moment; saved = saved }
 
 -- What may be premised of the moment at which a run begins: that all was good, and that the link was honest.
 pub record Grounds : Type 1 where
@@ -49,10 +40,6 @@ pub record Situation : Type 1 where
 -- What may be premised where a run begins so.
 abbrev pub grounds_in : Situation → Grounds
 grounds_in begun = record { good = IsGood begun.client begun.link; honest = begun.link.honest (is_planned begun.client.keys) }
-
--- What is known in a situation, what has happened by then, and what was saved.
-abbrev pub snapshot_in : Situation → Snapshot
-snapshot_in now = snapshot (moment now.client now.link) now.keeper.saved
 
 -- The progress text of what is known at a moment.
 abbrev pub text_at : List Key → Moment → List ℕ
@@ -97,28 +84,34 @@ AreUnsaved (Ok stops.Conflict) count = count ≡ 0
 AreUnsaved (Ok stops.NoMemory) count = count ≤ 1
 AreUnsaved (Err fault) count = count ≡ 1
 
--- Which texts were saved from one snapshot to the other: for each exchange one, of what was then known. The
--- last exchange may have none, as `AreUnsaved` says. No moment, and not the end, takes back an identifier or a
--- count.
--- Over an honest link each moment is one exchange later than the one before, with what that exchange
--- taught. Unless memory ran out, the end has what the exchanges without a text taught beyond the last
--- moment. Where all was saved, the text of what is known at the end is that of the last moment, or of the
--- start where there is none.
--- Where all was good at the start, what each text says is true of the objects at the end.
-pub record AreSaved (keys : List Key) (most : ℕ) (grounds : Grounds) (old new : Snapshot) (result : Result Stop SaveFault) (exchanges : ℕ) : Type 0 where
-  pub moments : List Moment
-  pub texts_are : new.saved ≡ old.saved ++ map (text_at keys) moments
+-- The objects have gone onward from the first past to each of these moments, and on to the last past.
+abbrev pub AreOnward : List Key → Past → List Moment → Past → Type 0
+AreOnward keys old [] new = WentOn keys old new
+AreOnward keys old (moment ∷ moments) new = WentOn keys old moment.past × AreOnward keys moment.past moments new
+
+-- What was known at a moment was true of the objects that there were then.
+abbrev pub WasTrue : List Key → Moment → Type 0
+WasTrue keys moment = Held moment.past.objects keys moment.knowns
+
+-- These are the moments of a run of which a text was saved, one for each exchange, right after it. The last
+-- exchange may have none, as `AreUnsaved` says.
+pub record AreMoments (keys : List Key) (most : ℕ) (grounds : Grounds) (begun ended : Moment) (result : Result Stop SaveFault) (exchanges : ℕ) (moments : List Moment) : Type 0 where
+  -- How many exchanges have no text.
   pub unsaved : ℕ
   pub are_unsaved : AreUnsaved result unsaved
   pub as_many : length moments + unsaved ≡ exchanges
-  pub forgets_nothing : AreKept old.moment.knowns (moments ++ new.moment ∷ [])
-  pub taught : grounds.honest → AreTaughtInTurn keys most old.moment moments
+  -- No moment, and not the end, takes back an identifier or a count.
+  pub forgets_nothing : AreKept begun.knowns (moments ++ ended ∷ [])
+  -- If all was good at the start, what happened goes from moment to moment.
+  pub onward : grounds.good → AreOnward keys begun.past moments ended.past
+  -- If all was good at the start, what was known at each moment was true of the objects then.
+  pub true_then : grounds.good → All (WasTrue keys) moments
+  -- It is true of those at the end too.
+  pub true_of : grounds.good → All (λ (moment : Moment). Held ended.past.objects keys moment.knowns) moments
+  -- Over an honest link each moment is one exchange later than the one before it, with what that taught.
+  pub taught : grounds.honest → AreTaughtInTurn keys most begun moments
+  -- Unless memory ran out, the end has what the exchanges without a text taught after the last moment.
   pub rest : grounds.honest → IsInMemory result
-      → Learnt keys most (last_moment old.moment moments).past new.moment.past (last_moment old.moment moments).knowns new.moment.knowns unsaved
-  pub true_of : grounds.good → All (λ (moment : Moment). Held new.moment.past.objects keys moment.knowns) moments
-  pub last_is : grounds.honest → IsWhole result → text_at keys new.moment ≡ text_at keys (last_moment old.moment moments)
-
--- `AreSaved` from one situation of a run to another, of its own plan.
-abbrev pub AreSavedBetween : Situation → Situation → Result Stop SaveFault → ℕ → Type 0
-AreSavedBetween old new result exchanges =
-    AreSaved old.client.keys old.client.batch (grounds_in old) (snapshot_in old) (snapshot_in new) result exchanges
+      → Learnt keys most (last_moment begun moments).past ended.past (last_moment begun moments).knowns ended.knowns unsaved
+  -- If all was saved, the text of the end is that of the last moment, or of the start if there is none.
+  pub last_is : grounds.honest → IsWhole result → text_at keys ended ≡ text_at keys (last_moment begun moments)

@@ -6,6 +6,7 @@ ghost use Rattle.kmip_runs.specs.CarriesOut.{CarriesOut, stage};
 ghost use Rattle.kmip_runs.specs.PrivateCarried.{CarryingLaws, MakesExchangesInTurn, MakesOneExchange, SavesProgress};
 ghost use Rattle.kmip_runs.specs.Refusals.{HasRisen};
 
+use crate::campaigning::laws_of_runs;
 use crate::driving::{stop_of, turn};
 use crate::keeper::Keeper;
 use crate::patience::Patience;
@@ -58,11 +59,14 @@ pub fn carry_out<L: Link, K: Keeper, P: Patience>(
     limit: usize,
 ) -> (Result<Stop, SaveFault>, usize)
     ensures { CarriesOut limit
-        (stage (L.seen link.old) client.old (K.kept keeper.old) (P.has_given_up patience.old))
+        (stage (L.seen link.old) client.old (K.kept keeper.old) (P.has_given_up patience.old)
+        (P.asked patience.old))
         result.0 result.1
-        (stage (L.seen link.new) client.new (K.kept keeper.new) (P.has_given_up patience.new)) }
+        (stage (L.seen link.new) client.new (K.kept keeper.new) (P.has_given_up patience.new)
+        (P.asked patience.new)) }
 {
     laws_below();
+    laws_of_runs();
     let _plan = client.plan();
     let (carried, made) = exchange_in_turn(alloc, client, link, keeper, patience, limit);
     let closed = close_run(alloc, link);
@@ -102,9 +106,11 @@ fn exchange_in_turn<L: Link, K: Keeper, P: Patience>(
     limit: usize,
 ) -> (Result<Stop, SaveFault>, usize)
     ensures { MakesExchangesInTurn limit
-        (stage (L.seen link.old) client.old (K.kept keeper.old) (P.has_given_up patience.old))
+        (stage (L.seen link.old) client.old (K.kept keeper.old) (P.has_given_up patience.old)
+        (P.asked patience.old))
         result.0 result.1
-        (stage (L.seen link.new) client.new (K.kept keeper.new) (P.has_given_up patience.new)) }
+        (stage (L.seen link.new) client.new (K.kept keeper.new) (P.has_given_up patience.new)
+        (P.asked patience.new)) }
 {
     laws_below();
     let _plan = client.plan();
@@ -145,6 +151,7 @@ fn exchange_once<L: Link, K: Keeper>(
       keeper = K.kept keeper.new;
     }) result.0 result.1 }
 {
+    laws_below();
     // proof: a key that is settled is not worked on
     the_settled_are_not_worked_on();
     match turn(alloc, client, link) {
@@ -162,6 +169,7 @@ fn exchange_once<L: Link, K: Keeper>(
 fn tell<P: Patience>(client: &Client<'_>, sights: &mut Sights, patience: &mut P, exchanges: usize)
     requires { length sights.old.items.items ≡ length client.now.keys }
     ensures stays { P.has_given_up patience.new ≡ P.has_given_up patience.old }
+    ensures unasked { P.asked patience.new ≡ P.asked patience.old }
     ensures as_many { length sights.new.items.items ≡ length sights.old.items.items }
 {
     if exchanges > 0 {
@@ -179,7 +187,7 @@ fn save_progress<K: Keeper>(
     client: &Client<'_>,
     keeper: &mut K,
 ) -> Result<(), SaveFault>
-    ensures kept { (K.kept keeper.old).disk.lawful → (K.kept keeper.new).disk.lawful
+    ensures remembered { (K.kept keeper.old).remembers → (K.kept keeper.new).remembers
         × OnOk result ((K.kept keeper.new).saved ≡ (K.kept keeper.old).saved
         ++ progress_text client.now.keys (progress client.now) ∷ [])
         × OnErr result ((K.kept keeper.new).saved ≡ (K.kept keeper.old).saved) }

@@ -119,6 +119,7 @@ impl Keeper for DiskKeeper {
     ghost use Rattle.kmip_disk.specs.Memory.{memory_view};
 
     ghost kept = { λ keeper. record {
+      remembers = Unit {0};
       saved = keeper.texts.items;
       disk = memory_view keeper.file.disk;
       refusals = keeper.refusals;

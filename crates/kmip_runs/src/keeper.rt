@@ -21,9 +21,8 @@ pub trait Keeper {
     /// `Output` where the text could not be written, `NoMemory` where there is no memory. The text
     /// saved last is then still the one that is read back, or this one is, whole.
     fn save(&mut self, alloc: Global, text: &[u8]) -> Result<(), SaveFault>
-        // Where its disk keeps the rules, it does so still. At `Ok` this text joins those that were
-        // saved; at a fault none does.
-        ensures kept { (kept self.old).disk.lawful → (kept self.new).disk.lawful
+        // A keeper that remembers texts adds this one at `Ok`, and none at a fault.
+        ensures remembered { (kept self.old).remembers → (kept self.new).remembers
             × OnOk result ((kept self.new).saved ≡ (kept self.old).saved ++ text.now ∷ [])
             × OnErr result ((kept self.new).saved ≡ (kept self.old).saved) }
         // Where its disk keeps the rules, the text is saved as a whole.
@@ -41,8 +40,8 @@ pub trait Keeper {
     /// # Errors
     /// Where that cannot be done: a crash may then leave a text that was saved before.
     fn close(&mut self) -> Result<(), SaveFault>
-        // Where its disk keeps the rules, it does so still, and the texts that were saved stay.
-        ensures kept { (kept self.old).disk.lawful → (kept self.new).disk.lawful
+        // A keeper that remembers texts still has those that it saved.
+        ensures remembered { (kept self.old).remembers → (kept self.new).remembers
             × ((kept self.new).saved ≡ (kept self.old).saved) }
         // Where its disk keeps the rules, what was saved is made to last.
         ensures lasts { (kept self.old).disk.lawful

@@ -1,5 +1,6 @@
 //! Waits between the exchanges of a run that gets nowhere.
 ghost use Rattle.std.specs.Prelude.{◌≡◌, ◌≤◌, ◌+◌, ℕ, None, not, false, IsTrue};
+ghost use Rattle.kmip_disk.specs.Calls.{HasRisenBy};
 ghost use Rattle.kmip_runs.specs.Waits.{longest_wait, wait_after};
 
 use crate::patience::Patience;
@@ -84,6 +85,8 @@ pub struct Pace<C> {
     /// When the run got on last, or began, where the clock told it.
     since: Option<Instant>,
     has_given_up: bool,
+    /// How often it was asked whether to go on, up to 2^64 - 1.
+    asked: u64,
 }
 
 impl<C: Clock> Pace<C> {
@@ -107,6 +110,7 @@ impl<C: Clock> Pace<C> {
             most,
             since,
             has_given_up: false,
+            asked: 0,
         }
     }
 
@@ -128,9 +132,13 @@ impl<C: Clock> Pace<C> {
 impl<C: Clock> Patience for Pace<C> {
     ghost has_given_up = { λ pace. pace.has_given_up };
 
+    ghost asked = { λ pace. pace.asked };
+
     fn exchanged(&mut self, _client: &Client<'_>, got_on: bool)
         // Nobody gives up by being told of an exchange.
         ensures stays { self.new.has_given_up ≡ self.old.has_given_up }
+        // To be told is not to be asked.
+        ensures unasked { self.new.asked ≡ self.old.asked }
         // Its first wait and its seconds stay.
         ensures settings { (self.new.first ≡ self.old.first) × (self.new.most ≡ self.old.most) }
         // Where the run got on, there is no wait before the next exchange.
@@ -151,6 +159,8 @@ impl<C: Clock> Patience for Pace<C> {
         ensures says { result ≡ not self.new.has_given_up }
         // Who has given up never goes on.
         ensures for_good { IsTrue self.old.has_given_up → IsTrue self.new.has_given_up }
+        // It was asked once more.
+        ensures asked { HasRisenBy 1 self.old.asked self.new.asked }
         // With 0 seconds it never gives up.
         ensures endless { self.old.most ≡ 0 → self.new.has_given_up ≡ self.old.has_given_up }
         // Its first wait and its seconds stay.
@@ -158,6 +168,7 @@ impl<C: Clock> Patience for Pace<C> {
         // Its wait stays as it was.
         ensures wait { self.new.wait ≡ self.old.wait }
     {
+        self.asked = self.asked.saturating_add(1);
         if self.has_given_up {
             return false;
         }

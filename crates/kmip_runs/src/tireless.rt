@@ -10,8 +10,11 @@ pub struct Tireless;
 
 impl Patience for Tireless {
     ghost use Rattle.std.specs.Prelude.{false};
+    ghost use Rattle.std.specs.Prelude.{◌^◌, ◌-◌};
 
     ghost has_given_up = { λ patience. false };
+
+    ghost asked = { λ patience. 2 ^ 64 - 1 };
 
     fn exchanged(&mut self, _client: &Client<'_>, _got_on: bool) {}
 

@@ -15,6 +15,7 @@ use Rattle.kmip_runs.specs.Losing.{AllOutlast}
 use Rattle.kmip_runs.specs.Remembering.{AreKnown, notes_of}
 use Rattle.kmip_runs.specs.Campaigns.{AreInTurn, CalmStart, IsTrueFor, last_plan}
 use Rattle.kmip_runs.specs.Crashes.{CrashesWell, IsCrashing, MakesCrashes}
+use Rattle.kmip_runs.specs.TurnedRuns.{AreTurnedFrom}
 use Rattle.kmip_runs.specs.declared.crashes_end.CrashesEnd.{CrashesEnd}
 use Rattle.kmip_runs.specs.declared.crashing_run.CrashingRun.{CrashingRun}
 use Rattle.kmip_runs.specs.declared.campaign_end.CampaignEnd.{CampaignEnd}
@@ -41,7 +42,8 @@ in_batches batch runs = map (λ (run : Run). record run { batch = batch }) runs
 
 -- What the headline says of a campaign over a link in memory, with its premises met: whatever the link lost, delayed and repeated, what
 -- the server did is safe, and a past of the plan machine; no run found a conflict; over a calm link the
--- runs finish; and so they do over any, if they may make as many exchanges as the losses cost.
+-- runs finish; and so they do over any, if they may make as many exchanges as the losses cost. Each end shows
+-- what the turns of its run made of the client that it began with.
 pub record IsCarriedOut (keys : List Key) (runs : List Run) (end : CampaignEnd) (before after : Scene) : Type 0 where
   pub safe : Safe keys (past_in after) (reported keys end.runs.items end.saved.items)
   pub machine : IsMirrored keys (past_in before) → IsMirrored keys (past_in after)
@@ -52,6 +54,7 @@ pub record IsCarriedOut (keys : List Key) (runs : List Run) (end : CampaignEnd) 
   pub order : AllZip (IsEnd keys) (take (length end.runs.items) runs) end.runs.items
   pub complete : end.fault ≡ None → AreMade keys runs end
   pub known : AreKnown keys runs (notes_of end) ⊤ (end.fault ≡ None) (past_in before) (past_in after)
+  pub turned : AreTurnedFrom keys [] runs end.runs.items ⊤ (end.fault ≡ None) (past_in before) (past_in after)
   pub settles : CalmLink keys (seen_in before) → end.fault ≡ None
       → AllZip (Settles keys) runs end.runs.items × CalmLink keys (seen_in after)
   pub outlasts : end.fault ≡ None → AllOutlast keys runs end.runs.items (disturbances_in before) (disturbances_in after)

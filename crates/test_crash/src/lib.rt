@@ -7,6 +7,6 @@
 #[cfg(test)]
 mod asserting;
 #[cfg(test)]
-mod disk_keeper;
+mod saving;
 #[cfg(test)]
 mod stopping;

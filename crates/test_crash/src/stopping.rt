@@ -1,11 +1,10 @@
 //! Runs whose disk stops at each call in turn.
 
 use crate::asserting::assert_stand;
-use crate::disk_keeper::DiskKeeper;
-use kmip_disk::MemoryDisk;
+use kmip_disk::{Disk, MemoryDisk};
 use kmip_objects::KeyState;
 use kmip_plan_commands::{Report, RunInput, run_bytes};
-use kmip_runs::Tireless;
+use kmip_runs::{FileKeeper, Tireless};
 use kmip_scripted::{Scripted, read_script};
 use kmip_server::Server;
 use kmip_store::ListStore;
@@ -46,8 +45,8 @@ fn run(
     disk: MemoryDisk,
     calls: usize,
 ) -> Result<(bool, MemoryDisk), Fail> {
-    let mut keeper = DiskKeeper::on(disk);
-    let saved = match keeper.file.read(alloc)? {
+    let mut disk = disk;
+    let saved = match disk.read(alloc)? {
         Some(bytes) => Some(String::from_utf8(bytes)?),
         None => None,
     };
@@ -55,7 +54,8 @@ fn run(
         Some(text) => Some(text.as_str()),
         None => None,
     };
-    keeper.file.disk.restart(calls);
+    disk.restart(calls);
+    let mut keeper = FileKeeper::new(disk, saved.is_none());
     let input = RunInput {
         report: Report::Plain,
         path: "progress",
@@ -73,7 +73,7 @@ fn run(
         &mut Tireless,
         &mut output,
     )?;
-    Ok((!is_refused, keeper.file.disk))
+    Ok((!is_refused, keeper.into_disk()))
 }
 
 /// How a machine stops, and what it finds afterwards: after how many calls of the first run, of the second one,

@@ -13,23 +13,23 @@ returns-in-Ok g c = record {
     stands = search rules;
     within = search rules;
   };
-  over = over_stop c.truth_is_for_good.ensures.known _ _ _ c.carry_out-ended.result.0 c.in-Ok.stop c.carry_out-ended.result.1 c.plan-plan.ensures.lawful c.in-Ok.is (search rules) c.carry_out-ended.ensures;
+  over = over_stop _ _ _ c.carry_out-ended.result.0 c.in-Ok.stop c.carry_out-ended.result.1 c.in-Ok.is (search rules) c.carry_out-ended.ensures;
 }
 
 pub returns-in-Err-Output : goal.returns-in-Err-Output
 returns-in-Err-Output g c = record {
   ends = came_unsaved _ _ _ c.carry_out-ended.result.0 c.in-Err-Output.field-0 faults.Output c.carry_out-ended.result.1 c.in-Err-Output.is (search rules) c.carry_out-ended.ensures;
-  over = over_unsaved c.truth_is_for_good.ensures.known _ _ _ c.carry_out-ended.result.0 c.in-Err-Output.field-0 c.carry_out-ended.result.1 c.plan-plan.ensures.lawful c.in-Err-Output.is c.carry_out-ended.ensures;
+  over = over_unsaved _ _ _ c.carry_out-ended.result.0 c.in-Err-Output.field-0 c.carry_out-ended.result.1 c.in-Err-Output.is c.carry_out-ended.ensures;
 }
 
 pub returns-in-Ok-NoMemory : goal.returns-in-Ok-NoMemory
 returns-in-Ok-NoMemory g c = record {
   ends = tt;
-  over = over_broken c.truth_is_for_good.ensures.known _ _ _ c.carry_out-ended.result.0 c.carry_out-ended.result.1 c.plan-plan.ensures.lawful c.carry_out-ended.ensures;
+  over = over_broken _ _ _ c.carry_out-ended.result.0 c.carry_out-ended.result.1 c.carry_out-ended.ensures;
 }
 
 pub returns-in-Ok-NoMemory-2 : goal.returns-in-Ok-NoMemory-2
 returns-in-Ok-NoMemory-2 g c = record {
   ends = tt;
-  over = over_broken c.truth_is_for_good.ensures.known _ _ _ c.carry_out-ended.result.0 c.carry_out-ended.result.1 c.plan-plan.ensures.lawful c.carry_out-ended.ensures;
+  over = over_broken _ _ _ c.carry_out-ended.result.0 c.carry_out-ended.result.1 c.carry_out-ended.ensures;
 }

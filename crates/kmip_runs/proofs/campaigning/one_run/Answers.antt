@@ -218,7 +218,7 @@ returns g c =
                 let still = drives.honest (is_planned keys) honest in
                 outlasted_run keys c.args.run client begun driven old mid new c.drive-driven.result end.runs.items after.runs.items end.saved.items
                 c.requires.keys c.begin.ensures.keys driven_keys (begins holds) (λ good. (drives.well good).outlasts) memory ended.noted
-                (c.close_run.ensures.honestly (is_planned keys) still).undisturbed standing honest;
+                (c.close_run.ensures.honestly (is_planned keys) still).undisturbed (drives.counts (is_planned keys) honest) standing honest;
           };
       honest = λ names honest. (c.close_run.ensures.honestly names (drives.honest names honest)).honest.0;
       ran =

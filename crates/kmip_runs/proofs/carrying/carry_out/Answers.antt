@@ -1,14 +1,18 @@
 -- All of it, clause by clause: what the exchanges promise, and what the end of the run leaves of it.
 use Rattle.std.proofs.Common.{arith, subst, sym, rules}
+use Rattle.kmip_client.specs.Held.{Held}
 use Rattle.kmip_plan.specs.Plans.{IsLawful}
 use Rattle.kmip_protocol.specs.Past.{is_planned}
+use Rattle.kmip_protocol.specs.Sound.{Sound}
 use Rattle.kmip_runs.specs.Losing.{ArePaid, left_for}
 use Rattle.kmip_runs.specs.Saved.{IsInMemory, Situation}
+use Rattle.kmip_runs.proofs.CampaignLemmas.{known_is_safe}
 use Rattle.kmip_runs.proofs.CarryLemmas.{carried_closed, carried_kept, good_end, left_last, limit_last, memory_before, settled_end, stands_last, unless_given_up}
 use Rattle.kmip_runs.proofs.CarryEndingLemmas.{ended_once, ended_whole, one_of_both}
 use Rattle.kmip_runs.proofs.CarryLosingLemmas.{outlasted, paid_closed}
 use Rattle.kmip_runs.proofs.LastingLemmas.{file_lasts}
 use Rattle.kmip_runs.proofs.RefusalLemmas.{output_before, risen_at_fault, risen_still}
+use Rattle.kmip_runs.proofs.TurnedLemmas.{turned_last}
 use Rattle.kmip_runs.proofs.carrying.carry_out.Goals as goal
 
 pub returns : goal.returns
@@ -38,7 +42,7 @@ returns g c =
     let ended =
     carried_closed laws before between new done.result.0 last close.result done.result.1 lawful
     (λ names honest. (close.ensures.honestly names honest).honest) close.ensures.amid close.ensures.calm end.whole end.stop end.fault first in
-    let carried = carried_kept before unshut (kept shut.new.self) last shut.result done.result.1 shut.ensures.kept shut.ensures.lasts ended in
+    let carried = carried_kept before unshut (kept shut.new.self) last shut.result done.result.1 shut.ensures.remembered shut.ensures.lasts ended in
     record {
       well = λ good.
           let paid : old.honest names → IsInMemory last → ArePaid done.result.1 (left_for client old.past) (left_for next new.past) old.disturbances new.disturbances =
@@ -56,6 +60,11 @@ returns g c =
                 outlasted laws client next old new last done.result.1 c.args.limit lawful good (carried.went.good good) (paid honest) stands
                 (λ is. unless_given_up _ _ _ _ done.ensures.limit patient (limit is)) whole enough;
             no_conflict = good_end laws before after last done.result.1 carried.went stands good;
+            safe =
+                let ended = carried.went.good good in
+                known_is_safe c.laws_of_runs.ensures client.keys new.past next.knowns lawful
+                (subst (λ ks. Sound ks new.past) carried.went.keeps.keys_stay ended.sound)
+                (subst (λ ks. Held new.past.objects ks next.knowns) carried.went.keeps.keys_stay ended.held);
           };
       honestly = λ honest.
           let known = first.went.learns honest in
@@ -72,10 +81,9 @@ returns g c =
                 (done.ensures.ended honest) (one_of_both close.result closed.ended closed.unended);
           };
       forgets_nothing = carried.went.keeps;
-      saved = carried.saved;
-      any_moment = carried.any_moment;
+      moments = carried.kept;
       lasts = λ lawful written.
-          let left = ended.any_moment lawful in
+          let left = ended.kept.any_moment lawful in
           file_lasts between.keeper.disk after.keeper.disk shut.result (left.still written)
           (risen_at_fault shut.result before.keeper.refusals between.keeper.refusals after.keeper.refusals made.counted shut.ensures.output)
           (shut.ensures.lasts left.lawful);
@@ -89,6 +97,12 @@ returns g c =
           let left = done.ensures.given_up fresh gave in
           (left_last close.result done.result.0 last end.whole end.stop end.fault left.0, left.1);
       within = search rules;
+      asked = done.ensures.asked;
+      turned = record {
+        until = mid.past;
+        turned = turned_last (old.honest names) close.result done.result.0 last done.result.1 client next old.past mid.past end.whole end.stop end.fault made.turned;
+        closed = λ honest. (close.ensures.honestly names (first.went.learns honest).0).honest.1;
+      };
       calmly = λ settling. record {
         calm = carried.went.near settling;
         settles = λ enough patient whole.

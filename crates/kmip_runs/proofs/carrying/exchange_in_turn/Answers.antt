@@ -1,12 +1,14 @@
 -- Exchange by exchange.
-use Rattle.std.proofs.Common.{◌≡◌, ◌∙◌, Ok, ap, length, sym, subst, refl, rules, arith}
+use Rattle.std.proofs.Common.{◌+◌, ◌<◌, ◌≡◌, ◌∙◌, Ok, ap, length, sym, subst, refl, rules, arith}
 use Rattle.kmip_protocol.specs.Past.{is_planned}
 use Rattle.kmip_runs.specs.Losing.{left_for}
+use Rattle.kmip_runs.specs.Turning.{IsTurned, stop_in}
 use Rattle.kmip_runs.specs.declared.stop.Stop.TheVariants as stops
 use Rattle.kmip_runs.proofs.CarryLemmas.{carried_itself, carried_more, carried_stop, carried_then, carried_unbegun}
 use Rattle.kmip_runs.proofs.RefusalLemmas.{rises_from}
 use Rattle.kmip_runs.proofs.CarryLosingLemmas.{limit_in_memory, paid_none}
 use Rattle.kmip_runs.proofs.PatienceLemmas.{still_patient}
+use Rattle.kmip_runs.proofs.TurnedLemmas.{turned_not_yet, turned_so, turned_then}
 use Rattle.kmip_runs.proofs.carrying.exchange_in_turn.Goals as goal
 use Rattle.kmip_runs.proofs.carrying.exchange_in_turn.Goals.{else-made-limit-via-then-made-limit+else-not-go_on, else-made-limit-via-else-made-limit}
 
@@ -16,6 +18,8 @@ loop-made-init g c = record {
       carried_itself c.laws_below.ensures (record { client = c.args.client.now; link = g.L.Link.seen c.args.link.now; keeper = g.K.Keeper.kept c.args.keeper.now });
   as_many = search rules;
   patient = refl;
+  asked = omega arith;
+  turned = turned_not_yet _ c.args.client.now (g.L.Link.seen c.args.link.now).past;
   counted = omega arith;
   ended = λ honest. refl;
   paid = λ good honest. paid_none (left_for c.args.client.now (g.L.Link.seen c.args.link.now).past) (g.L.Link.seen c.args.link.now).disturbances;
@@ -33,6 +37,10 @@ returns-then-not-is_at_limit g c =
             (record { client = c.loop-made.client; link = g.L.Link.seen c.loop-made.link; keeper = g.K.Keeper.kept c.loop-made.keeper })
             (record { client = step.new.client; link = g.L.Link.seen step.new.link; keeper = g.K.Keeper.kept step.new.keeper })
             step.result.0 c.loop-made.made step.result.1 c.plan-plan.ensures.lawful before.carried made.carried;
+        turned =
+            turned_then _ _ stops.Limit _ c.loop-made.made step.result.1 c.args.client.now c.loop-made.client step.new.client (g.L.Link.seen c.args.link.now).past (g.L.Link.seen c.loop-made.link).past
+            (g.L.Link.seen step.new.link).past (λ is. absurd cc) before.carried.went.keeps.keys_stay
+            (λ honest. subst (λ ks. (g.L.Link.seen c.loop-made.link).honest (is_planned ks)) (sym before.carried.went.keeps.keys_stay) (before.carried.went.learns honest).0) before.turned made.turned;
         counted = search rules;
         output = λ is. rises_from _ _ _ before.counted (made.output is);
         stops_for_its_reason = search rules;
@@ -45,6 +53,11 @@ returns-then-not-is_at_limit g c =
       limit = search rules;
       given_up = search rules;
       within = search rules;
+      asked =
+          let told = c.tell.ensures.unasked in
+          let one = step.ensures.within in
+          let below : c.loop-made.made < c.args.limit = search rules in
+          omega (arith, told, one, below, before.asked);
       ended = λ honest.
           step.ensures.ended (is_planned c.args.client.now.keys) (before.carried.went.learns honest).0 ∙ before.ended honest;
     }
@@ -69,6 +82,24 @@ loop-made-preserved g c =
                 ap tired w.patience-is ∙ still ∙ c.tell.ensures.stays ∙ c.loop-made.invariant.patient
             | else-made-limit-via-else-made-limit w ↦ ap tired w.patience-is ∙ c.tell.ensures.stays ∙ c.loop-made.invariant.patient
           ];
+      asked =
+          let told = c.tell.ensures.unasked in
+          let below : c.loop-made.made < c.args.limit = search rules in
+          elim c.else-made-limit.branch [
+            | else-made-limit-via-then-made-limit+else-not-go_on w ↦
+                let same = ap (g.P.Patience.asked) w.patience-is in
+                omega (arith, same, told, below, c.loop-made.invariant.asked, w.go_on.ensures.asked)
+            | else-made-limit-via-else-made-limit w ↦
+                let same = ap (g.P.Patience.asked) w.patience-is in
+                let last = w.if-made-limit.false in
+                omega (arith, same, told, below, last, c.loop-made.invariant.asked)
+          ];
+      turned =
+          subst (λ r. IsTurned ((g.L.Link.seen c.args.link.now).honest (is_planned c.args.client.now.keys)) (stop_in r) (c.loop-made.made + 1) c.args.client.now step.new.client (g.L.Link.seen c.args.link.now).past (g.L.Link.seen step.new.link).past) limit
+          (subst (λ n. IsTurned ((g.L.Link.seen c.args.link.now).honest (is_planned c.args.client.now.keys)) (stop_in step.result.0) (c.loop-made.made + n) c.args.client.now step.new.client (g.L.Link.seen c.args.link.now).past (g.L.Link.seen step.new.link).past) (step.ensures.limit limit)
+          (turned_then _ _ stops.Limit _ c.loop-made.made step.result.1 c.args.client.now c.loop-made.client step.new.client (g.L.Link.seen c.args.link.now).past (g.L.Link.seen c.loop-made.link).past
+          (g.L.Link.seen step.new.link).past (λ is. absurd cc) c.loop-made.invariant.carried.went.keeps.keys_stay
+          (λ honest. subst (λ ks. (g.L.Link.seen c.loop-made.link).honest (is_planned ks)) (sym c.loop-made.invariant.carried.went.keeps.keys_stay) (c.loop-made.invariant.carried.went.learns honest).0) c.loop-made.invariant.turned made.turned));
       counted = omega (arith, c.loop-made.invariant.counted, made.counted);
       ended = λ honest.
           let still = (c.loop-made.invariant.carried.went.learns honest).0 in
@@ -86,6 +117,8 @@ pub returns-in_default : goal.returns-in_default
 returns-in_default g c = record {
   exchanges = record {
     carried = carried_unbegun c.laws_below.ensures (record { client = c.args.client.now; link = g.L.Link.seen c.args.link.now; keeper = g.K.Keeper.kept c.args.keeper.now });
+    turned = turned_so _ stops.Limit stops.NoMemory 0 c.args.client.now c.args.client.now (g.L.Link.seen c.args.link.now).past (g.L.Link.seen c.args.link.now).past (λ is. absurd cc)
+        (turned_not_yet _ c.args.client.now (g.L.Link.seen c.args.link.now).past);
     counted = search rules;
     output = search rules;
     stops_for_its_reason = search rules;
@@ -94,6 +127,7 @@ returns-in_default g c = record {
   limit = search rules;
   given_up = search rules;
   within = search rules;
+  asked = omega arith;
   ended = search rules;
 }
 
@@ -109,6 +143,12 @@ returns-then-not-go_on g c =
             (record { client = c.loop-made.client; link = g.L.Link.seen c.loop-made.link; keeper = g.K.Keeper.kept c.loop-made.keeper })
             (record { client = step.new.client; link = g.L.Link.seen step.new.link; keeper = g.K.Keeper.kept step.new.keeper })
             step.result.0 c.loop-made.made step.result.1 c.plan-plan.ensures.lawful c.loop-made.invariant.carried made.carried limit (step.ensures.limit limit);
+        turned =
+            subst (λ r. IsTurned ((g.L.Link.seen c.args.link.now).honest (is_planned c.args.client.now.keys)) (stop_in r) (c.loop-made.made + 1) c.args.client.now step.new.client (g.L.Link.seen c.args.link.now).past (g.L.Link.seen step.new.link).past) limit
+            (subst (λ n. IsTurned ((g.L.Link.seen c.args.link.now).honest (is_planned c.args.client.now.keys)) (stop_in step.result.0) (c.loop-made.made + n) c.args.client.now step.new.client (g.L.Link.seen c.args.link.now).past (g.L.Link.seen step.new.link).past) (step.ensures.limit limit)
+            (turned_then _ _ stops.Limit _ c.loop-made.made step.result.1 c.args.client.now c.loop-made.client step.new.client (g.L.Link.seen c.args.link.now).past (g.L.Link.seen c.loop-made.link).past
+            (g.L.Link.seen step.new.link).past (λ is. absurd cc) c.loop-made.invariant.carried.went.keeps.keys_stay
+            (λ honest. subst (λ ks. (g.L.Link.seen c.loop-made.link).honest (is_planned ks)) (sym c.loop-made.invariant.carried.went.keeps.keys_stay) (c.loop-made.invariant.carried.went.learns honest).0) c.loop-made.invariant.turned made.turned));
         counted = search rules;
         output = search rules;
         stops_for_its_reason = search rules;
@@ -123,6 +163,10 @@ returns-then-not-go_on g c =
       limit = search rules;
       given_up = search rules;
       within = search rules;
+      asked =
+          let told = c.tell.ensures.unasked in
+          let below : c.loop-made.made < c.args.limit = search rules in
+          omega (arith, told, below, c.loop-made.invariant.asked, c.go_on.ensures.asked);
       ended = λ honest.
           step.ensures.ended (is_planned c.args.client.now.keys) (c.loop-made.invariant.carried.went.learns honest).0 ∙ c.loop-made.invariant.ended honest;
     }
@@ -136,6 +180,9 @@ returns g c =
             carried_stop c.laws_below.ensures (record { client = c.args.client.now; link = g.L.Link.seen c.args.link.now; keeper = g.K.Keeper.kept c.args.keeper.now })
             (record { client = c.loop-made.client; link = g.L.Link.seen c.loop-made.link; keeper = g.K.Keeper.kept c.loop-made.keeper })
             c.stop_of.result c.loop-made.made c.args.limit c.plan-plan.ensures.lawful c.stop_of.ensures.in_memory made c.loop-made.invariant.carried;
+        turned =
+            subst (λ n. IsTurned ((g.L.Link.seen c.args.link.now).honest (is_planned c.args.client.now.keys)) c.stop_of.result n c.args.client.now c.loop-made.client (g.L.Link.seen c.args.link.now).past (g.L.Link.seen c.loop-made.link).past) made
+            (turned_so _ stops.Limit c.stop_of.result c.loop-made.made c.args.client.now c.loop-made.client (g.L.Link.seen c.args.link.now).past (g.L.Link.seen c.loop-made.link).past (λ is. absurd cc) c.loop-made.invariant.turned);
         counted = search rules;
         output = search rules;
         stops_for_its_reason = search rules;
@@ -146,5 +193,6 @@ returns g c =
       limit = search rules;
       given_up = search rules;
       within = search rules;
+      asked = omega (arith, made, c.loop-made.invariant.asked);
       ended = search rules;
     }

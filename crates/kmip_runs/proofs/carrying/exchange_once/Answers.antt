@@ -1,9 +1,12 @@
 -- One exchange, saved or not.
 use Rattle.std.proofs.Common.{Ok, Err, subst, rules}
 use Rattle.kmip_client.specs.Clients.{one_if}
+use Rattle.kmip_protocol.specs.Past.{is_planned}
+use Rattle.kmip_runs.specs.Private.{TakesTurn}
 use Rattle.kmip_runs.specs.PrivateCarried.{Went}
 use Rattle.kmip_runs.specs.declared.stop.Stop.TheVariants as stops
 use Rattle.kmip_runs.proofs.CarryLemmas.{broke, carried_broken, carried_none, carried_not, carried_one, took}
+use Rattle.kmip_runs.proofs.TurnedLemmas.{one_broken, one_rest, one_turn}
 use Rattle.kmip_runs.proofs.WentLemmas.{stop_is}
 use Rattle.kmip_runs.proofs.carrying.exchange_once.Goals as goal
 
@@ -23,6 +26,7 @@ returns-in-Ok-false g c =
             (subst (λ asked. Went (record { client = client; link = x; keeper = i }) (record { client = next; link = y; keeper = i }) (Ok stop) (one_if asked)) c.in-Ok-false.field-0-test
             (took (record { client = client; link = x; keeper = i }) (record { client = next; link = y; keeper = i }) (Ok stop) c.in-Ok-false.field-0 _
             (λ is. c.stop_of.ensures.in_memory (stop_is stop stops.NoMemory is)) e));
+        turned = one_rest _ stop client next x.past y.past c.stop_of.ensures.in_memory (subst (λ asked. TakesTurn (x.honest (is_planned client.keys)) asked client next x.past y.past) c.in-Ok-false.field-0-test e.turned);
         counted = search rules;
         output = search rules;
         stops_for_its_reason = search rules;
@@ -47,6 +51,7 @@ returns-in-Err g c =
         carried =
             carried_broken (record { client = client; link = x; keeper = i }) next y fault _ (search rules)
             (broke (record { client = client; link = x; keeper = i }) (record { client = next; link = y; keeper = i }) fault _ e);
+        turned = one_broken _ _ client next x.past y.past fault (search rules) e.gives_up;
         counted = search rules;
         output = search rules;
         stops_for_its_reason = search rules;
@@ -70,12 +75,13 @@ returns-in-Ok g c =
     record {
       exchanges = record {
         carried =
-            carried_one (record { client = client; link = x; keeper = i }) (record { client = next; link = y; keeper = j }) stop tt c.stop_of-in-Ok.ensures.in_memory
-            (λ lawful. let so = c.in-Ok.ensures.kept lawful in (so.0, so.1))
+            carried_one c.laws_below.ensures (record { client = client; link = x; keeper = i }) (record { client = next; link = y; keeper = j }) stop tt c.stop_of-in-Ok.ensures.in_memory
+            (λ remembers. let so = c.in-Ok.ensures.remembered remembers in (so.0, so.1))
             c.in-Ok.ensures.whole
             (subst (λ asked. Went (record { client = client; link = x; keeper = i }) (record { client = next; link = y; keeper = j }) (Ok stop) (one_if asked)) c.in-Ok-true.field-0-test
             (took (record { client = client; link = x; keeper = i }) (record { client = next; link = y; keeper = j }) (Ok stop) c.in-Ok-true.field-0 _
             (λ is. c.stop_of-in-Ok.ensures.in_memory (stop_is stop stops.NoMemory is)) e));
+        turned = one_turn _ stop client next x.past y.past c.stop_of-in-Ok.ensures.in_memory (subst (λ asked. TakesTurn (x.honest (is_planned client.keys)) asked client next x.past y.past) c.in-Ok-true.field-0-test e.turned);
         counted = search rules;
         output = search rules;
         stops_for_its_reason = search rules;
@@ -100,10 +106,11 @@ returns-in-Err-save_progress g c =
       exchanges = record {
         carried =
             carried_not (record { client = client; link = x; keeper = i }) (record { client = next; link = y; keeper = j }) fault
-            (λ lawful. let so = c.in-Err-save_progress.ensures.kept lawful in (so.0, so.2))
+            (λ remembers. let so = c.in-Err-save_progress.ensures.remembered remembers in (so.0, so.2))
             c.in-Err-save_progress.ensures.whole
             (subst (λ asked. Went (record { client = client; link = x; keeper = i }) (record { client = next; link = y; keeper = j }) (Err fault) (one_if asked)) c.in-Ok-true.field-0-test
             (took (record { client = client; link = x; keeper = i }) (record { client = next; link = y; keeper = j }) (Err fault) c.in-Ok-true.field-0 _ (λ is. absurd cc) e));
+        turned = one_turn _ stops.Limit client next x.past y.past (λ is. absurd cc) (subst (λ asked. TakesTurn (x.honest (is_planned client.keys)) asked client next x.past y.past) c.in-Ok-true.field-0-test e.turned);
         counted = search rules;
         output = search rules;
         stops_for_its_reason = search rules;

@@ -222,9 +222,10 @@ returns g c =
     let begun_knowns : begun.knowns ≡ start_knowns keys c.args.run.start old.client.knowns old.end.campaign.saved.items =
     c.in_ok-begin.ensures.begun ∙ rw (none, c.as_slice-2.ensures.value) refl in
     let fine =
-    left_is_fine keys (record { client = begun; link = old.link; keeper = record { saved = keeper.texts.items; disk = memory_view keeper.file.disk; refusals = keeper.refusals } }) (record { client = client; link = new.link; keeper = record { saved = carried.new.keeper.texts.items; disk = memory_view carried.new.keeper.file.disk; refusals = carried.new.keeper.refusals } })
-    carried.result.0 made left begun_keys tt tt c.in_ok-keeper.ensures (carries.any_moment tt)
+    left_is_fine keys (record { client = begun; link = old.link; keeper = record { remembers = Unit {0}; saved = keeper.texts.items; disk = memory_view keeper.file.disk; refusals = keeper.refusals } }) (record { client = client; link = new.link; keeper = record { remembers = Unit {0}; saved = carried.new.keeper.texts.items; disk = memory_view carried.new.keeper.file.disk; refusals = carried.new.keeper.refusals } })
+    carried.result.0 made left begun_keys tt tt c.in_ok-keeper.ensures carries.moments
     (λ good. l.known_for_good begun.keys begun.knowns old.link.past.objects new.link.past.objects (subst (λ ks. IsLawful ks) (sym begun_keys) lawful) (carries.well good).onward.onward good.held)
+    (λ good. subst (λ ks. Held new.link.past.objects ks client.knowns) carries.forgets_nothing.keys_stay (carries.well good).good.held)
     c.in_ok-left.ensures.left in
     let runs_are = c.note.ensures.runs ∙ ap (λ ends. ends ++ ending.run ∷ []) c.ending_of.ensures.same.same_runs in
     let saved_are = c.note.ensures.saved ∙ ap (λ saved. saved_with ending.saved saved) c.ending_of.ensures.same.same_saved in

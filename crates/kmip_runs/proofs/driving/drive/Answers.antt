@@ -11,7 +11,7 @@ use Rattle.kmip_runs.specs.Private.{TakesTurn, exchanges_made}
 use Rattle.kmip_runs.specs.declared.stop.Stop.TheVariants as stops
 use Rattle.kmip_runs.specs.declared.turn_fault.TurnFault.{TurnFault}
 use Rattle.kmip_runs.specs.declared.turn_fault.TurnFault.TheVariants.{Unmade, Unheard}
-use Rattle.kmip_runs.proofs.LosingLemmas.{paid_end, paid_limit, paid_none, paid_then}
+use Rattle.kmip_runs.proofs.LosingLemmas.{no_fewer_then, paid_end, paid_limit, paid_none, paid_then}
 use Rattle.kmip_runs.proofs.CompleteLemmas.{completed, untouched_settles}
 use Rattle.kmip_runs.proofs.DriveLemmas.{asks_one, broken_end, driven_none, driven_then, few_made, further_if, further_last, good_no_conflict, known_end, settled_no_limit}
 use Rattle.kmip_runs.proofs.KnownLemmas.{grown_then, learnt_long, until_long}
@@ -39,6 +39,7 @@ and_none made = omega arith
 pub loop-made-init : goal.loop-made-init
 loop-made-init g c = record {
   driven = driven_none c.laws_below.ensures c.args.client.now (g.L.Link.seen c.args.link.now);
+  counts = λ names honest. (omega arith, omega arith, omega arith);
   ended = λ names honest. refl;
   paid = λ good honest. paid_none (left_for c.args.client.now (g.L.Link.seen c.args.link.now).past) (g.L.Link.seen c.args.link.now).disturbances;
   turned = turned_none _ c.args.client.now (g.L.Link.seen c.args.link.now).past;
@@ -165,6 +166,7 @@ returns-in-Ok-false g c = record {
         done.2,
       );
   honest = λ names honest. c.turn.ensures.tries.honest names (c.loop-made.invariant.driven.honest_still names honest);
+  counts = λ names honest. no_fewer_then (g.L.Link.seen c.args.link.now).disturbances (g.L.Link.seen c.loop-made.link).disturbances (g.L.Link.seen c.turn.new.link).disturbances (c.loop-made.invariant.counts names honest) (c.turn.ensures.tries.counts names (c.loop-made.invariant.driven.honest_still names honest));
   ended = λ names honest.
       c.turn.ensures.tries.ended names (c.loop-made.invariant.driven.honest_still names honest) ∙ c.loop-made.invariant.ended names honest;
   followed = λ memory.
@@ -225,6 +227,7 @@ returns-in-Err g c = record {
   };
   finishes = λ start enough memory. absurd (memory refl);
   honest = λ names honest. c.turn.ensures.tries.honest names (c.loop-made.invariant.driven.honest_still names honest);
+  counts = λ names honest. no_fewer_then (g.L.Link.seen c.args.link.now).disturbances (g.L.Link.seen c.loop-made.link).disturbances (g.L.Link.seen c.turn.new.link).disturbances (c.loop-made.invariant.counts names honest) (c.turn.ensures.tries.counts names (c.loop-made.invariant.driven.honest_still names honest));
   ended = λ names honest.
       c.turn.ensures.tries.ended names (c.loop-made.invariant.driven.honest_still names honest) ∙ c.loop-made.invariant.ended names honest;
   followed = λ memory. absurd (memory refl);
@@ -255,6 +258,7 @@ loop-made-preserved g c =
             further = λ good.
                 further_if c.loop-made.client.keys (g.L.Link.seen c.loop-made.link) (g.L.Link.seen c.turn.new.link) _ ⊤ (λ is. search rules) (c.turn.ensures.well good).further;
           });
+      counts = λ names honest. no_fewer_then (g.L.Link.seen c.args.link.now).disturbances (g.L.Link.seen c.loop-made.link).disturbances (g.L.Link.seen c.turn.new.link).disturbances (c.loop-made.invariant.counts names honest) (c.turn.ensures.tries.counts names (c.loop-made.invariant.driven.honest_still names honest));
       ended = λ names honest.
           c.turn.ensures.tries.ended names (c.loop-made.invariant.driven.honest_still names honest) ∙ c.loop-made.invariant.ended names honest;
       paid = λ good honest.
@@ -358,6 +362,7 @@ returns g c = record {
         done.2,
       );
   honest = c.loop-made.invariant.driven.honest_still;
+  counts = c.loop-made.invariant.counts;
   ended = λ names honest. c.loop-made.invariant.ended names honest;
   followed = λ memory. c.loop-made.invariant.followed;
 }

@@ -9,7 +9,7 @@ use Rattle.kmip_runs.specs.Private.{AreParts, IsBrokenOff, messages_made}
 use Rattle.kmip_runs.proofs.FurtherLemmas.{further_asked}
 use Rattle.kmip_runs.proofs.GoodLemmas.{good_left, if_handed, left, told}
 use Rattle.kmip_runs.proofs.KnownLemmas.{broken_asked, broken_handed, exchanged_grown, handed_asks, handed_over, learnt_one, lost_facts, on_ok}
-use Rattle.kmip_runs.proofs.LosingLemmas.{paid_one}
+use Rattle.kmip_runs.proofs.LosingLemmas.{no_fewer, paid_one}
 use Rattle.kmip_runs.proofs.PutLemmas.{are_parts}
 use Rattle.kmip_runs.proofs.SettleLemmas.{nearer_one}
 use Rattle.kmip_runs.proofs.TurnLemmas.{answered_by, both_err, if_fault, some_mapped}
@@ -44,6 +44,7 @@ returns-in_default g c =
         nearer = search rules;
         paid = search rules;
         honest = λ names honest. (c.exchange.ensures.honestly names honest).honest.0;
+        counts = λ names honest. no_fewer names old.past new.past c.as_slice.result.now _ old.disturbances new.disturbances (c.exchange.ensures.honestly names honest).disturbed;
         ended = search rules;
         followed = search rules;
       };
@@ -103,6 +104,7 @@ returns g c =
             (sym c.in-Ok.ensures) good honest c.learn.ensures.kept.keys_stay)
             c.learn.ensures.taught;
         honest = λ names honest. (c.exchange.ensures.honestly names honest).honest.0;
+        counts = λ names honest. no_fewer names old.past new.past c.as_slice.result.now _ old.disturbances new.disturbances (c.exchange.ensures.honestly names honest).disturbed;
         ended = search rules;
         followed = search rules;
       };
@@ -146,5 +148,5 @@ returns g c =
             c.learn.ensures.unheard;
       };
       lost = c.learn.ensures.lost;
-      answered = on_ok c.learn.result (answered_by names (old.honest names) client next old.past new.past question _ hands) c.learn.ensures.taught;
+      answered = on_ok c.learn.result (answered_by (old.honest names) client next old.past new.past question _ hands) c.learn.ensures.taught;
     }

@@ -1,10 +1,11 @@
 -- Asking changes whose turn it is, and nothing else.
-use Rattle.std.proofs.Common.{◌≡◌, ◌∙◌, Result, Ok, Err, IfOk, IsErr, ap, inl, refl, rules, subst, sym}
+use Rattle.std.proofs.Common.{arith, ◌≡◌, ◌∙◌, Option, Some, Result, Ok, Err, IfOk, IsErr, ap, inl, refl, rules, subst, sym}
 use Rattle.std.proofs.lemmas.Result.{err_from_is_err_and}
 use Rattle.std.specs.Prelude.{⊤, IfSome, IsOk}
 use Rattle.kmip_client.specs.Asking.{IsAbout, next_places}
 use Rattle.kmip_client.specs.Clients.{AreSettled, ClientState}
 use Rattle.kmip_client.specs.Known.{facts}
+use Rattle.kmip_client.specs.declared.question.Question.{Question}
 use Rattle.kmip_protocol.specs.Past.{is_planned}
 use Rattle.kmip_runs.specs.Private.{IsAnswered, IsBrokenOff, IsToBePut}
 use Rattle.kmip_runs.specs.Driving.{IsGood, Keeps, KeepsFurther, Learnt, WentOn}
@@ -24,11 +25,16 @@ if_err : {V E : Type 0} (P : V → Type 0) (r : Result V E) → IsErr r → IfOk
 if_err P (Ok v) is = absurd cc
 if_err P (Err fault) is = tt
 
+-- the question that there is is about the keys that have the turn
+asked_about : (c : ClientState) (found : Option Question) (question : Question) → found ≡ Some question
+    → IfSome found (λ q. IsAbout c.keys c.knowns (next_places c) q) → IsAbout c.keys c.knowns (next_places c) question
+asked_about c found question is about = subst (λ o. IfSome o (λ q. IsAbout c.keys c.knowns (next_places c) q)) is about
+
 pub put-requires : goal.put-requires
 put-requires g c =
     subst (λ s. IsToBePut s c.in-Some.question) (sym c.in_ok-question.ensures.turn) (record {
       places = next_places c.args.client.now;
-      about = subst (λ o. IfSome o (λ q. IsAbout c.args.client.now.keys c.args.client.now.knowns (next_places c.args.client.now) q)) c.in-Some.is c.in_ok-question.ensures.about;
+      about = asked_about c.args.client.now _ c.in-Some.question c.in-Some.is c.in_ok-question.ensures.about;
       few = c.ask.ensures.few;
     })
 
@@ -47,6 +53,7 @@ returns-in_err-question g c =
         nearer = λ settling. if_err _ result failed;
         paid = λ good honest. if_err _ result failed;
         honest = λ names honest. honest;
+        counts = λ names honest. (omega arith, omega arith, omega arith);
         ended = λ names honest. refl;
         followed = search rules;
       };
@@ -80,6 +87,7 @@ returns-in_default g c =
         nearer = nearer_asked client c.ask.new.self link turn;
         paid = λ good honest. subst (λ s. ArePaid 0 left (left_for s link.past) lost lost) (sym turn) (paid_none left lost);
         honest = λ names honest. honest;
+        counts = λ names honest. (omega arith, omega arith, omega arith);
         ended = λ names honest. refl;
         followed = g.met.L.Link.itself c.args.link.now;
       };
@@ -99,8 +107,7 @@ returns-in_default g c =
       gives_up = tt;
       turned = record {
         next_is = asked_nothing client c.ask.new.self turn (sym c.in_ok-question.ensures.question ∙ c.in_default.is);
-        sent_stays = λ honest. refl;
-        handed_stays = λ honest. refl;
+        past_stays = λ honest. refl;
       };
       settled = λ is. subst (λ (s : ClientState). AreSettled s.keys s.knowns) (sym turn) (c.in_ok-question.ensures.none c.in_default.is);
     }
@@ -124,6 +131,7 @@ returns-in_err-put g c =
         nearer = λ settling. if_err _ result failed;
         paid = λ good honest. if_err _ result failed;
         honest = c.put.ensures.tries.honest;
+        counts = c.put.ensures.tries.counts;
         ended = c.put.ensures.tries.ended;
         followed = search rules;
       };
@@ -152,7 +160,7 @@ returns-in_err-put g c =
       gives_up =
           rw (fault.1, fault.2)
           (given_up _ _ client asked next link.past new.past c.in-Some.question c.in_err-put.field-0.0 still turn
-          (sym c.in_ok-question.ensures.question ∙ c.in-Some.is) c.in_err-put.ensures.lost (λ honest. (c.in_err-put.ensures.honestly honest).sent));
+          (sym c.in_ok-question.ensures.question ∙ c.in-Some.is) (asked_about client _ c.in-Some.question c.in-Some.is c.in_ok-question.ensures.about) c.in_err-put.ensures.lost (λ honest. (c.in_err-put.ensures.honestly honest).sent));
       turned = if_err _ result failed;
       settled = if_err _ result failed;
     }
@@ -178,6 +186,7 @@ returns g c =
             subst (λ s. ArePaid 1 (left_for s link.past) (left_for next new.past) link.disturbances new.disturbances) turn
             (put.tries.paid (may good).0 (subst (λ (s : ClientState). link.honest (is_planned s.keys)) (sym turn) honest));
         honest = put.tries.honest;
+        counts = put.tries.counts;
         ended = put.tries.ended;
         followed = put.tries.followed;
       };
@@ -202,6 +211,7 @@ returns g c =
       turned = record {
         question = c.in-Some.question;
         question_is = sym c.in_ok-question.ensures.question ∙ c.in-Some.is;
+        about = asked_about client _ c.in-Some.question c.in-Some.is c.in_ok-question.ensures.about;
         answered =
             subst (λ (s : ClientState). IsAnswered (link.honest (is_planned s.keys)) c.in-Some.question s next link.past new.past) turn put.answered;
       };

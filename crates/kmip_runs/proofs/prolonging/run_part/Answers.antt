@@ -50,7 +50,7 @@ returns-then-is_some g c =
       ran = search rules;
       broken =
           inr (record {
-            ran = record { part = part; all = made.all; runs_are = runs_are; saved_are = saved_are };
+            ran = record { part = part; all = made.all; runs_are = runs_are; saved_are = saved_are; turned = made.turned };
             why = inl (made.all.fewer (some_not part.fault (search rules)));
           });
       ended = λ honest. join_part end.runs.items part.runs.items _ _ _ _ _ _ _ runs_are (λ is. absurd cc) (made.ended honest);
@@ -69,7 +69,7 @@ returns g c =
       ran =
           if_ok_more _ _ c.carry_over-read.result
           (λ read is. record {
-            ran = record { part = part; all = made.all; runs_are = runs_are; saved_are = saved_are };
+            ran = record { part = part; all = made.all; runs_are = runs_are; saved_are = saved_are; turned = made.turned };
             whole = whole;
             read_is = read_for _ c.args.carried.now part.saved.items c.as_slice.result.now read.items c.as_slice.ensures.value is;
           })
@@ -77,7 +77,7 @@ returns g c =
       broken =
           on_err c.carry_over-read.result
           (λ needed. inr (record {
-            ran = record { part = part; all = made.all; runs_are = runs_are; saved_are = saved_are };
+            ran = record { part = part; all = made.all; runs_are = runs_are; saved_are = saved_are; turned = made.turned };
             why = inr needed;
           }))
           c.carry_over-read.ensures.needed;

@@ -17,6 +17,7 @@ returns c =
       order = c.campaign.ensures.order;
       complete = c.campaign.ensures.complete;
       known = c.campaign.ensures.known;
+      turned = c.campaign.ensures.turned;
       settles = c.campaign.ensures.settles;
       outlasts = (c.campaign.ensures.well good).outlasts tt;
       ended = c.campaign.ensures.ended tt;
