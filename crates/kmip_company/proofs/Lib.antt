@@ -4,6 +4,8 @@ pub mod EventLemmas
 pub mod AmongLemmas
 pub mod SuitLemmas
 pub mod ActLemmas
+pub mod OccurLemmas
+pub mod ApartLemmas
 pub mod AmidLemmas
 pub mod SharedLemmas
 pub mod MixedListLemmas

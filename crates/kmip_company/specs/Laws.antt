@@ -1,8 +1,8 @@
 -- What holds of any company of clients of one plan.
 -- Source: own (law).
-use Rattle.std.specs.Prelude.{◌*◌, ◌+◌, ◌<◌, ◌≡◌, ◌≤◌, List, Option, Some, length, slice_get, slice_set, ℕ}
+use Rattle.std.specs.Prelude.{◌*◌, ◌+◌, ◌∷◌, ◌<◌, ◌≡◌, ◌≤◌, [], List, Option, Some, length, slice_get, slice_set, ℕ}
 use Rattle.std.specs.List.{All}
-use Rattle.kmip_client.specs.Asking.{after_ask}
+use Rattle.kmip_client.specs.Asking.{IsAbout, after_ask, next_places}
 use Rattle.kmip_client.specs.Clients.{ClientState, fresh, verdict_at}
 use Rattle.kmip_client.specs.Justified.{Justified}
 use Rattle.kmip_client.specs.Places.{Onward}
@@ -13,15 +13,16 @@ use Rattle.kmip_plan.specs.Plans.{IsLawful}
 use Rattle.kmip_plan.specs.declared.key.Key.{Key}
 use Rattle.kmip_progress.specs.Suiting.{Suits}
 use Rattle.kmip_protocol.specs.Amid.{PassedAmid}
-use Rattle.kmip_protocol.specs.Exchanges.{with_asked}
+use Rattle.kmip_protocol.specs.Exchanges.{HandsOver, with_asked}
 use Rattle.kmip_protocol.specs.Machine.{IsMirrored}
 use Rattle.kmip_protocol.specs.Needs.{missing}
-use Rattle.kmip_protocol.specs.Past.{Past}
+use Rattle.kmip_protocol.specs.Past.{Past, is_planned}
 use Rattle.kmip_protocol.specs.Ready.{IsReady}
 use Rattle.kmip_protocol.specs.Sound.{Opening, Sound}
 use Rattle.kmip_protocol.specs.Turns.{taught}
-use Rattle.kmip_runs.specs.Turning.{Turns}
-use Rattle.kmip_company.specs.Acting.{IsActAt, acts}
+use Rattle.kmip_runs.specs.Turning.{AreExchanged, Turns}
+use Rattle.kmip_company.specs.Acting.{HasPast, IsActAt, MayBecome, acts, all_acts, asked_in, with_past}
+use Rattle.kmip_company.specs.Apart.{IsApartFrom, IsLessonAt, SparesClientAt}
 use Rattle.kmip_company.specs.Amid.{AllMayPass, Passing, StandsWell, Standing, after_passings, all_cost, left_amid, went_well}
 use Rattle.kmip_company.specs.Companies.{AllMayOccur, Company, Event, after_events, nobody, with_client}
 use Rattle.kmip_company.specs.Safety.{IsGoodCompany, IsSafeCompany}
@@ -75,12 +76,50 @@ TurnsAreActs =
     → after_events keys (acts place c question answer) w
     ≡ with_client place (taught question answer (after_ask c)) (record w { past = with_asked question.bytes w.past })
 
--- So is a run: the turns that `drive` promises of its client (*turned*).
+-- So is a run: the turns that `drive` promises of its client (*turned*). They are all at its place, they ask these
+-- questions, and they change no other client.
 abbrev pub RunsAreActs : Type 0
 RunsAreActs =
     (keys : List Key) (w : Company) (place : ℕ) (old new : ClientState) (questions : List (List ℕ)) (answers : List (Option (List ℕ)))
     → slice_get w.clients place ≡ Some old → Turns questions answers old new
-    → (events : List Event) × All (IsActAt place) events × ((after_events keys events w).clients ≡ slice_set w.clients place new)
+    → All (IsActAt place) (all_acts place old answers) × (asked_in (all_acts place old answers) ≡ questions)
+    × ((after_events keys (all_acts place old answers) w).clients ≡ slice_set w.clients place new)
+
+-- A turn over an honest link may occur: its message is about the keys that have the turn, and was exchanged for its
+-- answer. Apart from what the network and the server do, the events are the acts of this turn. The company then has
+-- the client that learnt from the answer, and the past after the exchange.
+abbrev pub TurnsMayOccur : Type 0
+TurnsMayOccur =
+    (keys : List Key) (w : Company) (place : ℕ) (c : ClientState) (question : Question) (answer : Option (List ℕ)) (before after : Past)
+    → slice_get w.clients place ≡ Some c → HasPast w before → IsAbout c.keys c.knowns (next_places c) question
+    → HandsOver (is_planned keys) before question.bytes answer after
+    → MayBecome keys w (acts place c question answer) (with_client place (taught question answer (after_ask c)) (with_past after w))
+
+-- So may a run: the turns and the exchanges that `drive` promises over an honest link (*turned*).
+abbrev pub RunsMayOccur : Type 0
+RunsMayOccur =
+    (keys : List Key) (w : Company) (place : ℕ) (old new : ClientState) (questions : List (List ℕ)) (answers : List (Option (List ℕ))) (before after : Past)
+    → slice_get w.clients place ≡ Some old → HasPast w before → Turns questions answers old new
+    → AreExchanged (is_planned keys) questions answers before after
+    → MayBecome keys w (all_acts place old answers) (with_client place new (with_past after w))
+
+-- Events that spare the client at a place leave it as it is. So its next question stays the same.
+abbrev pub OthersSpareClients : Type 0
+OthersSpareClients =
+    (keys : List Key) (w : Company) (events : List Event) (place : ℕ) (c : ClientState) → slice_get w.clients place ≡ Some c
+    → All (SparesClientAt place) events → slice_get (after_events keys events w).clients place ≡ Some c
+
+-- What one client learns may come later than what another does, or than what the network or the server does.
+abbrev pub LessonsMayComeLater : Type 0
+LessonsMayComeLater =
+    (keys : List Key) (w : Company) (place : ℕ) (lesson event : Event) → IsLessonAt place lesson → IsApartFrom place event
+    → AllMayOccur keys (lesson ∷ event ∷ []) w → AllMayOccur keys (event ∷ lesson ∷ []) w
+
+-- The company is the same in both orders.
+abbrev pub LessonsCommute : Type 0
+LessonsCommute =
+    (keys : List Key) (w : Company) (place : ℕ) (lesson event : Event) → IsLessonAt place lesson → IsApartFrom place event
+    → after_events keys (lesson ∷ event ∷ []) w ≡ after_events keys (event ∷ lesson ∷ []) w
 
 -- What a good company does between two moments is what may pass over a link that is honest among others of the plan.
 abbrev pub CompaniesPassAmid : Type 0

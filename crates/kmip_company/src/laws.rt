@@ -7,10 +7,15 @@ ghost use Rattle.kmip_company.specs.Laws.{
   EventsKeepTheGood,
   EventsKeepTheImage,
   GoodIsSafe,
+  LessonsCommute,
+  LessonsMayComeLater,
   NobodyIsGood,
   NobodyIsKept,
+  OthersSpareClients,
   RunsAreActs,
+  RunsMayOccur,
   TurnsAreActs,
+  TurnsMayOccur,
   WhatIsLeftIsPaid,
   WhatIsSavedSuits,
   WhatWasAskedMayBe,
@@ -109,6 +114,20 @@ pub fn runs_are_acts()
     ensures turn { TurnsAreActs }
     // So is a run, whose turns `drive` promises.
     ensures run { RunsAreActs }
+    // Over an honest link these events may occur, with what the network and the server do meanwhile.
+    ensures turn_may_occur { TurnsMayOccur }
+    // So may those of a run, whose exchanges `drive` promises.
+    ensures run_may_occur { RunsMayOccur }
+{}
+
+/// What the events at one place are to those at another.
+pub fn places_are_independent()
+    // What others do leaves a client as it is, and so its next question too.
+    ensures spared { OthersSpareClients }
+    // What a client learns may come after what another does, or the network or the server.
+    ensures later { LessonsMayComeLater }
+    // The company is then the same.
+    ensures same { LessonsCommute }
 {}
 
 /// What a good company does between two moments may pass over a link that is honest among others of the plan. So what

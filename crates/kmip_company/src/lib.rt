@@ -6,11 +6,17 @@
 //!
 //! `mixed_laws` says what holds where the clients are of several plans, each of which the newest prolongs.
 //!
-//! `Shared` is a link that another client uses too: over it a campaign of one is made among those of others.
+//! `drive_in_company` drives a client, and says that what it does may occur in any company.
+//!
+//! `Shared` is a link that another client uses too. `campaign_with_another` makes the runs of one client over it.
 #![tactic(auto)]
 
+mod acting;
 pub mod laws;
 pub mod mixed_laws;
 mod shared;
+mod shared_campaign;
 
+pub use acting::drive_in_company;
 pub use shared::Shared;
+pub use shared_campaign::{SharedCampaign, campaign_with_another};

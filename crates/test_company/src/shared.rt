@@ -1,6 +1,6 @@
 //! Campaigns over a link that another client of the plan uses too.
 use kmip_client::Client;
-use kmip_company::Shared;
+use kmip_company::{Shared, campaign_with_another};
 use kmip_objects::KeyState;
 use kmip_plan::read_plan;
 use kmip_runs::{Run, Start, Stop, campaign};
@@ -65,6 +65,48 @@ fn a_campaign_amid_another_client_makes_each_key_once(rt: HostRuntime) -> Result
             }
             assert!(rt; found, "{name} stands as the plan wants it");
         }
+    }
+    Ok(())
+}
+
+/// Targets of a plan of one key. A client that meets no other makes this many exchanges: one Locate that finds nothing,
+/// and one for each step (Create, Activate, Revoke, Destroy).
+const WAYS: [(&str, usize); 4] = [
+    ("target = \"created\"\n", 2),
+    ("target = \"active\"\n", 3),
+    ("target = \"revoked\"\nreason = \"superseded\"\n", 4),
+    ("target = \"destroyed\"\nreason = \"superseded\"\n", 5),
+];
+
+/// The other client is always one exchange behind, so it has a question after each exchange of the campaign.
+#[test]
+fn the_other_client_asks_after_each_exchange(rt: HostRuntime) -> Result<(), Fail> {
+    let alloc = rt.alloc();
+    let run = Run {
+        start: Start::Fresh,
+        limit: 100,
+        batch: 1,
+        save: false,
+    };
+    for (target, exchanges) in WAYS {
+        let text = format!(in alloc;
+            "[[key]]\nname = \"a\"\nalgorithm = \"AES\"\nlength = 256\nusage = [\"encrypt\"]\n{target}"
+        )?;
+        let plan = read_plan(alloc, text.as_str())?;
+        let made = campaign_with_another(alloc, &plan, read_script(alloc, "")?, &[run])?;
+        let Some(first) = made.end.runs.first() else {
+            return Err(Fail::new("the run has no end"));
+        };
+        assert!(rt; first.stop == Stop::AllFinished, "the campaign finishes");
+        assert!(rt;
+            first.exchanges == exchanges,
+            "the campaign asks {exchanges} times"
+        );
+        let asked = made.link.link().requests().len();
+        assert!(rt;
+            asked == exchanges * 2,
+            "{asked} requests were sent, half of them by the other"
+        );
     }
     Ok(())
 }

@@ -1,10 +1,10 @@
 -- What the other client does may pass over this link.
-use Rattle.std.proofs.Common.{subst}
-use Rattle.kmip_company.specs.Sharing.{AreTogether, Sharing, past_of}
+use Rattle.std.proofs.Common.{OnOk, rules, subst}
+use Rattle.kmip_company.specs.Sharing.{AreTogether, Sharing, TakesTurn, past_of}
 use Rattle.kmip_protocol.specs.Amid.{PassedAmid, seen_by_others}
 use Rattle.kmip_protocol.specs.Sound.{Sound}
 use Rattle.kmip_scripted.specs.Scenes.{past_in, seen_in}
-use Rattle.kmip_company.proofs.SharedLemmas.{other_good, still_together}
+use Rattle.kmip_company.proofs.SharedLemmas.{on_ok, other_good, still_together, turn_taken}
 use Rattle.kmip_company.proofs.shared.Shared.let_the_other_ask.Goals as goal
 
 pub returns-clause-together : goal.returns-clause-together
@@ -33,3 +33,15 @@ returns-clause-passed g c = λ keys.
     subst (λ ks. PassedAmid ks (past_of before) (past_of after)) together.keys_are
     (c.what_passes_passes_for_others.ensures.blind other.keys sent handed (seen_by_others (past_in c.self.inside.link)) (seen_by_others (past_in c.drive-driven.new.link))
     (c.drive-driven.ensures.well good).onward.passed))
+
+pub returns-clause-turn : goal.returns-clause-turn
+returns-clause-turn g c =
+    let driven = c.drive-driven.result in
+    let other = c.self.inside.other in
+    let next = c.drive-driven.new.client in
+    let before = past_in c.self.inside.link in
+    let after = past_in c.drive-driven.new.link in
+    subst (λ (s : Sharing). OnOk c.unless_no_memory.result (TakesTurn s.other next (past_in s.scene) after)) c.self.view_is
+    (on_ok c.unless_no_memory.result
+    (turn_taken driven.0 driven.1 other next before after c.drive-driven.ensures.turned c.drive-driven.ensures.stops_for_its_reason (search rules) (search rules))
+    c.unless_no_memory.ensures)
