@@ -86,7 +86,7 @@ far_sent names mark keys rest lookeds start now far =
     let many : length keys ≡ length far.front + length rest = ap length (sym far.is) ∙ length-append far.front rest in
     sends_within keys mark (8 * length far.front) (8 * length keys) start now (omega (arith, many)) far.sends
 
-front_is : (front rest keys : List Key) → front ++ rest ≡ keys → rest ≡ [] → front ≡ keys
+pub front_is : (front rest keys : List Key) → front ++ rest ≡ keys → rest ≡ [] → front ≡ keys
 front_is front rest keys is none = sym (append-nil front) ∙ ap (λ ks. front ++ ks) (sym none) ∙ is
 
 pub far_said : (names : Names) (mark : List ℕ) (keys rest : List Key) (lookeds : List Looked) (start now : Past) → rest ≡ []

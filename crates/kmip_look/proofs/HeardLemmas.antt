@@ -226,7 +226,7 @@ from_at U F T part mark why replies key looked (Some reply) is asked answers at 
     let there = found_in (is_answer (part_number part) (id_of part mark key)) replies reply is in
     heard_at U F T part key reply looked asked (answers reply there.0 there.1) at
 
-key_at : (Unheard : Type 0) (Found : List ℕ → Type 0) (Told : Looked → Type 0) (part : Part) (mark : List ℕ) (why : Why) (replies : List Reply) (key : Key)
+pub key_at : (Unheard : Type 0) (Found : List ℕ → Type 0) (Told : Looked → Type 0) (part : Part) (mark : List ℕ) (why : Why) (replies : List Reply) (key : Key)
     (looked : Looked)
     → ((reply : Reply) → Contains replies reply → is_answer (part_number part) (id_of part mark key) reply ≡ true → Answered Found Told key reply)
     → IsAt Unheard Found Told looked → IsAt Unheard Found Told (heard_key part mark why replies key looked)

@@ -6,3 +6,4 @@ pub mod CalmLemmas
 pub mod PastLemmas
 pub mod AloneLemmas
 pub mod GroupLemmas
+pub mod TriedLemmas

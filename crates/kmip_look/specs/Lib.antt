@@ -16,5 +16,7 @@ pub mod PrivateHearing
 pub mod PrivatePutting
 -- private: what holds of the keys as a look goes on
 pub mod PrivateKeeping
+-- private: how often was asked about the keys
+pub mod PrivateTrying
 -- private: a group that is asked about, and what is promised of asking
 pub mod PrivateGroups

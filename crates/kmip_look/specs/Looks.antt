@@ -1,8 +1,10 @@
 -- What a look promises. Open this file first.
 -- Source: own (law), over KMIP 2.1, Operations, Locate and Get Attributes; Message Structure, Unique Batch Item
 -- ID. What the id is, and how often a message is put, is own (choice, limit).
-use Rattle.std.specs.Prelude.{◌≡◌, ◌≢◌, ◌≤◌, ◌⊎◌, ◌+◌, ◌*◌, ℕ, true, false, List, ◌∷◌, ◌++◌, length, Option, Some, None, Result, IfOk, OnOk}
-use Rattle.std.specs.List.{All, AllZip, Contains}
+use Rattle.std.specs.Prelude.{◌≡◌, ◌≢◌, ◌≤◌, ◌⊎◌, ◌+◌, ◌*◌, ℕ, nat_eq, Bool, true, false, List, ◌∷◌, ◌++◌, length, count_by, Option, Some, None, Result, IfOk, OnOk}
+use Rattle.std.specs.Cmp.Lexicographic.{pointwise}
+use Rattle.std.specs.List.{All, AllZip, Contains, list_any}
+use Rattle.std.specs.Option.{option_map_or}
 use Rattle.kmip_ttlv.specs.declared.no_memory.NoMemory.{NoMemory}
 use Rattle.kmip_objects.specs.Attributes.{by_name}
 use Rattle.kmip_objects.specs.Objects.{Object, DistinctUids}
@@ -19,6 +21,7 @@ use Rattle.kmip_protocol.specs.Seen.{Seen}
 use Rattle.kmip_look.specs.Moments.{WasSo}
 use Rattle.kmip_look.specs.Standings.{StandsSo, is_told}
 use Rattle.kmip_look.specs.declared.looked.Looked.{Looked}
+use Rattle.kmip_look.specs.declared.why.Why.TheVariants.{Refused}
 
 -- A look at the name: a Locate of it in every state, or a Get Attributes.
 abbrev pub IsLookAt : List ℕ → Ask → Type 0
@@ -56,6 +59,24 @@ pub record IsFresh (mark : List ℕ) (p : Past) : Type 0 where
 abbrev pub IsSaid : Names → Past → Past → Key → Looked → Type 0
 IsSaid names old new key looked =
     ((is_told looked.known ≡ true) × WasSo names old new key looked) ⊎ ((is_told looked.known ≡ false) × (looked.shown ≡ None))
+
+-- A question in the message has this id.
+abbrev pub asks_id : List ℕ → List ℕ → Bool
+asks_id id message = list_any (λ (request : Request). option_map_or (λ own. pointwise nat_eq id own) request.id false) (requests_in message)
+
+-- At least this many of the messages that were sent ask a question with this id.
+pub record IsAskedFor (id : List ℕ) (count : ℕ) (old new : Past) : Type 0 where
+  pub messages : List (List ℕ)
+  pub sent : new.sent ≡ old.sent ++ messages
+  pub many : count ≤ count_by (asks_id id) messages
+
+-- It is told how the key stands. Or the server has refused a question about it, or one was asked in at least
+-- four messages.
+abbrev pub IsTried : List ℕ → Past → Past → Key → Looked → Type 0
+IsTried mark old new key looked =
+    (is_told looked.known ≡ true)
+    ⊎ (((reason : Option ℕ) × (looked.why ≡ Refused reason))
+    ⊎ ((operation : ℕ) × IsAskedFor (operation ∷ (mark ++ key.attrs.name)) 4 old new))
 
 -- It is told how the key stands over these objects.
 abbrev pub IsToldOf : List Object → Key → Looked → Type 0

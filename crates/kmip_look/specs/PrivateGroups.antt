@@ -1,13 +1,16 @@
 -- Private: a group of keys that is asked about, and what a call promises that asks.
 -- Source: own (law).
-use Rattle.std.specs.Prelude.{◌≤◌, ℕ, Bool, IfOk, IsTrue, List, OnOk, Result, length}
+use Rattle.std.specs.Prelude.{◌≡◌, ◌≤◌, ◌+◌, ℕ, Bool, true, false, IfOk, IsTrue, List, Ok, OnOk, Result, length}
+use Rattle.std.specs.List.{AllZip}
 use Rattle.kmip_ttlv.specs.declared.no_memory.NoMemory.{NoMemory}
 use Rattle.kmip_messages.specs.Members.{may_have}
 use Rattle.kmip_plan.specs.declared.key.Key.{Key}
-use Rattle.kmip_protocol.specs.Past.{Names}
+use Rattle.kmip_protocol.specs.Past.{Names, Past}
 use Rattle.kmip_protocol.specs.Seen.{Seen}
 use Rattle.kmip_look.specs.PrivateKeeping.{AreFit, AreShaped, Goes, GoesCalmly, GoesThrough, Parts, SendsLooks}
+use Rattle.kmip_look.specs.PrivateTrying.{IsTriedAt}
 use Rattle.kmip_look.specs.declared.looked.Looked.{Looked}
+use Rattle.kmip_look.specs.declared.looking.TheConstants.{MOST_TRIES}
 use Rattle.kmip_look.specs.declared.part.Part.{Part}
 
 -- The keys may be asked about in one message, with this mark, where this is said of them.
@@ -53,9 +56,16 @@ pub record AsksOnce (part : Part) (about : About) (olds : List Looked) (old : Se
   -- Over a link that is calm for some names, all of this holds, with what a message of the part does.
   pub calmly : (names : Names) → old.calm names
       → AsksCalmly names result new (λ done. GoesCalmly part about.keys olds news old.past new.past)
+  -- Over a link that is honest for some names, unless memory ran out, one message more asked about each key that
+  -- is not told and was not refused.
+  pub tried : (names : Names) → old.honest names → OnOk result ((start : Past) (count : ℕ)
+      → AllZip (IsTriedAt part count about.mark start old.past) about.keys olds
+      → AllZip (IsTriedAt part (count + 1) about.mark start new.past) about.keys news)
 
 -- What a call promises that goes through some parts, and says whether more may be asked.
-pub record AsksParts (parts : Parts) (about : About) (olds : List Looked) (old : Seen) (result : Result Bool NoMemory) (news : List Looked) (new : Seen) : Type 0 where
+pub record AsksParts (parts : Parts) (about : About) (olds : List Looked) (old : Seen) (result : Result Bool NoMemory) (news : List Looked) (new : Seen) (given_up : Bool) : Type 0 where
+  -- No more may be asked only if the pause has given up.
+  pub stops : result ≡ Ok false → given_up ≡ true
   -- Unless memory ran out, what is said of each key has its shape.
   pub shaped : OnOk result (AreShaped about.keys news)
   -- Over a link that is honest for some names, all of this holds.
@@ -63,3 +73,8 @@ pub record AsksParts (parts : Parts) (about : About) (olds : List Looked) (old :
   -- Over a link that is calm for some names, all of this holds, with what these parts come to.
   pub calmly : (names : Names) → old.calm names
       → AsksCalmly names result new (λ goes_on. GoesThrough parts about.keys olds news goes_on old.past new.past)
+  -- Over a link that is honest for some names, if more may be asked, each try was made for each key that is not
+  -- told and was not refused.
+  pub tried : (names : Names) → old.honest names → IfOk result (λ goes_on. goes_on ≡ true → (start : Past)
+      → AllZip (IsTriedAt parts.first 0 about.mark start old.past) about.keys olds
+      → AllZip (IsTriedAt parts.last MOST_TRIES about.mark start new.past) about.keys news)

@@ -1,13 +1,14 @@
 //! A look at the keys of a plan, group by group.
-ghost use Rattle.std.specs.Prelude.{◌≡◌, ◌≤◌, ◌<◌, [], IfOk, IsTrue, length, true};
-ghost use Rattle.std.specs.List.{All};
+ghost use Rattle.std.specs.Prelude.{◌≡◌, ◌≤◌, ◌<◌, [], IfOk, IsTrue, OnOk, length, true, false};
+ghost use Rattle.std.specs.List.{All, AllZip};
 ghost use Rattle.kmip_messages.specs.Members.{may_have};
 ghost use Rattle.kmip_messages.specs.Written.{requests_fit};
 ghost use Rattle.kmip_protocol.specs.Past.{Names};
-ghost use Rattle.kmip_look.specs.Looks.{Looks};
+ghost use Rattle.kmip_look.specs.Looks.{IsTried, Looks};
 ghost use Rattle.kmip_look.specs.PrivateAsking.{requests_of};
 ghost use Rattle.kmip_look.specs.PrivateGroups.{AsksOnce, AsksParts, IsGroup};
 ghost use Rattle.kmip_look.specs.PrivateKeeping.{AreFit, AreShaped, GroupsCalmly, LookLaws, LooksAt, SendsLooks, both_parts, one_part, unasked};
+ghost use Rattle.kmip_look.specs.PrivateTrying.{IsTriedAt};
 
 use crate::asking::{is_any_asked, requests_of};
 use crate::hearing::hear_each;
@@ -55,8 +56,13 @@ pub fn look<L: Link, P: Pause>(
     // The mark has at most 16 bytes.
     requires mark { length mark.now ≤ 16 }
     // It looks at each key of the plan, and what it says of them was so.
-    ensures { Looks (λ v. v.items) plan.now mark.now (L.seen link.old) result
+    ensures looks { Looks (λ v. v.items) plan.now mark.now (L.seen link.old) result
         (L.seen link.new) }
+    // Over a link that is honest for some names, and unless the pause gave up: it gives up no key that is
+    // not told, and that the server did not refuse, before at least four messages have asked about it.
+    ensures tried { (names : Names) → (L.seen link.old).honest names
+        → P.has_given_up pause.new ≡ false → IfOk result (λ v. AllZip
+        (IsTried mark.now (L.seen link.old).past (L.seen link.new).past) plan.now v.items) }
 {
     look_each(alloc, plan.keys(), link, mark, batch, pause)
 }
@@ -76,8 +82,11 @@ fn look_each<L: Link, P: Pause>(
     requires batch { IsTrue (may_have batch) }
     requires mark { length mark.now ≤ 16 }
     requires fit { AreFit keys.now }
-    ensures { Looks (λ v. v.items) keys.now mark.now (L.seen link.old) result
+    ensures looks { Looks (λ v. v.items) keys.now mark.now (L.seen link.old) result
         (L.seen link.new) }
+    ensures tried { (names : Names) → (L.seen link.old).honest names
+        → P.has_given_up pause.new ≡ false → IfOk result (λ v. AllZip
+        (IsTried mark.now (L.seen link.old).past (L.seen link.new).past) keys.now v.items) }
 {
     let mut lookeds = Vec::with_capacity(alloc, keys.len())?;
     let mut goes_on = true;
@@ -115,6 +124,12 @@ fn look_group<L: Link, P: Pause>(
     ensures calmly { (names : Names) → (L.seen link.old).calm names → (L.seen link.new).calm names
         × IfOk result (λ lookeds. GroupsCalmly keys.now lookeds.items goes_on.old goes_on.new
         (L.seen link.old).past (L.seen link.new).past) }
+    ensures tried { (names : Names) → (L.seen link.old).honest names → goes_on.new ≡ true
+        → IfOk result (λ lookeds. AllZip (IsTriedAt Part.Tell MOST_TRIES mark.now
+        (L.seen link.old).past (L.seen link.new).past) keys.now lookeds.items) }
+    ensures onward { goes_on.new ≡ true → goes_on.old ≡ true }
+    ensures stops { (goes_on.old ≡ false → P.has_given_up pause.old ≡ true)
+        → OnOk result (goes_on.new ≡ false → P.has_given_up pause.new ≡ true) }
 {
     let mut lookeds = all_unasked(alloc, keys.len())?;
     if !*goes_on {
@@ -151,7 +166,8 @@ fn ask_group<L: Link, P: Pause>(
 ) -> Result<bool, NoMemory>
     requires { IsGroup keys.now mark.now lookeds.old.items }
     ensures { AsksParts both_parts (record { keys = keys.now; mark = mark.now; most = 8 })
-        lookeds.old.items (L.seen link.old) result lookeds.new.items (L.seen link.new) }
+        lookeds.old.items (L.seen link.old) result lookeds.new.items (L.seen link.new)
+        (P.has_given_up pause.new) }
 {
     let goes_on = ask_part(alloc, Part::Find, keys, link, mark, pause, lookeds)?;
     if !goes_on {
@@ -176,7 +192,8 @@ fn ask_part<L: Link, P: Pause>(
     requires { IsGroup keys.now mark.now lookeds.old.items }
     ensures { AsksParts (one_part part)
         (record { keys = keys.now; mark = mark.now; most = MOST_TRIES })
-        lookeds.old.items (L.seen link.old) result lookeds.new.items (L.seen link.new) }
+        lookeds.old.items (L.seen link.old) result lookeds.new.items (L.seen link.new)
+        (P.has_given_up pause.new) }
 {
     for tried in 0..MOST_TRIES {
         if !is_any_asked(part, lookeds.as_slice()) {

@@ -20,22 +20,27 @@ const MARK: &[u8] = b"a mark..";
 struct Times {
     left: usize,
     asked: usize,
+    has_given_up: bool,
 }
 
 impl Times {
     fn new(left: usize) -> Times {
-        Times { left, asked: 0 }
+        Times {
+            left,
+            asked: 0,
+            has_given_up: false,
+        }
     }
 }
 
 impl Pause for Times {
+    ghost has_given_up = { λ times. times.has_given_up };
+
     fn again(&mut self) -> bool {
         self.asked = self.asked.saturating_add(1);
-        if self.left == 0 {
-            return false;
-        }
-        self.left -= 1;
-        true
+        self.has_given_up = self.left == 0;
+        self.left = self.left.saturating_sub(1);
+        !self.has_given_up
     }
 }
 

@@ -68,6 +68,7 @@ impl Keeper for Shelf {
     ghost use Rattle.kmip_disk.specs.Memory.{memory_view};
 
     ghost kept = { λ shelf. record {
+      remembers = Unit {0};
       saved = shelf.texts.items;
       disk = memory_view shelf.file.disk;
       refusals = shelf.refusals;

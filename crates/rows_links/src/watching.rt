@@ -83,6 +83,8 @@ impl<'c> Patient<'c> {
 impl<'c> Patience for Patient<'c> {
     ghost has_given_up = { λ patient. patient.pace.has_given_up };
 
+    ghost asked = { λ patient. patient.pace.asked };
+
     fn exchanged(&mut self, client: &Client<'_>, got_on: bool) {
         self.exchanges = self.exchanges.saturating_add(1);
         self.got_on = self.got_on.saturating_add(usize::from(got_on));

@@ -1,6 +1,7 @@
 -- The message is put, and its replies are heard.
 use Rattle.std.proofs.lemmas.Result.{err_from_is_err_and}
 use Rattle.kmip_look.proofs.PastLemmas.{calmly_by, goes_by, on_ok, sends_looks, shaped_by, shaped_many, when_ok}
+use Rattle.kmip_look.proofs.TriedLemmas.{tried_by}
 use Rattle.kmip_look.proofs.looking.ask.Goals as goal
 
 pub hear_each-requires : goal.hear_each-requires
@@ -20,6 +21,7 @@ returns-in_err-heard g c =
             goes = tt;
           };
       calmly = λ names calm. record { still = (c.put.ensures.calmly names calm).0; comes = tt };
+      tried = λ names honest. tt;
     })
 
 pub returns : goal.returns
@@ -52,4 +54,8 @@ returns g c =
             comes = when_ok c.hear_each.result
                 (λ done is. calmly_by c.laws_below.ensures part mark why requests replies keys olds news old new c.requires.asks fits is served) c.hear_each.ensures;
           };
+      tried = λ names honest.
+          let (still, puts, has) = c.in_ok-heard.ensures.honestly names honest in
+          on_ok c.hear_each.result
+          (λ is. tried_by c.laws_below.ensures names part mark why requests replies keys olds news old new c.requires.asks fits is has) c.hear_each.ensures;
     }

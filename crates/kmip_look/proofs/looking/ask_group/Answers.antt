@@ -1,5 +1,5 @@
 -- One part after the other.
-use Rattle.std.proofs.Common.{subst, arith}
+use Rattle.std.proofs.Common.{Ok, ap, ◌∙◌, subst, arith}
 use Rattle.std.proofs.lemmas.Result.{err_from_is_err_and}
 use Rattle.kmip_look.specs.PrivateKeeping.{GoesThrough, one_part}
 use Rattle.kmip_look.specs.declared.part.Part.TheVariants.{Find}
@@ -23,6 +23,8 @@ returns-in_err-goes_on g c =
             goes = tt;
           };
       calmly = λ names calm. record { still = (c.ask_part.ensures.calmly names calm).still; comes = tt };
+      stops = λ no. absurd cc;
+      tried = λ names honest. tt;
     })
 
 -- no more may be asked after the first part
@@ -49,6 +51,8 @@ returns-then-not-goes_on g c =
             comes = through_first keys olds news old new
                 (subst (λ b. GoesThrough (one_part Find) keys olds news b old new) c.if-not-goes_on.true first.comes);
           };
+      stops = λ no. c.ask_part.ensures.stops (c.in_ok-goes_on.was ∙ ap Ok c.if-not-goes_on.true);
+      tried = λ names honest goes. absurd cc;
     }
 
 -- both parts
@@ -83,4 +87,9 @@ returns g c =
                 (subst (λ b. GoesThrough (one_part Find) keys olds mids b old mid) c.if-not-goes_on.false first.comes) on)
                 second.comes;
           };
+      stops = c.ask_part-2.ensures.stops;
+      tried = λ names honest.
+          let first = c.in_ok-goes_on.ensures.tried names honest in
+          let second = c.ask_part-2.ensures.tried names (c.in_ok-goes_on.ensures.honestly names honest).still in
+          if_ok c.ask_part-2.result (λ may on goes start at. on goes start (first c.if-not-goes_on.false start at)) second;
     }

@@ -1,9 +1,10 @@
 -- The requests of a part are put, where there are any.
-use Rattle.std.proofs.Common.{◌≡◌, ◌≤◌, [], length, sym, ap, ◌∙◌, arith}
+use Rattle.std.proofs.Common.{◌≡◌, ◌≤◌, ◌+◌, [], length, sym, ap, ◌∙◌, arith}
 use Rattle.std.proofs.lemmas.Result.{err_from_is_err_and}
 use Rattle.kmip_look.specs.PrivateAsking.{requests_of}
 use Rattle.kmip_look.proofs.AskedLemmas.{written}
 use Rattle.kmip_look.proofs.PastLemmas.{goes_nowhere, idle_goes, none_left, nothing_asked, sends_none, shaped_many, some_left}
+use Rattle.kmip_look.proofs.TriedLemmas.{idle_tried}
 use Rattle.kmip_look.proofs.looking.ask_once.Goals as goal
 
 pub requests_of-requires : goal.requests_of-requires
@@ -37,6 +38,7 @@ returns-in_err-requests g c =
         goes = tt;
       };
       calmly = λ names calm. record { still = calm; comes = tt };
+      tried = λ names honest. tt;
     })
 
 pub returns-then-is_empty : goal.returns-then-is_empty
@@ -61,6 +63,8 @@ returns-then-is_empty g c =
         still = calm;
         comes = idle_goes part keys lookeds past (nothing_asked part mark keys lookeds (shaped_many keys lookeds c.requires.shaped) left);
       };
+      tried = λ names honest start count.
+          idle_tried part count (count + 1) mark keys lookeds start past (nothing_asked part mark keys lookeds (shaped_many keys lookeds c.requires.shaped) left);
     }
 
 pub returns : goal.returns

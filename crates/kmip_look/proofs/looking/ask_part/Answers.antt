@@ -1,11 +1,13 @@
 -- Each try sends one message more; over a calm link the first one is enough.
-use Rattle.std.proofs.Common.{◌≡◌, ◌+◌, true, false, sym, ap, ◌∙◌, arith}
-use Rattle.std.specs.List.{list_any}
+use Rattle.std.proofs.Common.{◌≡◌, ◌+◌, true, false, sym, subst, ap, ◌∙◌, arith}
+use Rattle.std.specs.List.{AllZip, list_any}
 use Rattle.std.proofs.lemmas.List.Elements.{All-contains_itself}
 use Rattle.std.proofs.lemmas.Result.{err_from_is_err_and}
 use Rattle.kmip_look.specs.PrivateAsking.{is_asked}
 use Rattle.kmip_look.specs.declared.looking.TheConstants.{MOST_TRIES}
 use Rattle.kmip_look.proofs.PastLemmas.{goes_nowhere, goes_on, sends_none, sends_on, sends_within, tried_all, tried_idle, tried_more, tried_none, tried_stopped}
+use Rattle.kmip_look.specs.PrivateTrying.{IsTriedAt}
+use Rattle.kmip_look.proofs.TriedLemmas.{idle_tried, not_false}
 use Rattle.kmip_look.proofs.looking.ask_part.Goals as goal
 
 pub loop-tried-init : goal.loop-tried-init
@@ -17,6 +19,7 @@ loop-tried-init g c = record {
     goes_nowhere names c.args.mark.now c.args.keys.now c.args.lookeds.now.items (g.L.Link.seen c.args.link.now).past,
   );
   calm = λ names calm. (calm, tried_none c.args.part c.args.keys.now c.args.lookeds.now.items (g.L.Link.seen c.args.link.now).past);
+  tried = λ names honest start at. at;
 }
 
 pub ask_once-requires : goal.ask_once-requires
@@ -58,6 +61,7 @@ loop-tried-preserved g c =
             more.still,
             tried_more part tried keys mark olds nows news start now new any so_far more.comes (sends keys (All-contains_itself keys)),
           );
+      tried = λ names honest first at. once.tried names (c.loop-tried.invariant.honest names honest).0 first tried (c.loop-tried.invariant.tried names honest first at);
     }
 
 -- nothing is left to ask
@@ -85,6 +89,8 @@ returns-then-not-is_any_asked g c =
       calmly = λ names calm.
           let (before, so_far) = c.loop-tried.invariant.calm names calm in
           record { still = before; comes = tried_idle part tried keys olds nows start now idle so_far };
+      stops = λ no. absurd cc;
+      tried = λ names honest goes first at. idle_tried part tried MOST_TRIES mark keys nows first now idle (c.loop-tried.invariant.tried names honest first at);
     }
 
 -- memory ran out
@@ -110,6 +116,8 @@ returns-in_err-ask_once g c =
       calmly = λ names calm.
           let (before, so_far) = c.loop-tried.invariant.calm names calm in
           record { still = (c.ask_once.ensures.calmly names before).still; comes = tt };
+      stops = λ no. absurd cc;
+      tried = λ names honest. tt;
     })
 
 -- each try was made
@@ -138,6 +146,10 @@ returns g c =
             still = before;
             comes = tried_all part tried keys olds nows start now (omega (arith, c.loop-tried-test.false)) so_far;
           };
+      stops = λ no. absurd cc;
+      tried = λ names honest goes first at.
+          let all : tried ≡ MOST_TRIES = omega (arith, c.loop-tried-test.false, c.loop-tried.auto.tried-end) in
+          subst (λ n. AllZip (IsTriedAt part n mark first now) keys nows) all (c.loop-tried.invariant.tried names honest first at);
     }
 
 -- the pause said no
@@ -165,4 +177,6 @@ returns-then-not-again g c =
       calmly = λ names calm.
           let (before, so_far) = c.loop-tried.invariant.calm names calm in
           record { still = before; comes = tried_stopped part tried keys olds nows start now any (omega arith) so_far };
+      stops = λ no. not_false (g.P.Pause.has_given_up c.again.new.self) (sym c.again.ensures ∙ c.if-not-again.true);
+      tried = λ names honest goes. absurd cc;
     }

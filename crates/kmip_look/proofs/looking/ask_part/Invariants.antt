@@ -1,5 +1,7 @@
 -- What was sent and told until now, and how the keys stand over a calm link.
-use Rattle.kmip_protocol.specs.Past.{Names}
+use Rattle.kmip_protocol.specs.Past.{Names, Past}
+use Rattle.std.specs.List.{AllZip}
+use Rattle.kmip_look.specs.PrivateTrying.{IsTriedAt}
 use Rattle.kmip_look.specs.PrivateKeeping.{AreShaped, Goes, SendsLooks}
 use Rattle.kmip_look.proofs.PastLemmas.{Tried}
 use Rattle.kmip_look.proofs.looking.ask_part.Given as goal
@@ -12,4 +14,7 @@ invariant-loop-tried g l = record {
       × Goes names l.mark l.keys l.initial.lookeds.items l.lookeds.items (g.L.Link.seen l.initial.link).past (g.L.Link.seen l.link).past;
   calm : (names : Names) → (g.L.Link.seen l.initial.link).calm names → (g.L.Link.seen l.link).calm names
       × Tried l.part l.tried l.keys l.initial.lookeds.items l.lookeds.items (g.L.Link.seen l.initial.link).past (g.L.Link.seen l.link).past;
+  tried : (names : Names) → (g.L.Link.seen l.initial.link).honest names → (start : Past)
+      → AllZip (IsTriedAt l.part 0 l.mark start (g.L.Link.seen l.initial.link).past) l.keys l.initial.lookeds.items
+      → AllZip (IsTriedAt l.part l.tried l.mark start (g.L.Link.seen l.link).past) l.keys l.lookeds.items;
 }

@@ -1,12 +1,18 @@
 -- One group after the other.
-use Rattle.std.proofs.Common.{◌≡◌, ◌≤◌, ◌*◌, ◌++◌, true, [], length, sym, subst, ap, arith}
+use Rattle.std.proofs.Common.{◌≡◌, ◌≤◌, ◌*◌, ◌++◌, true, false, [], length, append_assoc, refl, sym, subst, ap, ◌∙◌, inl, inr, arith}
 use Rattle.std.proofs.lemmas.List.{length-append}
-use Rattle.std.proofs.lemmas.List.Elements.{All-drop, All-take}
+use Rattle.std.proofs.lemmas.Bool.{cases_Bool}
+use Rattle.std.proofs.lemmas.List.Elements.{All-contains_itself, All-drop, All-take}
+use Rattle.std.specs.List.{AllZip}
 use Rattle.std.proofs.lemmas.Result.{err_from_is_err_and}
 use Rattle.kmip_plan.specs.Plans.{key_fits}
 use Rattle.kmip_plan.specs.declared.key.Key.{Key}
 use Rattle.kmip_look.specs.PrivateKeeping.{AreFit}
-use Rattle.kmip_look.proofs.GroupLemmas.{CalmSoFar, SoFar, calm_first, calm_next, calm_told, far_broken, far_first, far_next, far_said, far_sent, group_size, joined, none_there, one_left}
+use Rattle.kmip_look.specs.PrivateTrying.{IsTriedAt}
+use Rattle.kmip_look.specs.declared.looking.TheConstants.{MOST_TRIES}
+use Rattle.kmip_look.specs.declared.part.Part.TheVariants.{Tell}
+use Rattle.kmip_look.proofs.TriedLemmas.{all_tried, tried_before, tried_onward}
+use Rattle.kmip_look.proofs.GroupLemmas.{CalmSoFar, SoFar, calm_first, calm_next, calm_told, far_broken, far_first, far_next, far_said, far_sent, front_is, group_size, joined, none_there, one_left, zip_more}
 use Rattle.kmip_look.proofs.PastLemmas.{sends_none}
 use Rattle.kmip_look.proofs.looking.look_each.Goals as goal
 
@@ -22,6 +28,8 @@ loop-rest-init g c =
         subst (λ ls. SoFar names c.args.mark.now c.args.keys.now c.args.keys.now ls p p) (sym none) (far_first names c.args.mark.now c.args.keys.now p),
       );
       calm = λ names calm. (calm, subst (λ ls. CalmSoFar c.args.keys.now c.args.keys.now ls true p p) (sym none) (calm_first c.args.keys.now p));
+      tried = λ names honest goes. ([], refl, subst (AllZip (IsTriedAt Tell MOST_TRIES c.args.mark.now p p) []) (sym none) tt);
+      stops = λ no. absurd cc;
     }
 
 pub look_group-requires-clause-many : goal.look_group-requires-clause-many
@@ -76,10 +84,22 @@ loop-rest-preserved g c =
             subst (λ ls. CalmSoFar keys later ls c.look_group.new.goes_on start new) (sym items)
                 (calm_next keys rest group later lookeds looked c.loop-rest.goes_on c.look_group.new.goes_on start now new parts some far goes),
           );
+      tried = λ names honest goes.
+          let (before, far) = c.loop-rest.invariant.honest names honest in
+          let (front, is, at) = c.loop-rest.invariant.tried names honest (c.in_ok-looked.ensures.onward goes) in
+          let sends = (c.in_ok-looked.ensures.honestly names before).1 group (All-contains_itself group) in (
+            front ++ group,
+            append_assoc front group later ∙ ap (λ ks. front ++ ks) parts ∙ is,
+            subst (AllZip (IsTriedAt Tell MOST_TRIES mark start new) (front ++ group)) (sym items)
+                (zip_more (IsTriedAt Tell MOST_TRIES mark start new) front group lookeds looked
+                (tried_onward mark front lookeds start now new sends.messages sends.sent at)
+                (tried_before mark group looked start now new far.sends.messages far.sends.sent (c.in_ok-looked.ensures.tried names before goes))),
+          );
+      stops = c.in_ok-looked.ensures.stops c.loop-rest.invariant.stops;
     }
 
-pub returns-in_err-lookeds : goal.returns-in_err-lookeds
-returns-in_err-lookeds g c =
+pub returns-in_err-lookeds-clause-looks : goal.returns-in_err-lookeds-clause-looks
+returns-in_err-lookeds-clause-looks g c =
     let fault = err_from_is_err_and c.from_residual.result c.from_residual.ensures.1 in
     rw fault.1 (record {
       as_many = tt;
@@ -91,8 +111,8 @@ returns-in_err-lookeds g c =
       calmly = λ names calm. record { still = calm; objects = tt; effects = tt; stand = λ distinct. tt };
     })
 
-pub returns-in_err-looked : goal.returns-in_err-looked
-returns-in_err-looked g c =
+pub returns-in_err-looked-clause-looks : goal.returns-in_err-looked-clause-looks
+returns-in_err-looked-clause-looks g c =
     let rest = c.loop-rest.rest.now in
     let group = c.split_at.result.0.now in
     let later = c.split_at.result.1.now in
@@ -114,8 +134,8 @@ returns-in_err-looked g c =
           record { still = (c.look_group.ensures.calmly names before).0; objects = tt; effects = tt; stand = λ distinct. tt };
     })
 
-pub returns-in_err-append : goal.returns-in_err-append
-returns-in_err-append g c =
+pub returns-in_err-append-clause-looks : goal.returns-in_err-append-clause-looks
+returns-in_err-append-clause-looks g c =
     let rest = c.loop-rest.rest.now in
     let group = c.split_at.result.0.now in
     let later = c.split_at.result.1.now in
@@ -137,8 +157,8 @@ returns-in_err-append g c =
           record { still = (c.look_group.ensures.calmly names before).0; objects = tt; effects = tt; stand = λ distinct. tt };
     })
 
-pub returns : goal.returns
-returns g c =
+pub returns-clause-looks : goal.returns-clause-looks
+returns-clause-looks g c =
     let keys = c.args.keys.now in
     let mark = c.args.mark.now in
     let rest = c.loop-rest.rest.now in
@@ -164,3 +184,19 @@ returns g c =
             stand = λ distinct. calm_told keys rest lookeds c.loop-rest.goes_on start now none far distinct;
           };
     }
+
+pub returns-clause-tried : goal.returns-clause-tried
+returns-clause-tried g c = λ names honest patient.
+    let keys = c.args.keys.now in
+    let mark = c.args.mark.now in
+    let rest = c.loop-rest.rest.now in
+    let lookeds = c.loop-rest.lookeds.items in
+    let start = (g.L.Link.seen c.args.link.now).past in
+    let now = (g.L.Link.seen c.loop-rest.link).past in
+    let none : rest ≡ [] = none_there rest c.loop-rest-test.ensures in
+    elim (cases_Bool c.loop-rest.goes_on) [
+      | inl goes ↦
+          let (front, is, at) = c.loop-rest.invariant.tried names honest goes in
+          all_tried mark keys lookeds start now (subst (λ ks. AllZip (IsTriedAt Tell MOST_TRIES mark start now) ks lookeds) (front_is front rest keys is none) at)
+      | inr stopped ↦ (let both : false ≡ true = sym patient ∙ c.loop-rest.invariant.stops stopped in absurd cc)
+    ]

@@ -1,7 +1,9 @@
 -- A group is asked about where more may be asked, and else left.
+use Rattle.std.proofs.Common.{Ok, ap, ◌∙◌}
 use Rattle.std.proofs.lemmas.Result.{err_from_is_err_and}
 use Rattle.kmip_look.proofs.GroupLemmas.{group_asked, group_calm, group_idle, group_left}
 use Rattle.kmip_look.proofs.PastLemmas.{sends_none, shaped_many, unasked_at}
+use Rattle.kmip_look.proofs.TriedLemmas.{untried}
 use Rattle.kmip_look.proofs.looking.look_group.Goals as goal
 
 pub ask_group-requires : goal.ask_group-requires
@@ -62,3 +64,11 @@ returns-clause-calmly g c = λ names calm.
       group_calm c.args.keys.now c.in_ok-lookeds.lookeds.items c.ask_group.new.lookeds.items c.args.goes_on.now c.in_ok-more.more
           (g.L.Link.seen c.args.link.now).past (g.L.Link.seen c.ask_group.new.link).past c.in_ok-lookeds.ensures.as_many c.in_ok-lookeds.ensures.unasked all.comes,
     )
+
+pub returns-clause-tried : goal.returns-clause-tried
+returns-clause-tried g c = λ names honest goes.
+    c.in_ok-more.ensures.tried names honest goes (g.L.Link.seen c.args.link.now).past
+    (untried c.args.mark.now c.args.keys.now c.in_ok-lookeds.lookeds.items (g.L.Link.seen c.args.link.now).past c.in_ok-lookeds.ensures.as_many c.in_ok-lookeds.ensures.unasked)
+
+pub returns-clause-stops : goal.returns-clause-stops
+returns-clause-stops g c = λ before no. c.ask_group.ensures.stops (c.in_ok-more.was ∙ ap Ok no)

@@ -9,7 +9,7 @@ returns-in-Ok g c = record {
   looked = Ok c.in-Ok.lookeds.items;
   looks =
       looks_list _ _ _ _ _ _
-      (subst (λ r. Looks (λ v. v.items) c.args.plan.now c.args.mark.now (g.L.Link.seen c.args.link.now) r (g.L.Link.seen c.look.new.link)) c.in-Ok.is c.look.ensures);
+      (subst (λ r. Looks (λ v. v.items) c.args.plan.now c.args.mark.now (g.L.Link.seen c.args.link.now) r (g.L.Link.seen c.look.new.link)) c.in-Ok.is c.look.ensures.looks);
   whole = search (rules, c.print_looked.ensures.text, c.keys.ensures, c.as_slice.ensures.value);
   broken = c.print_looked.ensures.broken;
 }
@@ -19,7 +19,7 @@ returns-in-Err g c = record {
   looked = Err c.in-Err.field-0;
   looks =
       looks_lack _ _ _ _ _ _
-      (subst (λ r. Looks (λ v. v.items) c.args.plan.now c.args.mark.now (g.L.Link.seen c.args.link.now) r (g.L.Link.seen c.look.new.link)) c.in-Err.is c.look.ensures);
+      (subst (λ r. Looks (λ v. v.items) c.args.plan.now c.args.mark.now (g.L.Link.seen c.args.link.now) r (g.L.Link.seen c.look.new.link)) c.in-Err.is c.look.ensures.looks);
   whole = tt;
   broken = search rules;
 }
