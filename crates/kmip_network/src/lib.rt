@@ -9,7 +9,6 @@
 //! exchanges rests on that; `make troubles` and `make peers` want the lines.
 #![tactic(auto)]
 
-mod asking_again;
 mod connection;
 mod ending;
 mod exchange;

@@ -40,6 +40,8 @@ impl<'a, C: Clock> LookPause<'a, C> {
 }
 
 impl<'a, C: Clock> Pause for LookPause<'a, C> {
+    ghost has_given_up = { λ pause. pause.has_given_up };
+
     fn again(&mut self) -> bool {
         let before = if self.last.take_new() { 0 } else { self.wait };
         self.wait = next_wait(before, self.first, false);

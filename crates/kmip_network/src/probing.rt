@@ -1,6 +1,5 @@
 //! The program `probe`, over sockets.
 
-use crate::asking_again::AskingAgain;
 use crate::linking::{loopback, tcp_link, unix_link};
 use crate::watcher::Watcher;
 use kmip_choices::{Format, Peer, ProbeOptions};
@@ -15,8 +14,7 @@ use std::io::BufWriter;
 use std::time::Duration;
 
 /// The command `probe`: the server is asked, and what its answers tell is printed. Each question goes
-/// over a stream of its own, so a server that closes the stream after each reply answers all. A Locate
-/// that brings no reply is asked again; nothing else is.
+/// over a stream of its own, so a server that closes the stream after each reply answers all.
 ///
 /// # Errors
 /// What ends it before anything is asked.
@@ -43,8 +41,7 @@ fn probe_over<L: Link + Drop>(
     options: &ProbeOptions,
     link: L,
 ) -> Result<ExitStatus, Trouble> {
-    let told = Observed::new(link, Watcher::new(rt, options.is_verbose));
-    let mut link = AskingAgain::new(told);
+    let mut link = Observed::new(link, Watcher::new(rt, options.is_verbose));
     let mut writer = BufWriter::new(rt.alloc(), standard_output(rt))?;
     let prefix = options.prefix.as_str();
     match options.format {

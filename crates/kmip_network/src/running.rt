@@ -10,7 +10,9 @@ use kmip_files::ProgressFile;
 use kmip_message_commands::ExitStatus;
 use kmip_plan_commands::{RunInput, batch_of, run_to_end};
 use kmip_protocol::Link;
-use kmip_run_files::{FileKeeper, MetricsFile, PlanFile, locked, plan_at, progress_to_begin_with};
+use kmip_run_files::{
+    MachineKeeper, MetricsFile, PlanFile, locked, plan_at, progress_to_begin_with,
+};
 use kmip_runs::Observed;
 use kmip_trouble::{Trouble, print_documents, standard_output};
 use kmip_ttlv::NoMemory;
@@ -19,7 +21,10 @@ use std::io::BufWriter;
 use std::time::Duration;
 
 /// The command `run`: the plan is read first, then the lock is taken, the progress read, and then the
-/// server asked.
+/// server asked by `kmip_plan_commands::run_to_end`.
+///
+/// No clause says that the link over sockets is honest, or that this machine's disk keeps the rules of one.
+/// Both are premises.
 ///
 /// # Errors
 /// What ends it before anything is asked.
@@ -49,7 +54,7 @@ fn run_on(
         metrics.begin(&account);
     }
     account.show_start(saved);
-    let mut keeper = FileKeeper::new(progress, &account, saved.is_none());
+    let mut keeper = MachineKeeper::of(&progress, &account, saved.is_none());
     let status = run_with(rt, options, saved, &mut keeper);
     if let Some(metrics) = &metrics {
         metrics.end(&account, matches!(status, Ok(ExitStatus::Done)));
@@ -62,7 +67,7 @@ fn run_with(
     rt: &HostRuntime,
     options: &RunOptions,
     saved: Option<&str>,
-    keeper: &mut FileKeeper<'_>,
+    keeper: &mut MachineKeeper<'_>,
 ) -> Result<ExitStatus, Trouble> {
     let limit = Duration::from_secs(options.timeout);
     match &options.peer {
@@ -86,7 +91,7 @@ fn run_over<L: Link + Drop>(
     rt: &HostRuntime,
     options: &RunOptions,
     saved: Option<&str>,
-    keeper: &mut FileKeeper<'_>,
+    keeper: &mut MachineKeeper<'_>,
     link: L,
 ) -> Result<ExitStatus, Trouble> {
     let input = RunInput {
@@ -113,7 +118,7 @@ fn run_in_text<L: Link>(
     input: &RunInput<'_>,
     saved: Option<&str>,
     link: &mut L,
-    keeper: &mut FileKeeper<'_>,
+    keeper: &mut MachineKeeper<'_>,
     watch: &mut Watch<'_>,
 ) -> Result<ExitStatus, Trouble>
     requires { IsTrue (may_have input.now.batch) }
@@ -138,7 +143,7 @@ fn run_in_json<L: Link>(
     input: &RunInput<'_>,
     saved: Option<&str>,
     link: &mut L,
-    keeper: &mut FileKeeper<'_>,
+    keeper: &mut MachineKeeper<'_>,
     watch: &mut Watch<'_>,
 ) -> ExitStatus
     requires { IsTrue (may_have input.now.batch) }

@@ -1,14 +1,17 @@
 -- What one exchange does, by the laws of what may happen.
-use Rattle.std.proofs.Common.{◌≡◌, ◌⊎◌, ℕ, Bool, true, false, List, [], ◌∷◌, ◌++◌, Option, Some, None, Result, Ok, Err, refl, sym, ap, subst, ◌∙◌, inl, inr, IfOk, ◌≤◌, ◌+◌, length, arith}
-use Rattle.std.proofs.lemmas.List.{length-append}
-use Rattle.std.specs.Prelude.{◌&&◌, option_map, option_and_then, slice_get, if◌then◌else◌}
+use Rattle.std.proofs.Common.{◌≡◌, ◌⊎◌, ◌<◌, ℕ, zero, suc, replicate, Bool, true, false, List, [], ◌∷◌, ◌++◌, Option, Some, None, Result, Ok, Err, refl, sym, ap, subst, ◌∙◌, inl, inr, IfOk, ◌≤◌, ◌+◌, length, arith}
+use Rattle.std.proofs.lemmas.List.{append_assoc, append-nil, length-append, length-replicate}
+use Rattle.std.proofs.lemmas.Grind.{replicate_next}
+use Rattle.std.specs.Prelude.{◌&&◌, option_map, option_and_then, option_to_list, slice_get, if◌then◌else◌}
 use Rattle.std.specs.Option.{option_map_or}
 use Rattle.std.proofs.lemmas.Option.{same_Some}
 use Rattle.std.proofs.lemmas.Slice.Eq.{bytes_eq-Decides}
+use Rattle.kmip_ttlv.specs.Spelling.{canon}
+use Rattle.kmip_messages.specs.Written.{requests_item}
 use Rattle.kmip_messages.specs.Items.{parts_in, replies_in, stops_in, SaidAreRead}
 use Rattle.kmip_batch_items.specs.declared.reply.Reply.{Reply}
 use Rattle.kmip_batch_items.specs.declared.request.Request.{Request}
-use Rattle.kmip_protocol.specs.Calm.{AreTaken, CalmlyExchanged, IsServed}
+use Rattle.kmip_protocol.specs.Calm.{AreTaken, Calmly, CalmlyExchanged, IsServed}
 use Rattle.kmip_protocol.specs.Exchanges.{Exchanged, HandsOver, with_asked}
 use Rattle.kmip_protocol.specs.Laws.{DeliveriesKeepTheRequests}
 use Rattle.kmip_protocol.specs.Losses.{or_loss}
@@ -20,10 +23,10 @@ use Rattle.kmip_batch_items.specs.declared.outcome.Outcome.{Outcome}
 use Rattle.kmip_batch_items.specs.declared.ask.Ask.{Ask}
 use Rattle.kmip_protocol.specs.Moves.{HasFailed}
 use Rattle.kmip_probe.specs.Answers.{answer_marked, answer_read, answer_to, answer_with, is_asked_for, is_of, marker_of}
-use Rattle.kmip_probe.specs.Asking.{is_free_at, next_inquiry, request_for, uid_of}
-use Rattle.kmip_probe.specs.Inquiries.{ask_of, name_of}
-use Rattle.kmip_probe.specs.Private.{HasReplied, HasSent, HasServed, HasServedNext}
-use Rattle.kmip_probe.specs.declared.answer.Answer.TheVariants.{Told}
+use Rattle.kmip_probe.specs.Asking.{IsNext, IsPut, is_free_at, message_after, next_inquiry, request_for, sends_after, uid_of}
+use Rattle.kmip_probe.specs.Inquiries.{ask_of, most_sends, name_of}
+use Rattle.kmip_probe.specs.Private.{HasAsked, HasLost, HasPut, HasReplied, HasSent, HasServed, HasServedNext}
+use Rattle.kmip_probe.specs.declared.answer.Answer.TheVariants.{Nothing, Told}
 use Rattle.kmip_probe.specs.declared.inquiry.TheConstants.{INQUIRIES}
 use Rattle.kmip_probe.specs.declared.inquiry.Inquiry.{Inquiry}
 use Rattle.kmip_probe.proofs.OwnOutcomes.{of_kind}
@@ -31,27 +34,122 @@ use Rattle.kmip_probe.specs.declared.answer.Answer.{Answer}
 
 -- ---- over an honest link
 
-sent_over : DeliveriesKeepTheRequests → (names : Names) (old new : Past) (message : List ℕ) (says : Option (List ℕ) → Answer) (answer : Answer)
-    (given handed : Option (List ℕ)) → HandsOver names old message given new → handed ≡ given → answer ≡ says handed → HasSent message says answer old new
-sent_over l names old new message says answer given handed hands is told =
-    let grows = l names (with_asked message old) hands.between hands.delivered in
-    record {
-      given = given;
-      sent = ap (λ p. p.sent) hands.is ∙ ap (λ xs. xs ++ message ∷ []) grows.sent;
-      handed = ap (λ p. p.handed) hands.is ∙ ap (λ xs. xs ++ given ∷ []) grows.handed;
-      answer_is = told ∙ ap says is;
+handed_over : DeliveriesKeepTheRequests → (names : Names) (old new : Past) (message : List ℕ) (given : Option (List ℕ)) → HandsOver names old message given new
+    → (new.sent ≡ old.sent ++ message ∷ []) × (new.handed ≡ old.handed ++ given ∷ [])
+handed_over l names old new message given hands =
+    let grows = l names (with_asked message old) hands.between hands.delivered in (
+      ap (λ p. p.sent) hands.is ∙ ap (λ xs. xs ++ message ∷ []) grows.sent,
+      ap (λ p. p.handed) hands.is ∙ ap (λ xs. xs ++ given ∷ []) grows.handed,
+    )
+
+-- one exchange
+once_over : DeliveriesKeepTheRequests → (names : Names) (old new : Past) (message : List ℕ) (exchanged : Result (Option (List ℕ)) LinkFault) (given : Option (List ℕ))
+    → Exchanged names old message exchanged new → or_loss exchanged ≡ Some given
+    → (new.sent ≡ old.sent ++ message ∷ []) × (new.handed ≡ old.handed ++ given ∷ [])
+once_over l names old new message (Ok answer) given hands is =
+    subst (λ g. (new.sent ≡ old.sent ++ message ∷ []) × (new.handed ≡ old.handed ++ g ∷ [])) (same_Some answer given is) (handed_over l names old new message answer hands)
+once_over l names old new message (Err faults.Io) given hands is =
+    subst (λ g. (new.sent ≡ old.sent ++ message ∷ []) × (new.handed ≡ old.handed ++ g ∷ [])) (same_Some None given is) (handed_over l names old new message None hands)
+once_over l names old new message (Err faults.Frame) given hands is =
+    subst (λ g. (new.sent ≡ old.sent ++ message ∷ []) × (new.handed ≡ old.handed ++ g ∷ [])) (same_Some None given is) (handed_over l names old new message None hands)
+once_over l names old new message (Err faults.NoMemory) given hands is = absurd cc
+
+-- nothing was sent yet
+pub none_lost : (message : List ℕ) (p : Past) → HasLost message 0 p p
+none_lost message p = record { sent = sym (append-nil p.sent); handed = sym (append-nil p.handed) }
+
+-- one exchange more, without a reply
+pub lost_more : DeliveriesKeepTheRequests → (names : Names) (old between new : Past) (message : List ℕ) (count : ℕ) (exchanged : Result (Option (List ℕ)) LinkFault)
+    → HasLost message count old between → Exchanged names between message exchanged new → or_loss exchanged ≡ Some None → HasLost message (count + 1) old new
+lost_more l names old between new message count exchanged lost hands is =
+    let (sent, handed) = once_over l names between new message exchanged None hands is in record {
+      sent = sent ∙ ap (λ xs. xs ++ message ∷ []) lost.sent ∙ append_assoc old.sent (replicate count message) (message ∷ [])
+          ∙ ap (λ xs. old.sent ++ xs) (sym (replicate_next count message));
+      handed = handed ∙ ap (λ xs. xs ++ None ∷ []) lost.handed ∙ append_assoc old.handed (replicate count None) (None ∷ [])
+          ∙ ap (λ xs. old.handed ++ xs) (sym (replicate_next count None));
     }
 
-pub sent_by : DeliveriesKeepTheRequests → (names : Names) (old new : Past) (message : List ℕ) (says : Option (List ℕ) → Answer) (answer : Answer)
-    (exchanged : Result (Option (List ℕ)) LinkFault) (handed : Option (List ℕ)) → Exchanged names old message exchanged new → or_loss exchanged ≡ Some handed → answer ≡ says handed
-    → HasSent message says answer old new
-sent_by l names old new message says answer (Ok given) handed hands is told =
-    sent_over l names old new message says answer given handed hands (sym (same_Some given handed is)) told
-sent_by l names old new message says answer (Err faults.Io) handed hands is told =
-    sent_over l names old new message says answer None handed hands (sym (same_Some None handed is)) told
-sent_by l names old new message says answer (Err faults.Frame) handed hands is told =
-    sent_over l names old new message says answer None handed hands (sym (same_Some None handed is)) told
-sent_by l names old new message says answer (Err faults.NoMemory) handed hands is told = absurd cc
+-- a reply came
+pub put_over : DeliveriesKeepTheRequests → (names : Names) (old between new : Past) (message reply : List ℕ) (count most : ℕ) (exchanged : Result (Option (List ℕ)) LinkFault)
+    → HasLost message count old between → Exchanged names between message exchanged new → or_loss exchanged ≡ Some (Some reply) → count < most
+    → HasPut most message (Some reply) old new
+put_over l names old between new message reply count most exchanged lost hands is few =
+    let (sent, handed) = once_over l names between new message exchanged (Some reply) hands is in record {
+      messages = replicate (count + 1) message;
+      sent = sent ∙ ap (λ xs. xs ++ message ∷ []) lost.sent ∙ append_assoc old.sent (replicate count message) (message ∷ [])
+          ∙ ap (λ xs. old.sent ++ xs) (sym (replicate_next count message));
+      answers = replicate count None ++ Some reply ∷ [];
+      handed = handed ∙ ap (λ xs. xs ++ Some reply ∷ []) lost.handed ∙ append_assoc old.handed (replicate count None) (Some reply ∷ []);
+      put = record { losses = count; few = few; copies = refl; lost = refl; given_up = λ none. absurd cc };
+    }
+
+-- no reply came at all
+pub none_put : (old new : Past) (message : List ℕ) (most : ℕ) → 0 < most → HasLost message most old new → HasPut most message None old new
+none_put old new message zero some lost = absurd (omega (arith, some))
+none_put old new message (suc most) some lost =
+    let more : suc most ≡ most + 1 = omega arith in
+    record {
+      messages = replicate (suc most) message;
+      sent = lost.sent;
+      answers = replicate (suc most) None;
+      handed = lost.handed;
+      put = record {
+        losses = most;
+        few = omega arith;
+        copies = ap (λ n. replicate n message) more;
+        lost = ap (λ n. replicate n None) more ∙ replicate_next most None;
+        given_up = λ none. sym more;
+      };
+    }
+
+-- each message is one
+pub lost_few : (message : List ℕ) (count : ℕ) (old new : Past) → HasLost message count old new → length new.sent ≡ length old.sent + count
+lost_few message count old new lost = ap length lost.sent ∙ length-append old.sent (replicate count message) ∙ ap (λ n. length old.sent + n) (length-replicate count message)
+
+-- the question that follows was asked
+pub asked_next : (prefix : List ℕ) (before : List Answer) (inquiry : Inquiry) (request : Request) (number most : ℕ) (answer : Answer) (old new : Past)
+    → next_inquiry before ≡ Some inquiry → request_for prefix before inquiry ≡ Some request → number ≡ length before → most ≡ most_sends inquiry.1
+    → HasSent most (canon (requests_item (request ∷ []))) (answer_to number prefix) answer old new → HasAsked prefix before answer old new
+asked_next prefix before inquiry request number most answer old new next asked count own sent =
+    let message : message_after prefix before ≡ Some (canon (requests_item (request ∷ []))) =
+    ap (option_map (λ r. canon (requests_item (r ∷ [])))) (ap (option_and_then (request_for prefix before)) next ∙ asked) in
+    let sends : most ≡ sends_after before = own ∙ sym (ap (λ found. option_map_or (λ (i : Inquiry). most_sends i.1) found 1) next) in
+    record {
+      messages = sent.put.messages;
+      sent = sent.put.sent;
+      given = sent.put.answers;
+      handed = sent.put.handed;
+      next = subst (λ m. IsNext prefix before m answer sent.put.messages sent.put.answers) (sym message) (
+        sent.given,
+        subst (λ n. IsPut n (canon (requests_item (request ∷ []))) sent.given sent.put.messages sent.put.answers) sends sent.put.put,
+        sent.answer_is ∙ ap (λ n. answer_to n prefix sent.given) count,
+      );
+    }
+
+-- or it can't be asked
+pub none_asked : (prefix : List ℕ) (before : List Answer) (inquiry : Inquiry) (p : Past) → next_inquiry before ≡ Some inquiry → request_for prefix before inquiry ≡ None
+    → (HasAsked prefix before Nothing p p) × (p.sent ≡ p.sent ++ option_to_list (message_after prefix before))
+none_asked prefix before inquiry p next none =
+    let message : message_after prefix before ≡ None =
+    ap (option_map (λ (r : Request). canon (requests_item (r ∷ [])))) (ap (option_and_then (request_for prefix before)) next ∙ none) in (
+      record {
+        messages = [];
+        sent = sym (append-nil p.sent);
+        given = [];
+        handed = sym (append-nil p.handed);
+        next = subst (λ m. IsNext prefix before m Nothing [] []) (sym message) (refl, refl, refl);
+      },
+      sym (append-nil p.sent) ∙ ap (λ m. p.sent ++ option_to_list m) (sym message),
+    )
+
+-- its message was sent once
+pub once_next : (prefix : List ℕ) (before : List Answer) (inquiry : Inquiry) (request : Request) (old new : Past)
+    → next_inquiry before ≡ Some inquiry → request_for prefix before inquiry ≡ Some request → new.sent ≡ old.sent ++ canon (requests_item (request ∷ [])) ∷ []
+    → new.sent ≡ old.sent ++ option_to_list (message_after prefix before)
+once_next prefix before inquiry request old new next asked sent =
+    let message : message_after prefix before ≡ Some (canon (requests_item (request ∷ []))) =
+    ap (option_map (λ r. canon (requests_item (r ∷ [])))) (ap (option_and_then (request_for prefix before)) next ∙ asked) in
+    sent ∙ ap (λ m. old.sent ++ option_to_list m) (sym message)
 
 -- ---- at most one message is sent, whatever comes of it
 
@@ -85,10 +183,23 @@ one_taken stops (reply ∷ []) old new request (between, served, inr (go, same))
 one_taken stops (reply ∷ second ∷ replies) old new request (between, served, inl (stop, none, same)) = absurd cc
 one_taken stops (reply ∷ second ∷ replies) old new request (between, served, inr (go, rest)) = absurd rest
 
-pub replied_by : SaidAreRead → (names : Names) (old new : Past) (message : List ℕ) (request : Request) (number : ℕ) (prefix : List ℕ) (answer : Answer)
-    (exchanged : Result (Option (List ℕ)) LinkFault) (handed : Option (List ℕ)) → parts_in message ≡ Ok request ∷ [] → CalmlyExchanged names old message exchanged new
-    → or_loss exchanged ≡ Some handed → answer ≡ answer_to number prefix handed → HasReplied request number prefix answer old new
-replied_by read names old new message request number prefix answer (Ok given) handed asks calmly is told =
+-- a reply comes in the first exchange
+pub calm_reply : (names : Names) (old new : Past) (message : List ℕ) (exchanged : Result (Option (List ℕ)) LinkFault) (given : Option (List ℕ))
+    → CalmlyExchanged names old message exchanged new → or_loss exchanged ≡ Some given → Calmly old message given new
+calm_reply names old new message (Ok answer) given calmly is = subst (λ g. Calmly old message g new) (same_Some answer given is) calmly
+calm_reply names old new message (Err faults.Io) given calmly is = absurd calmly
+calm_reply names old new message (Err faults.Frame) given calmly is = absurd calmly
+calm_reply names old new message (Err faults.NoMemory) given calmly is = absurd cc
+
+pub no_calm_loss : (names : Names) (old new : Past) (message : List ℕ) (exchanged : Result (Option (List ℕ)) LinkFault)
+    → CalmlyExchanged names old message exchanged new → or_loss exchanged ≡ Some None → ⊥
+no_calm_loss names old new message exchanged calmly is =
+    let none = (calm_reply names old new message exchanged None calmly is).answer_is in absurd cc
+
+pub replied_by : SaidAreRead → (old new : Past) (message : List ℕ) (request : Request) (number : ℕ) (prefix : List ℕ) (answer : Answer)
+    (handed : Option (List ℕ)) → message ≡ canon (requests_item (request ∷ [])) → parts_in message ≡ Ok request ∷ [] → Calmly old message handed new
+    → answer ≡ answer_to number prefix handed → HasReplied request number prefix answer old new
+replied_by read old new message request number prefix answer handed bytes asks calmly told =
     let (reply, only, served) = one_taken (stops_in message) (replies_in calmly.given) (with_asked message old) calmly.between request
     (subst (λ parts. AreTaken (stops_in message) parts (replies_in calmly.given) (with_asked message old) calmly.between) asks calmly.taken) in
     record {
@@ -96,13 +207,11 @@ replied_by read names old new message request number prefix answer (Ok given) ha
       step = subst (λ p. ServerStep old.room old.objects request.ask reply.outcome p.objects) (sym calmly.is)
           (subst (λ p. ServerStep old.room old.objects request.ask reply.outcome p.objects) (sym served.is) served.serves.step);
       id_is = served.serves.id_is;
-      answer_is = told ∙ ap (answer_to number prefix) (sym (same_Some given handed is) ∙ calmly.answer_is)
+      answer_is = told ∙ ap (answer_to number prefix) calmly.answer_is
           ∙ ap (answer_read number prefix calmly.given) (read calmly.given reply [] only);
       room_is = ap (λ p. p.room) calmly.is ∙ ap (λ p. p.room) served.is;
+      sent_once = ap (λ p. p.sent) calmly.is ∙ ap (λ (p : Past). p.sent ++ message ∷ []) served.is ∙ ap (λ m. old.sent ++ m ∷ []) bytes;
     }
-replied_by read names old new message request number prefix answer (Err faults.Io) handed asks calmly is told = absurd calmly
-replied_by read names old new message request number prefix answer (Err faults.Frame) handed asks calmly is told = absurd calmly
-replied_by read names old new message request number prefix answer (Err faults.NoMemory) handed asks calmly is told = absurd cc
 
 -- ---- what holds of a result
 

@@ -1,7 +1,7 @@
 -- What a probe asks about the objects of two names of its own.
 -- Source: KMIP 2.1, Operations; Enumerations and Masks, Storage Status Mask. The names, the attributes and
 -- the reason are own (choice).
-use Rattle.std.specs.Prelude.{ℕ, Bool, ◌&&◌, nat_le, List, ◌++◌, length, codes, Option, Some}
+use Rattle.std.specs.Prelude.{ℕ, Bool, ◌&&◌, nat_le, List, ◌++◌, length, take, sum_by, codes, Option, Some}
 use Rattle.std.specs.Option.{option_map}
 use Rattle.kmip_batch_items.specs.declared.ask.Ask.{Ask}
 use Rattle.kmip_batch_items.specs.declared.ask.Ask.TheVariants as asks
@@ -9,7 +9,7 @@ use Rattle.kmip_objects.specs.Ranges.{is_name}
 use Rattle.kmip_objects.specs.Attributes.{by_name}
 use Rattle.kmip_objects.specs.declared.key_attrs.KeyAttrs.{KeyAttrs}
 use Rattle.kmip_objects.specs.declared.standard.TheConstants.{ALGORITHM_AES, REVOCATION_UNSPECIFIED}
-use Rattle.kmip_probe.specs.declared.inquiry.TheConstants.{PREFIX_MAX, KEY_BITS, KEY_USAGE}
+use Rattle.kmip_probe.specs.declared.inquiry.TheConstants.{INQUIRIES, PREFIX_MAX, KEY_BITS, KEY_USAGE, MOST_SENDS}
 use Rattle.kmip_probe.specs.declared.kind.Kind.{Kind}
 use Rattle.kmip_probe.specs.declared.kind.Kind.TheVariants.{Locate, Create, GetAttributes, Activate, Revoke, Destroy}
 use Rattle.kmip_probe.specs.declared.which.Which.{Which}
@@ -37,3 +37,16 @@ ask_of GetAttributes name uid = option_map asks.GetAttributes uid
 ask_of Activate name uid = option_map asks.Activate uid
 ask_of Revoke name uid = option_map (λ u. asks.Revoke u REVOCATION_UNSPECIFIED) uid
 ask_of Destroy name uid = option_map asks.Destroy uid
+
+-- the most times that a message with such a question is sent: a Locate is sent again while no reply comes
+abbrev pub most_sends : Kind → ℕ
+most_sends (Locate mask) = MOST_SENDS
+most_sends Create = 1
+most_sends GetAttributes = 1
+most_sends Activate = 1
+most_sends Revoke = 1
+most_sends Destroy = 1
+
+-- the most messages that are sent for this many of the first questions
+abbrev pub most_messages : ℕ → ℕ
+most_messages count = sum_by (λ inquiry. most_sends inquiry.1) (take count INQUIRIES)

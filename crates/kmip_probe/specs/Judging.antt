@@ -2,7 +2,7 @@
 -- be told.
 -- Source: own (choice): what the client rests on (KMIP 2.1, Operations; Object Attributes, Name, State;
 -- Message Structure). The reasons of refusals: KMIP 2.1, Message Data, Result Reason.
-use Rattle.std.specs.Prelude.{◌≡◌, ℕ, ◌==◌, nat_eq, Bool, true, false, not, ◌&&◌, ◌||◌, List, [], ◌∷◌, ◌++◌, map, take, drop, flat_map, find, get_or, Option, Some, None, option_and_then, if◌then◌else◌}
+use Rattle.std.specs.Prelude.{◌≡◌, ℕ, ◌==◌, nat_eq, Bool, true, false, not, ◌&&◌, ◌||◌, List, [], ◌∷◌, ◌++◌, map, take, flat_map, find, get_or, Option, Some, None, option_and_then, if◌then◌else◌}
 use Rattle.std.specs.Cmp.Lexicographic.{pointwise}
 use Rattle.std.specs.List.{list_any}
 use Rattle.std.specs.Option.{option_map_or}

@@ -1,6 +1,8 @@
 -- Private: definitions that only clauses of private functions cite.
 -- Source: own (view): parts of the public definitions of this crate.
-use Rattle.std.specs.Prelude.{◌≡◌, ◌⊎◌, ℕ, List, [], ◌∷◌, ◌++◌, Option, Some, None, option_and_then, option_to_list, ◌+◌}
+use Rattle.std.specs.Prelude.{◌≡◌, ◌⊎◌, ℕ, List, [], ◌∷◌, ◌++◌, replicate, Option, Some, None, option_and_then}
+use Rattle.kmip_ttlv.specs.Spelling.{canon}
+use Rattle.kmip_messages.specs.Written.{requests_item}
 use Rattle.kmip_batch_items.specs.declared.outcome.Outcome.{Outcome}
 use Rattle.kmip_batch_items.specs.declared.request.Request.{Request}
 use Rattle.kmip_batch_items.specs.declared.reply.Reply.{Reply}
@@ -8,17 +10,29 @@ use Rattle.kmip_protocol.specs.Moves.{HasFailed}
 use Rattle.kmip_protocol.specs.Past.{Past}
 use Rattle.kmip_server.specs.ServerStep.{ServerStep}
 use Rattle.kmip_probe.specs.Answers.{answer_with}
-use Rattle.kmip_probe.specs.Asking.{IsNext, message_after, next_inquiry, request_for}
+use Rattle.kmip_probe.specs.Asking.{IsNext, IsPut, message_after, next_inquiry, request_for}
 use Rattle.kmip_probe.specs.declared.answer.Answer.{Answer}
 use Rattle.kmip_probe.specs.declared.answer.Answer.TheVariants.{Nothing, Told}
 use Rattle.kmip_objects.specs.ObjectLaws.{NamedIsIdentified, NamedIsAll, NamedBeforeMore, NamedAmongMore, OneMore, OwnIsRestated, OtherIsKept, RestatedKeeps, NamedIsRestated, StaysDistinct}
 use Rattle.kmip_objects.specs.Objects.{DistinctNames, DistinctUids, object_named, object_with}
 
--- The message was sent, and the answer is what was handed over for it says
-pub record HasSent (message : List ℕ) (says : Option (List ℕ) → Answer) (answer : Answer) (old new : Past) : Type 0 where
+-- The message was sent this many times, and each time no reply came
+pub record HasLost (message : List ℕ) (count : ℕ) (old new : Past) : Type 0 where
+  pub sent : new.sent ≡ old.sent ++ replicate count message
+  pub handed : new.handed ≡ old.handed ++ replicate count None
+
+-- The message was put over the link, and this was handed over for it at last
+pub record HasPut (most : ℕ) (message : List ℕ) (given : Option (List ℕ)) (old new : Past) : Type 0 where
+  pub messages : List (List ℕ)
+  pub sent : new.sent ≡ old.sent ++ messages
+  pub answers : List (Option (List ℕ))
+  pub handed : new.handed ≡ old.handed ++ answers
+  pub put : IsPut most message given messages answers
+
+-- The message was put over the link, and the answer is what was handed over for it says
+pub record HasSent (most : ℕ) (message : List ℕ) (says : Option (List ℕ) → Answer) (answer : Answer) (old new : Past) : Type 0 where
   pub given : Option (List ℕ)
-  pub sent : new.sent ≡ old.sent ++ message ∷ []
-  pub handed : new.handed ≡ old.handed ++ given ∷ []
+  pub put : HasPut most message given old new
   pub answer_is : answer ≡ says given
 
 -- The server has taken a step for the request, and the answer is what its reply says
@@ -28,13 +42,15 @@ pub record HasReplied (request : Request) (number : ℕ) (prefix : List ℕ) (an
   pub id_is : (reply.id ≡ request.id) ⊎ ((reply.id ≡ None) × HasFailed reply.outcome)
   pub answer_is : answer ≡ answer_with number prefix reply.id reply.outcome
   pub room_is : new.room ≡ old.room
+  pub sent_once : new.sent ≡ old.sent ++ canon (requests_item (request ∷ [])) ∷ []
 
 -- One more question was asked, where it can be, and this is its answer
 pub record HasAsked (prefix : List ℕ) (before : List Answer) (answer : Answer) (old new : Past) : Type 0 where
-  pub sent : new.sent ≡ old.sent ++ option_to_list (message_after prefix before)
+  pub messages : List (List ℕ)
+  pub sent : new.sent ≡ old.sent ++ messages
   pub given : List (Option (List ℕ))
   pub handed : new.handed ≡ old.handed ++ given
-  pub next : (rest : List (Option (List ℕ))) → IsNext prefix before (message_after prefix before) answer (given ++ rest) rest
+  pub next : IsNext prefix before (message_after prefix before) answer messages given
 
 -- The server has taken a step for the request, which the answer tells; none where there is no request
 abbrev pub HasServed : Option Request → Answer → Past → Past → Type 0

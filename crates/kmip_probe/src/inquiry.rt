@@ -1,6 +1,6 @@
 //! What a probe asks.
-ghost use Rattle.std.specs.Prelude.{◌≡◌, IfOk, option_map, slice_get};
-ghost use Rattle.kmip_probe.specs.Inquiries.{ask_of, attributes_with, is_prefix, name_of};
+ghost use Rattle.std.specs.Prelude.{◌≡◌, ◌<◌, IfOk, option_map, slice_get};
+ghost use Rattle.kmip_probe.specs.Inquiries.{ask_of, attributes_with, is_prefix, most_sends, name_of};
 
 use crate::kind::Kind;
 use crate::which::Which;
@@ -27,6 +27,13 @@ pub struct Inquiry(pub Which, pub Kind, pub usize);
 
 /// How many questions a probe has (own).
 pub const QUESTIONS: usize = 25;
+
+/// The most times that a message with a Locate is sent (own).
+pub const MOST_SENDS: usize = 3;
+
+/// The most messages that a probe sends (own): one for each question, and two more for each of the ten
+/// that are a Locate.
+pub const MOST_MESSAGES: usize = 45;
 
 /// How many of the questions of a probe, the first ones, look whether its names are free (own).
 pub const LOOKS: usize = 2;
@@ -156,6 +163,18 @@ fn inquiries() -> &'static [Inquiry]
     ensures { result.now ≡ INQUIRIES }
 {
     &INQUIRIES
+}
+
+/// The most times that a message with such a question is sent. A Locate changes nothing at a server, so it
+/// does no harm if it was answered and its reply lost, or if it arrives twice.
+pub(crate) fn most_sends(kind: Kind) -> usize
+    ensures value { result ≡ most_sends kind }
+    ensures some { 0 < result }
+{
+    match kind {
+        Locate(_) => MOST_SENDS,
+        Create | GetAttributes | Activate | Revoke | Destroy => 1,
+    }
 }
 
 /// Whether a text can begin a probe's names: it is the name of a key, of at most `PREFIX_MAX`

@@ -1,7 +1,8 @@
 //! Whether a server keeps the premises of the headline, by its answers to questions.
 //!
 //! A probe asks a server 25 questions about objects with two names of its own. Its answers say of each
-//! premise that it is kept, that it is broken, or that it could not be told.
+//! premise that it is kept, that it is broken, or that it could not be told. A Locate is sent again if no
+//! reply comes, and no other question is.
 //!
 //! Source: KMIP 2.1, Operations. The questions and their order are own (choice).
 #![tactic(auto)]
@@ -27,8 +28,8 @@ pub use finding::Finding;
 pub use findings::Findings;
 pub use flaw::Flaw;
 pub use inquiry::{
-    INQUIRIES, Inquiry, LOOK_FIRST, LOOK_SECOND, LOOKS, PREFIX_MAX, QUESTIONS, READ_ATTRIBUTES,
-    REVOKE_SECOND, is_prefix, name_of,
+    INQUIRIES, Inquiry, LOOK_FIRST, LOOK_SECOND, LOOKS, MOST_MESSAGES, MOST_SENDS, PREFIX_MAX,
+    QUESTIONS, READ_ATTRIBUTES, REVOKE_SECOND, is_prefix, name_of,
 };
 pub use judging::{findings_of, outcome_at, unread_at};
 pub use kind::Kind;

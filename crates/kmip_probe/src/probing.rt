@@ -1,23 +1,24 @@
 //! The questions, one after the other over a link.
-ghost use Rattle.std.specs.Prelude.{◌≡◌, ◌⊎◌, ◌≤◌, ◌<◌, ◌+◌, ◌++◌, [], ◌∷◌, ℕ, Some, None, Option, List, length, map, flat_map, slice_get, IfOk, OnOk, IsTrue, option_map};
+ghost use Rattle.std.specs.Prelude.{◌≡◌, ◌⊎◌, ◌≤◌, ◌<◌, ◌+◌, ◌++◌, [], ◌∷◌, ℕ, Some, None, List, length, map, flat_map, slice_get, IfOk, OnOk, IsTrue, option_map, option_to_list};
 ghost use Rattle.std.specs.List.{All};
+ghost use Rattle.kmip_protocol.specs.Calm.{Calmly};
 ghost use Rattle.kmip_protocol.specs.Past.{Names};
 ghost use Rattle.kmip_ttlv.specs.Spelling.{canon};
 ghost use Rattle.kmip_batch_items.specs.RequestFits.{request_fits};
 ghost use Rattle.kmip_messages.specs.Written.{requests_item};
 ghost use Rattle.kmip_probe.specs.Answers.{answer_to, uids_told, IsLawful};
-ghost use Rattle.kmip_probe.specs.Asking.{is_free_at, next_inquiry, part, uid_of, request_for, messages_from, AreAnswers};
-ghost use Rattle.kmip_probe.specs.Inquiries.{is_prefix};
+ghost use Rattle.kmip_probe.specs.Asking.{is_free_at, next_inquiry, part, uid_of, request_for, message_after};
+ghost use Rattle.kmip_probe.specs.Inquiries.{is_prefix, most_messages, most_sends};
 ghost use Rattle.kmip_probe.specs.Serving.{IsUnprobed, outcomes_of};
 ghost use Rattle.kmip_probe.specs.TwoObjects.{AreServed};
 ghost use Rattle.kmip_probe.specs.Private.{ProbeLaws};
-ghost use Rattle.kmip_probe.specs.Putting.{AsksOn};
-ghost use Rattle.kmip_probe.specs.Private.{HasAsked, HasReplied, HasSent, HasServedNext};
+ghost use Rattle.kmip_probe.specs.Putting.{AreAsked, AreSentOnce, AsksOn, SendsOnce};
+ghost use Rattle.kmip_probe.specs.Private.{HasAsked, HasPut, HasReplied, HasSent, HasServedNext};
 
 use crate::answer::{Answer, answer_to};
 use crate::inquiry::{
-    ACTIVATE_SECOND, CREATE_FIRST, CREATE_SECOND, Inquiry, LOOK_FIRST, LOOK_SECOND, QUESTIONS,
-    READ_ATTRIBUTES, ask_of, inquiry_at, name_of,
+    ACTIVATE_SECOND, CREATE_FIRST, CREATE_SECOND, Inquiry, LOOK_FIRST, LOOK_SECOND, MOST_MESSAGES,
+    QUESTIONS, READ_ATTRIBUTES, ask_of, inquiry_at, most_sends, name_of,
 };
 use crate::which::Which;
 use kmip_batch_items::{Ask, Request};
@@ -31,7 +32,8 @@ use std::alloc::Global;
 
 /// Asks the questions of a probe over the link, one after the other, and returns what came of each. Where one
 /// of the names is there already, or it could not be told, nothing more is asked, and nothing was made. A
-/// question about an identifier that no answer told is passed over.
+/// question about an identifier that no answer told is passed over. A Locate is sent again while no reply
+/// comes, up to three times in all. Nothing else is sent twice.
 ///
 /// # Errors
 /// Where there is no memory; what was made until then stays.
@@ -40,18 +42,20 @@ pub fn probe<L: Link>(alloc: Global, prefix: &str, link: &mut L) -> Result<Vec<A
     requires { IsTrue (is_prefix prefix.now) }
     // No question is left: none follows these answers.
     ensures whole { IfOk result (λ answers. next_inquiry answers.items ≡ None) }
-    // Over a link that is honest for some names, at most 25 messages are sent, however it ends.
+    // Over a link that is honest for some names, at most 45 messages are sent, however it ends.
     ensures few { (names : Names) → (L.seen link.old).honest names
-        → length (L.seen link.new).past.sent ≤ length (L.seen link.old).past.sent + QUESTIONS }
-    // Over a link that is honest for some names, which it is after it too, the messages sent are the stated
-    // questions, each as it is asked after the answers before it.
-    ensures sent { (names : Names) → (L.seen link.old).honest names → (L.seen link.new).honest names
-        × IfOk result (λ answers. (L.seen link.new).past.sent
-        ≡ (L.seen link.old).past.sent ++ messages_from prefix.now [] answers.items) }
-    // Over a link that is honest for some names, the answers are what was handed over, in turn.
-    ensures heard { (names : Names) → (L.seen link.old).honest names → IfOk result (λ answers.
-        (given : List (Option (List ℕ))) × ((L.seen link.new).past.handed
-        ≡ (L.seen link.old).past.handed ++ given) × AreAnswers prefix.now [] answers.items given) }
+        → length (L.seen link.new).past.sent
+        ≤ length (L.seen link.old).past.sent + MOST_MESSAGES }
+    // Over a link that is honest for some names, which it is after it too, the stated questions are sent,
+    // each as it is asked after the answers before it. A Locate is sent one to three times, and each other
+    // question once. The answers are what was handed over at last for each.
+    ensures asked { (names : Names) → (L.seen link.old).honest names
+        → (L.seen link.new).honest names × IfOk result (λ answers.
+        AreAsked prefix.now answers.items (L.seen link.old).past (L.seen link.new).past) }
+    // Over a link that is calm for some names, nothing is sent twice.
+    ensures once { (names : Names) → (L.seen link.old).calm names → IfOk result
+        (λ answers. AreSentOnce prefix.now answers.items
+        (L.seen link.old).past (L.seen link.new).past) }
     // Let the link be calm for some names. Let names and identifiers of the server's objects be distinct, the
     // two names of the probe be free, and there be room for two more objects. Then the answers are those of
     // the profile, question by question.
@@ -67,7 +71,8 @@ pub fn probe<L: Link>(alloc: Global, prefix: &str, link: &mut L) -> Result<Vec<A
 
 /// Asks on after the answers that have come, one question after the other over the link, until there are
 /// `most`, and appends what came of each. Where one of the names is there already, or it could not be told,
-/// nothing more is asked. A question about an identifier that no answer told is passed over.
+/// nothing more is asked. A question about an identifier that no answer told is passed over. A Locate is sent
+/// again as `probe` sends it.
 ///
 /// # Errors
 /// Where there is no memory; what came until then is appended, and what was made stays.
@@ -95,20 +100,25 @@ pub fn ask_on<L: Link>(
         ⊎ (length answers.new.items ≡ most)) }
     // There are at most as many answers as are wanted.
     ensures most { length answers.new.items ≤ most }
-    // Over a link that is honest for some names, at most one message is sent for each answer that was still
-    // wanted, however it ends.
+    // Over a link that is honest for some names, at most three messages are sent for each Locate whose
+    // answer was still wanted, and one for each other question, however it ends.
     ensures few { (names : Names) → (L.seen link.old).honest names
-        → length (L.seen link.new).past.sent + length answers.old.items
-        ≤ length (L.seen link.old).past.sent + most }
-    // Over such a link, unless memory ran out, at most one message is sent for each answer that came.
+        → length (L.seen link.new).past.sent + most_messages (length answers.old.items)
+        ≤ length (L.seen link.old).past.sent + most_messages most }
+    // Over such a link, unless memory ran out, the same holds of the answers that came.
     ensures each { (names : Names) → (L.seen link.old).honest names → OnOk result
-        (length (L.seen link.new).past.sent + length answers.old.items
-        ≤ length (L.seen link.old).past.sent + length answers.new.items) }
+        (length (L.seen link.new).past.sent + most_messages (length answers.old.items)
+        ≤ length (L.seen link.old).past.sent + most_messages (length answers.new.items)) }
     // Over such a link, which it is after it too, and unless memory ran out: where the answers before had
     // come of the first questions, those after it have come of these and of the next ones.
     ensures asked { (names : Names) → (L.seen link.old).honest names
         → (L.seen link.new).honest names
         × OnOk result (AsksOn prefix.now answers.old.items answers.new.items
+        (L.seen link.old).past (L.seen link.new).past) }
+    // Over a link that is calm for some names, which it is after it too, unless memory ran out, nothing is
+    // sent twice.
+    ensures once { (names : Names) → (L.seen link.old).calm names → (L.seen link.new).calm names
+        × OnOk result (SendsOnce prefix.now answers.old.items answers.new.items
         (L.seen link.old).past (L.seen link.new).past) }
     // Over a link that is calm for some names, unless memory ran out: where the answers before were those of
     // the profile, all answers after it are. The link is then calm for these names still.
@@ -210,7 +220,11 @@ fn put<L: Link>(
         × IfOk result (λ answer. HasAsked prefix.now answers.now answer (L.seen link.old).past
         (L.seen link.new).past) }
     ensures few { (names : Names) → (L.seen link.old).honest names
-        → length (L.seen link.new).past.sent ≤ length (L.seen link.old).past.sent + 1 }
+        → length (L.seen link.new).past.sent
+        ≤ length (L.seen link.old).past.sent + most_sends inquiry.1 }
+    ensures once { (names : Names) → (L.seen link.old).calm names → IfOk result
+        (λ answer. (L.seen link.new).past.sent
+        ≡ (L.seen link.old).past.sent ++ option_to_list (message_after prefix.now answers.now)) }
     ensures served { (names : Names) → (L.seen link.old).calm names → (L.seen link.new).calm names
         × IfOk result (λ answer. HasServedNext prefix.now answers.now answer (L.seen link.old).past
         (L.seen link.new).past) }
@@ -218,11 +232,12 @@ fn put<L: Link>(
     let Some(request) = request_for(alloc, prefix, inquiry, answers)? else {
         return Ok(Answer::Nothing);
     };
-    ask(alloc, prefix, link, answers.len() as u8, &request)
+    let most = most_sends(inquiry.1);
+    ask(alloc, prefix, link, answers.len() as u8, most, &request)
 }
 
-/// Sends a request in a message of its own, and answers what comes back says of the question of
-/// its number.
+/// Sends a request in a message of its own, up to `most` times, and returns what the reply says of the
+/// question of its number.
 ///
 /// # Errors
 /// Where there is no memory.
@@ -231,27 +246,58 @@ fn ask<L: Link>(
     prefix: &str,
     link: &mut L,
     number: u8,
+    most: usize,
     request: &Request,
 ) -> Result<Answer, NoMemory>
-    requires { IsTrue (request_fits request.now) }
+    requires fits { IsTrue (request_fits request.now) }
+    requires some { 0 < most }
     ensures lawful { IfOk result IsLawful }
     ensures asked { (names : Names) → (L.seen link.old).honest names
         → (L.seen link.new).honest names
-        × IfOk result (λ answer. HasSent (canon (requests_item (request.now ∷ [])))
+        × IfOk result (λ answer. HasSent most (canon (requests_item (request.now ∷ [])))
         (answer_to number prefix.now) answer (L.seen link.old).past (L.seen link.new).past) }
     ensures few { (names : Names) → (L.seen link.old).honest names
-        → length (L.seen link.new).past.sent ≤ length (L.seen link.old).past.sent + 1 }
+        → length (L.seen link.new).past.sent ≤ length (L.seen link.old).past.sent + most }
     ensures served { (names : Names) → (L.seen link.old).calm names → (L.seen link.new).calm names
         × IfOk result (λ answer. HasReplied request.now number prefix.now answer
         (L.seen link.old).past (L.seen link.new).past) }
 {
-    deliveries_keep_the_requests();
     answer_laws();
     let bytes = write_request(alloc, std::slice::from_ref(request))?;
-    let Ok(handed) = answer_or_loss(link.exchange(alloc, bytes.as_slice())) else {
-        return Err(NoMemory);
-    };
+    let handed = send_up_to(alloc, link, bytes.as_slice(), most)?;
     answer_to(alloc, number, prefix, handed)
+}
+
+/// Sends a message, and again while no reply comes, up to `most` times in all. Returns the reply, or none if
+/// none came.
+///
+/// # Errors
+/// If memory runs out.
+fn send_up_to<L: Link>(
+    alloc: Global,
+    link: &mut L,
+    message: &[u8],
+    most: usize,
+) -> Result<Option<Vec<u8>>, NoMemory>
+    requires { 0 < most }
+    ensures put { (names : Names) → (L.seen link.old).honest names → (L.seen link.new).honest names
+        × IfOk result (λ reply. HasPut most message.now (option_map (λ v. v.items) reply)
+        (L.seen link.old).past (L.seen link.new).past) }
+    ensures few { (names : Names) → (L.seen link.old).honest names
+        → length (L.seen link.new).past.sent ≤ length (L.seen link.old).past.sent + most }
+    ensures calmly { (names : Names) → (L.seen link.old).calm names → (L.seen link.new).calm names
+        × IfOk result (λ reply. Calmly (L.seen link.old).past message.now
+        (option_map (λ v. v.items) reply) (L.seen link.new).past) }
+{
+    deliveries_keep_the_requests();
+    for _turn in 0..most {
+        match answer_or_loss(link.exchange(alloc, message)) {
+            Ok(None) => {}
+            Ok(Some(reply)) => return Ok(Some(reply)),
+            Err(NoMemory) => return Err(NoMemory),
+        }
+    }
+    Ok(None)
 }
 
 /// The question as it is asked after these answers; none where it needs an identifier and none is

@@ -8,7 +8,7 @@ use Rattle.kmip_probe.specs.Asking.{is_free_at, next_inquiry}
 use Rattle.kmip_probe.specs.Inquiries.{name_of}
 use Rattle.kmip_probe.specs.Judging.{AreFindings, answer_at}
 use Rattle.kmip_probe.specs.Laws.{ProfileKeepsAll}
-use Rattle.kmip_probe.specs.Putting.{AreAsked, AsksOn}
+use Rattle.kmip_probe.specs.Putting.{AreAsked, AreSentOnce, AsksOn, SendsOnce}
 use Rattle.kmip_probe.specs.Serving.{outcomes_of}
 use Rattle.kmip_probe.specs.TwoObjects.{AreServed}
 use Rattle.kmip_probe.specs.declared.answer.Answer.TheVariants.{Told}
@@ -138,23 +138,27 @@ still_begun texts prefix answers all (more, is) two none =
 -- why nothing was made was told
 pub told_unbegun : (texts : FormTexts) (prefix : List ℕ) (answers : List Answer) (before after : Seen) (refused : Bool)
     (text : List ℕ) (old new : Option (List ℕ)) → ((names : Names) → before.honest names → AreAsked prefix answers before.past after.past)
+    → ((names : Names) → before.calm names → AreSentOnce prefix answers before.past after.past)
     → Some text ≡ unbegun_text texts prefix answers → (refused ≡ true) × Appends old new text → WritesProbe texts prefix before after refused old new
-told_unbegun texts prefix answers before after refused text old new asked is (refused_is, written) = record {
+told_unbegun texts prefix answers before after refused text old new asked once is (refused_is, written) = record {
   answers = answers;
   text = text;
   asked = asked;
+  once = once;
   tells = subst (λ unbegun. TellsFrom texts prefix answers unbegun refused text) is (refused_is, refl);
   written = written;
 }
 
 told_begun : (texts : FormTexts) (prefix : List ℕ) (answers : List Answer) (before after : Seen) (refused : Bool)
     (old new : Option (List ℕ)) → ((names : Names) → before.honest names → AreAsked prefix answers before.past after.past)
+    → ((names : Names) → before.calm names → AreSentOnce prefix answers before.past after.past)
     → unbegun_text texts prefix answers ≡ None → TellsEnd (λ findings. making_text texts prefix ++ report_text texts findings) prefix answers refused old new
     → WritesProbe texts prefix before after refused old new
-told_begun texts prefix answers before after refused old new asked none (findings, are, refused_is, written) = record {
+told_begun texts prefix answers before after refused old new asked once none (findings, are, refused_is, written) = record {
   answers = answers;
   text = making_text texts prefix ++ report_text texts findings;
   asked = asked;
+  once = once;
   tells =
       subst (λ unbegun. TellsFrom texts prefix answers unbegun refused (making_text texts prefix ++ report_text texts findings)) (sym none)
       (findings, are, refused_is, refl);
@@ -166,13 +170,16 @@ pub told_on : (texts : FormTexts) (prefix : List ℕ) (begun answers : List Answ
     (result : Result Bool CommandFault) (old new : Option (List ℕ))
     → ((names : Names) → before.honest names → between.honest names × AreAsked prefix begun before.past between.past)
     → ((names : Names) → between.honest names → IfOk result (λ r. AsksOn prefix begun answers between.past after.past))
+    → ((names : Names) → before.calm names → between.calm names × AreSentOnce prefix begun before.past between.past)
+    → ((names : Names) → between.calm names → IfOk result (λ r. SendsOnce prefix begun answers between.past after.past))
     → unbegun_text texts prefix answers ≡ None
     → IfOk result (λ r. TellsEnd (λ findings. making_text texts prefix ++ report_text texts findings) prefix answers r old new)
     → IfOk result (λ r. WritesProbe texts prefix before after r old new)
-told_on texts prefix begun answers before between after (Ok r) old new asked further none tells =
+told_on texts prefix begun answers before between after (Ok r) old new asked further once more none tells =
     told_begun texts prefix answers before after r old new
-    (λ names honest_before. let (still, first) = asked names honest_before in further names still before.past first) none tells
-told_on texts prefix begun answers before between after (Err fault) old new asked further none tells = tt
+    (λ names honest_before. let (still, first) = asked names honest_before in further names still before.past first)
+    (λ names calm_before. let (still, first) = once names calm_before in more names still before.past first) none tells
+told_on texts prefix begun answers before between after (Err fault) old new asked further once more none tells = tt
 
 -- ---- over a calm link to a server of the profile
 

@@ -9,7 +9,7 @@ use Rattle.kmip_probe.specs.Asking.{is_free_at}
 use Rattle.kmip_probe.specs.Inquiries.{name_of}
 use Rattle.kmip_probe.specs.Judging.{AreFindings, answer_at}
 use Rattle.kmip_probe.specs.Laws.{AreAllKept}
-use Rattle.kmip_probe.specs.Putting.{AreAsked}
+use Rattle.kmip_probe.specs.Putting.{AreAsked, AreSentOnce}
 use Rattle.kmip_probe.specs.declared.answer.Answer.{Answer}
 use Rattle.kmip_probe.specs.declared.findings.Findings.{Findings}
 use Rattle.kmip_probe.specs.declared.inquiry.TheConstants.{LOOK_FIRST, LOOK_SECOND}
@@ -55,11 +55,13 @@ TellsFrom texts prefix answers None refused text =
 abbrev pub TellsProbe : FormTexts → List ℕ → List Answer → Bool → List ℕ → Type 0
 TellsProbe texts prefix answers refused text = TellsFrom texts prefix answers (unbegun_text texts prefix answers) refused text
 
--- The questions were asked over the link, where it is honest, and what their answers tell was written.
+-- The questions were asked over the link, where it is honest, each just once where it is calm. What their
+-- answers tell was written.
 pub record WritesProbe (texts : FormTexts) (prefix : List ℕ) (before after : Seen) (refused : Bool) (old new : Option (List ℕ)) : Type 0 where
   pub answers : List Answer
   pub text : List ℕ
   pub asked : (names : Names) → before.honest names → AreAsked prefix answers before.past after.past
+  pub once : (names : Names) → before.calm names → AreSentOnce prefix answers before.past after.past
   pub tells : TellsProbe texts prefix answers refused text
   pub written : Appends old new text
 

@@ -12,7 +12,7 @@ ghost use Rattle.kmip_probe_command.specs.Midway.{TellsSome};
 use crate::probe_form::ProbeForm;
 use crate::telling::{print_refusal, tell};
 use kmip_message_commands::{CommandFault, ExitStatus, Printed, Printer, finished};
-use kmip_probe::{QUESTIONS, is_prefix};
+use kmip_probe::{MOST_MESSAGES, is_prefix};
 use kmip_protocol::Link;
 use kmip_ttlv::NoMemory;
 use std::alloc::Global;
@@ -22,6 +22,8 @@ use std::mem;
 /// Probes over the link, writes in this form what came of it, and prints the line of a fault, which is
 /// plain text in each form. `Done` where every premise is seen to be kept, and else `Refused`; `Failed`
 /// with the fault. A prefix that can't begin names is refused by a line of its own.
+///
+/// A Locate that brings no reply is sent again, up to three times in all. Nothing else is sent twice.
 ///
 /// Which keys are to be made is written before the first is. Each line of what is found is written once
 /// the answers that decide it have come, and those of the lines before it.
@@ -50,9 +52,10 @@ pub fn run_probe<F: ProbeForm, L: Link, W: Write>(
         (fault_line fault) (W.contents writer.old) (W.contents writer.new))) }
     // The fault is never that of a reader.
     ensures no_input { IfFailed result (λ fault. fault ≢ CommandFault.Input) }
-    // Over an honest link at most 25 messages are sent, however it ends.
+    // Over an honest link at most 45 messages are sent, however it ends.
     ensures few { (names : Names) → (L.seen link.old).honest names
-        → length (L.seen link.new).past.sent ≤ length (L.seen link.old).past.sent + QUESTIONS }
+        → length (L.seen link.new).past.sent
+        ≤ length (L.seen link.old).past.sent + MOST_MESSAGES }
     // It asks for a calm link to a server whose objects have distinct names and identifiers, none of them
     // one of the two names, with room for two more. Then the text names the two keys and says yes to
     // every premise, and nothing is refused, unless memory or the writer fails.
@@ -91,9 +94,10 @@ pub fn probe<F: ProbeForm, L: Link, W: Write>(
         (W.contents writer.old) (W.contents writer.new))) }
     // The fault is never that of a reader.
     ensures no_input { IfErr result (λ fault. fault ≢ CommandFault.Input) }
-    // Over an honest link at most 25 messages are sent, however it ends.
+    // Over an honest link at most 45 messages are sent, however it ends.
     ensures few { (names : Names) → (L.seen link.old).honest names
-        → length (L.seen link.new).past.sent ≤ length (L.seen link.old).past.sent + QUESTIONS }
+        → length (L.seen link.new).past.sent
+        ≤ length (L.seen link.old).past.sent + MOST_MESSAGES }
     // It asks for a link and a server as `run_probe` does. Then the text names the two keys and says yes
     // to every premise, and nothing is refused, unless memory or the writer fails.
     ensures kept { IsTrue (is_prefix prefix.now) → (names : Names) → (L.seen link.old).calm names
@@ -128,9 +132,10 @@ pub fn probe_bytes<F: ProbeForm, L: Link>(
         (λ r. (r ≡ true) × (output.new.items ≡ output.old.items ++ F.texts.unfit_line)) }
     // At want of memory nothing is appended.
     ensures broken { OnErr result (output.new.items ≡ output.old.items) }
-    // Over an honest link at most 25 messages are sent, however it ends.
+    // Over an honest link at most 45 messages are sent, however it ends.
     ensures few { (names : Names) → (L.seen link.old).honest names
-        → length (L.seen link.new).past.sent ≤ length (L.seen link.old).past.sent + QUESTIONS }
+        → length (L.seen link.new).past.sent
+        ≤ length (L.seen link.old).past.sent + MOST_MESSAGES }
     // It asks for a calm link to a server whose objects have distinct names and identifiers, none of them
     // one of the two names, with room for two more. Then the text names the two keys and says yes to
     // every premise, and nothing is refused, unless memory runs out.
@@ -175,7 +180,8 @@ fn probe_to<F: ProbeForm, L: Link, P: Printer>(
     ensures broken { IfErr result (λ fault. BreaksMidway F.texts fault P.own_fault P.IsWhole
         prefix.now (P.contents printer.old) (P.contents printer.new)) }
     ensures few { (names : Names) → (L.seen link.old).honest names
-        → length (L.seen link.new).past.sent ≤ length (L.seen link.old).past.sent + QUESTIONS }
+        → length (L.seen link.new).past.sent
+        ≤ length (L.seen link.old).past.sent + MOST_MESSAGES }
     ensures kept { IsTrue (is_prefix prefix.now) → (names : Names) → (L.seen link.old).calm names
         → IsUnprobed prefix.now (L.seen link.old).past → IfOk result (λ r. (r ≡ false)
         × Appends (P.contents printer.old) (P.contents printer.new)

@@ -6,10 +6,10 @@ ghost use Rattle.kmip_message_commands.specs.Private.{Fails};
 ghost use Rattle.kmip_protocol.specs.Past.{Names};
 ghost use Rattle.kmip_probe.specs.Answers.{IsLawful};
 ghost use Rattle.kmip_probe.specs.Asking.{is_free_at};
-ghost use Rattle.kmip_probe.specs.Inquiries.{is_prefix};
+ghost use Rattle.kmip_probe.specs.Inquiries.{is_prefix, most_messages};
 ghost use Rattle.kmip_probe.specs.Serving.{IsUnprobed};
 ghost use Rattle.kmip_probe.specs.TwoObjects.{AreServed};
-ghost use Rattle.kmip_probe.specs.Putting.{AsksOn};
+ghost use Rattle.kmip_probe.specs.Putting.{AsksOn, SendsOnce};
 ghost use Rattle.kmip_probe_command.specs.Midway.{line_by};
 ghost use Rattle.kmip_probe_command.specs.Private.{BreaksMidway, TellsEnd, rest_text};
 ghost use Rattle.kmip_probe_command.specs.ProbeText.{WritesProbe, line_of, making_text, report_text};
@@ -21,7 +21,7 @@ use crate::wording::are_all_kept;
 use kmip_message_commands::{CommandFault, Printer};
 use kmip_probe::laws::the_profile_keeps_all;
 use kmip_probe::{
-    Answer, Findings, LOOK_FIRST, LOOK_SECOND, LOOKS, QUESTIONS, ask_on, findings_of,
+    Answer, Findings, LOOK_FIRST, LOOK_SECOND, LOOKS, MOST_MESSAGES, QUESTIONS, ask_on, findings_of,
 };
 use kmip_protocol::Link;
 use kmip_ttlv::NoMemory;
@@ -47,7 +47,8 @@ pub(crate) fn tell<F: ProbeForm, L: Link, P: Printer>(
     ensures broken { IfErr result (λ fault. BreaksMidway F.texts fault P.own_fault P.IsWhole
         prefix.now (P.contents printer.old) (P.contents printer.new)) }
     ensures few { (names : Names) → (L.seen link.old).honest names
-        → length (L.seen link.new).past.sent ≤ length (L.seen link.old).past.sent + QUESTIONS }
+        → length (L.seen link.new).past.sent
+        ≤ length (L.seen link.old).past.sent + MOST_MESSAGES }
     ensures kept { (names : Names) → (L.seen link.old).calm names
         → IsUnprobed prefix.now (L.seen link.old).past → IfOk result (λ r. (r ≡ false)
         × Appends (P.contents printer.old) (P.contents printer.new)
@@ -86,6 +87,9 @@ fn tell_on<F: ProbeForm, L: Link, P: Printer>(
     ensures asked { (names : Names) → (L.seen link.old).honest names
         → IfOk result (λ r. AsksOn prefix.now
         answers.old.items answers.new.items (L.seen link.old).past (L.seen link.new).past) }
+    ensures once { (names : Names) → (L.seen link.old).calm names
+        → IfOk result (λ r. SendsOnce prefix.now
+        answers.old.items answers.new.items (L.seen link.old).past (L.seen link.new).past) }
     ensures text { IfOk result (λ r. TellsEnd (λ f. making_text F.texts prefix.now
         ++ report_text F.texts f)
         prefix.now answers.new.items r (P.contents printer.old) (P.contents printer.new)) }
@@ -93,8 +97,8 @@ fn tell_on<F: ProbeForm, L: Link, P: Printer>(
     ensures broken { IfErr result (λ fault. BreaksMidway F.texts fault P.own_fault P.IsWhole
         prefix.now (P.contents printer.old) (P.contents printer.new)) }
     ensures few { (names : Names) → (L.seen link.old).honest names
-        → length (L.seen link.new).past.sent + LOOKS
-        ≤ length (L.seen link.old).past.sent + QUESTIONS }
+        → length (L.seen link.new).past.sent + most_messages LOOKS
+        ≤ length (L.seen link.old).past.sent + MOST_MESSAGES }
     ensures served { (names : Names) → (L.seen link.old).calm names
         → AreServed prefix.now answers.old.items (L.seen link.old).past
         → IfOk result (λ r. AreServed prefix.now answers.new.items (L.seen link.new).past) }

@@ -1,5 +1,5 @@
 -- Each turn looks at one answer more.
-use Rattle.std.proofs.Common.{◌≡◌, ◌+◌, ◌∷◌, map, drop, sym, ap, ◌∙◌}
+use Rattle.std.proofs.Common.{◌+◌, ◌∷◌, map, drop, sym, ap, ◌∙◌}
 use Rattle.std.proofs.lemmas.List.{drop_all, drop_more}
 use Rattle.kmip_probe.specs.Judging.{new_reasons, reason_in}
 use Rattle.kmip_probe.proofs.judging.reasons_in.Goals as goal

@@ -3,7 +3,8 @@ use Rattle.std.proofs.Common.{◌≡◌, ◌≤◌, ◌+◌, ◌++◌, List, len
 use Rattle.std.specs.List.{All}
 use Rattle.kmip_protocol.specs.Past.{Names}
 use Rattle.kmip_probe.specs.Answers.{IsLawful}
-use Rattle.kmip_probe.specs.Putting.{AsksOn}
+use Rattle.kmip_probe.specs.Inquiries.{most_messages}
+use Rattle.kmip_probe.specs.Putting.{AsksOn, SendsOnce}
 use Rattle.kmip_probe.specs.TwoObjects.{AreServed}
 use Rattle.kmip_probe.specs.declared.answer.Answer.{Answer}
 use Rattle.kmip_probe.proofs.probing.ask_on.Given as goal
@@ -16,7 +17,10 @@ invariant-loop g l = record {
   asked : (names : Names) → (g.L.Link.seen l.initial.link).honest names
       → (g.L.Link.seen l.link).honest names × AsksOn l.prefix l.initial.answers.items l.answers.items (g.L.Link.seen l.initial.link).past (g.L.Link.seen l.link).past;
   few : (names : Names) → (g.L.Link.seen l.initial.link).honest names
-      → length (g.L.Link.seen l.link).past.sent + length l.initial.answers.items ≤ length (g.L.Link.seen l.initial.link).past.sent + l.counter;
+      → length (g.L.Link.seen l.link).past.sent + most_messages (length l.initial.answers.items)
+      ≤ length (g.L.Link.seen l.initial.link).past.sent + most_messages l.counter;
+  once : (names : Names) → (g.L.Link.seen l.initial.link).calm names
+      → (g.L.Link.seen l.link).calm names × SendsOnce l.prefix l.initial.answers.items l.answers.items (g.L.Link.seen l.initial.link).past (g.L.Link.seen l.link).past;
   served : (names : Names) → (g.L.Link.seen l.initial.link).calm names → AreServed l.prefix l.initial.answers.items (g.L.Link.seen l.initial.link).past
       → (g.L.Link.seen l.link).calm names × AreServed l.prefix l.answers.items (g.L.Link.seen l.link).past;
 }

@@ -87,3 +87,11 @@ returns-clause-asked g c =
     let (again, asked_then) = c.in_ok-ask_on-2.ensures.asked names still in
     let (last, asked_last) = c.in_ok-ask_on-3.ensures.asked names again in
     always c.print_rest.result _ (λ start first. asked_last start (asked_then start (asked start first)))
+
+pub returns-clause-once : goal.returns-clause-once
+returns-clause-once g c =
+    λ names calm.
+    let (still, once) = c.in_ok-ask_on.ensures.once names calm in
+    let (again, once_then) = c.in_ok-ask_on-2.ensures.once names still in
+    let (last, once_last) = c.in_ok-ask_on-3.ensures.once names again in
+    always c.print_rest.result _ (λ start first. once_last start (once_then start (once start first)))
