@@ -99,3 +99,8 @@ still_held bytes result fault old new is handed = in_case bytes fault old new (s
 -- a reply of which all is written
 pub all_written : (written : ℕ) (items unsent : List ℕ) → unsent ≡ drop written items → length items ≤ written → unsent ≡ []
 all_written written items unsent is all = is ∙ drop_all written items all
+
+-- where no message is at the front of what is held, what is held is not a message
+pub no_message_waits : (a held same : List ℕ) → a ≡ held → IsUnfinished held × (same ≡ held) → IsMessage a → ⊥
+no_message_waits a held same is unfinished message =
+    unfinished.0.1 held [] (sym (append-nil held)) (subst IsMessage is message)

@@ -27,6 +27,13 @@ impl Sink for Gathered {
         }
     }
 
+    fn write_once(&mut self, bytes: &[u8]) -> Result<usize, LinkFault> {
+        match self.put(bytes) {
+            Ok(()) => Ok(bytes.len()),
+            Err(fault) => Err(fault),
+        }
+    }
+
     fn send_on(&mut self) -> Result<(), LinkFault> {
         Ok(())
     }

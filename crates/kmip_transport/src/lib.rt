@@ -33,7 +33,7 @@ pub use dial::Dial;
 pub use kmip_protocol::{Link, LinkFault};
 pub use loopback::Loopback;
 pub use receiving::{receive_from_bytes, receive_message};
-pub use sending::send_message;
+pub use sending::{send_message, send_to_bytes};
 pub use serving::{serve_bytes, serve_stream};
 pub use stream_end::StreamEnd;
 pub use stream_link::{StreamLink, TcpLink, UnixLink};

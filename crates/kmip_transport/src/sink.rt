@@ -1,8 +1,10 @@
 //! Where bytes go: a writer, or memory, which fails only where there is none.
-ghost use Rattle.std.specs.Prelude.{◌≡◌, ℕ, List, Option, OnOk, OnErr, IfErr, IsOk};
-ghost use Rattle.std.specs.Io.KnownBytes.{Appends, Keeps};
+ghost use Rattle.std.specs.Prelude.{◌≡◌, ℕ, List, Option, length, OnOk, OnErr, IfErr, IfOk, IsOk};
+ghost use Rattle.std.specs.Io.{WritesAtMost};
+ghost use Rattle.std.specs.Io.KnownBytes.{Appends, Keeps, WriteAppends};
 ghost use Rattle.kmip_protocol.specs.declared.link_fault.LinkFault.{LinkFault};
 
+use crate::receiving::after_failure;
 use kmip_protocol::LinkFault;
 use std::io::Write;
 
@@ -26,6 +28,16 @@ pub(crate) trait Sink {
         ensures sent { OnOk result (Appends (contents self.old) (contents self.new) bytes.now) }
         ensures refused { IfErr result (λ e. e ≡ fault) }
         ensures kept { IsWhole → OnErr result (Keeps (contents self.old) (contents self.new)) };
+
+    /// Writes once, and returns the number of bytes taken: none if the write was interrupted.
+    ///
+    /// # Errors
+    /// The fault of the sink, also if it takes nothing though it was not interrupted.
+    fn write_once(&mut self, bytes: &[u8]) -> Result<usize, LinkFault>
+        ensures bound { WritesAtMost result bytes.now }
+        ensures bytes { WriteAppends (contents self.old) (contents self.new) result bytes.now }
+        ensures refused { IfErr result (λ e. e ≡ fault) }
+        ensures whole { IsWhole → IfOk result (λ count. count ≡ length bytes.now) };
 
     /// Sends on what the sink holds back.
     ///
@@ -51,6 +63,17 @@ impl<W: Write> Sink for W {
         match self.write_all(bytes) {
             Ok(()) => Ok(()),
             Err(_) => Err(LinkFault::Io),
+        }
+    }
+
+    fn write_once(&mut self, bytes: &[u8]) -> Result<usize, LinkFault> {
+        match self.write(bytes) {
+            Ok(0) => Err(LinkFault::Io),
+            Ok(count) => Ok(count),
+            Err(error) => match after_failure(&error) {
+                Ok(_) => Ok(0),
+                Err(fault) => Err(fault),
+            },
         }
     }
 

@@ -3,7 +3,7 @@
 use crate::asserting::{assert_bytes, assert_number, assert_received, assert_sent, assert_true};
 use crate::streams::{ByteReader, ShortWriter};
 use kmip_frames::Framer;
-use kmip_transport::{LinkFault, receive_from_bytes, receive_message, send_message};
+use kmip_transport::{LinkFault, receive_from_bytes, receive_message, send_message, send_to_bytes};
 use std::alloc::Global;
 use std::process::Abort;
 use std::test::Fail;
@@ -133,6 +133,20 @@ fn fails_where_a_write_fails(rt: HostRuntime) -> Result<(), Fail> {
     let sent = send_message(&mut writer, request.as_slice());
     assert_sent(&rt, sent, Ok(()), "room for it");
     assert_number(&rt, writer.room, 0, "room for it");
+    Ok(())
+}
+
+#[test]
+fn appends_a_message(rt: HostRuntime) -> Result<(), Fail> {
+    let request = hex::decode(rt.alloc(), LOCATE_K1)?;
+    let bytes = request.as_slice();
+    let (front, rest) = bytes.split_at(bytes.len().min(100));
+    let mut output = Vec::new(rt.alloc());
+    let sent = send_to_bytes(rt.alloc(), &mut output, front);
+    assert_sent(&rt, sent, Ok(()), "to nothing");
+    let sent = send_to_bytes(rt.alloc(), &mut output, rest);
+    assert_sent(&rt, sent, Ok(()), "to some bytes");
+    assert_bytes(&rt, output.as_slice(), bytes, "all of it");
     Ok(())
 }
 

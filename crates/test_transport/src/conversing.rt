@@ -70,3 +70,37 @@ fn answers_two_connections_in_turn(rt: HostRuntime) -> Result<(), Fail> {
     assert_number(&rt, server.records().count(), 1, "an object");
     Ok(())
 }
+
+/// Takes steps in memory until the input ends, and returns the number of steps before that.
+fn step_to_the_end(
+    alloc: Global,
+    server: &mut Server<ListStore>,
+    input: &mut &[u8],
+    output: &mut Vec<u8>,
+) -> Result<usize, Fail> {
+    let mut conversation = Conversation::new(alloc)?;
+    for turn in 0..100usize {
+        match conversation.step_over_bytes(server, alloc, 0, input, output) {
+            Ok(true) => {}
+            Ok(false) => return Ok(turn),
+            Err(_) => return Err(Fail::new("a step that fails")),
+        }
+    }
+    Err(Fail::new("an end"))
+}
+
+#[test]
+fn answers_in_memory_step_by_step(rt: HostRuntime) -> Result<(), Fail> {
+    let create = hex::decode(rt.alloc(), CREATE_K1)?;
+    let created = hex::decode(rt.alloc(), CREATE_K1_REPLY)?;
+    let mut server = new_server(rt.alloc());
+    let mut input = create.as_slice();
+    let mut output = Vec::new(rt.alloc());
+    let steps = step_to_the_end(rt.alloc(), &mut server, &mut input, &mut output)?;
+    // It reads the head and what follows it, answers, and writes.
+    assert_number(&rt, steps, 4, "steps");
+    assert_number(&rt, input.len(), 0, "the input");
+    assert_bytes(&rt, output.as_slice(), created.as_slice(), "created");
+    assert_number(&rt, server.records().count(), 1, "an object");
+    Ok(())
+}
