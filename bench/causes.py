@@ -157,10 +157,10 @@ class Causes:
 
     def unwritten_progress(self):
         self.start()
-        self.progress('a progress whose folder is missing', 'cannot write missing/plan.progress.lock\n',
+        self.progress('a progress whose folder is missing', 'cannot write missing/plan.progress\n',
                       f'.lock: {MISSING}; see whether its folder is there and run again', 'missing/plan.progress')
         os.mkdir(self.path('plan.progress.lock'))
-        self.progress('a folder for a lock', 'cannot write plan.progress.lock\n', f'.lock: {FOLDER}')
+        self.progress('a folder for a lock', 'cannot write plan.progress\n', f'.lock: {FOLDER}')
         self.start()
         os.mkdir(self.path('plan.progress.new'))
         self.progress('a folder in the way of a progress', 'cannot write plan.progress\n',
@@ -207,14 +207,14 @@ class Causes:
         os.rmdir(disk)
 
     def disks(self):
-        self.on_disk('a full disk, where nothing is asked', 'size=16k', 0, 'cannot write disk/plan.progress.origin\n',
+        self.on_disk('a full disk, where nothing is asked', 'size=16k', 0, 'cannot write disk/plan.progress\n',
                      f'.origin: {FULL}; make room and run again')
         self.on_disk('a progress on a disk with room for its origin alone', 'size=16k', 4096,
                      'cannot write disk/plan.progress\n', f': {FULL}; {UNKNOWN_EFFECT}: make room and run again')
         self.on_disk('a lock on a disk with no file left', 'nr_inodes=1', None,
-                     'cannot write disk/plan.progress.lock\n', f'.lock: {FULL}; make room and run again')
+                     'cannot write disk/plan.progress\n', f'.lock: {FULL}; make room and run again')
         self.on_disk('a lock on a disk that is not to be written', 'ro', None,
-                     'cannot write disk/plan.progress.lock\n', f'.lock: {READ_ONLY}; mend the rights and run again')
+                     'cannot write disk/plan.progress\n', f'.lock: {READ_ONLY}; mend the rights and run again')
 
     def sockets(self):
         path = 's' * 108

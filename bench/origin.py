@@ -183,7 +183,7 @@ class Origins:
                   (0, FINISHED.format(0), f'1 of 1 finished by {self.progress} alone; --afresh looks\n'))
         self.write('progress.origin', 'something else\n')
         status, printed, _ = self.run(*where)
-        self.look('an origin that is none', (status, printed), (1, f'cannot read {self.progress}.origin\n'))
+        self.look('an origin that is none', (status, printed), (1, f'cannot read {self.progress}\n'))
         self.look('believed all the same', self.run(*where, '--believe')[:2], (0, FINISHED.format(0)))
 
     def refused_progress(self):
@@ -259,7 +259,8 @@ class Origins:
         self.look('for a key with another length', self.list(os.path.join(self.folder, 'other.toml')),
                   (1, 'progress refused: 3 OtherPlan\n', told))
         self.write('progress.origin', 'something else\n')
-        self.look('beside an origin that is none', self.list()[:2], (1, f'cannot read {self.progress}.origin\n'))
+        useless = 'it does not say where a progress was saved; run needs --believe to use the progress'
+        self.look('beside an origin that is none', self.list(), (0, listed, f'{self.progress}.origin: {useless}\n'))
         os.remove(self.progress + '.origin')
         self.look('of a file of which nothing is told', self.list(),
                   (0, listed, f'against which server {self.progress} was kept is not known\n'))
@@ -277,7 +278,7 @@ class Origins:
         os.mkdir(self.progress + '.origin.new')
         status, printed, _ = self.run('--loopback')
         self.look('an origin that cannot be written', (status, printed, self.read('progress')),
-                  (1, f'cannot write {self.progress}.origin\n', None))
+                  (1, f'cannot write {self.progress}\n', None))
 
     def metrics(self, *words, name='run.prom', **more):
         """What a run prints and its status, and the metrics that it leaves: what is counted, and the last finish."""

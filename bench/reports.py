@@ -235,7 +235,7 @@ class Reports:
             self.look(f'a listing of a progress that is {name}', ['list', '--plan', self.plan, '--progress', path], 1, said)
         folder = os.path.join(none, 'progress')
         self.look('a progress in no folder', ['run', '--loopback', '--plan', self.plan, '--progress', folder], 1,
-                  fault('cannot write', folder + '.lock', gone))
+                  fault('cannot write', folder, gone))
         long = os.path.join(self.folder, 's' * 200)
         self.look('a path that is too long for a socket', ['run', '--plan', self.plan, '--progress', self.progress + '.5',
                                                            '--socket', long], 1,

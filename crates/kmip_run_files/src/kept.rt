@@ -13,7 +13,7 @@ use kmip_progress::ProgressFault;
 use kmip_trouble::{AnotherServer, Cannot, Obstacle, Trouble, plan_name};
 use kmip_ttlv::NoMemory;
 use std::alloc::AllocError;
-use std::io;
+use std::io::{self, Error};
 
 /// What a run has of its progress.
 #[derive(Drop)]
@@ -33,7 +33,7 @@ impl<'a> Kept<'a> {
     pub(crate) fn afresh(&self) -> Result<Option<String>, Trouble> {
         if let Err(error) = self.file.put_aside() {
             let before = self.file.before_path()?;
-            return Err(Trouble::at(self.rt, Cannot::Begin, before.as_str(), error));
+            return Err(self.unwritten(before, error));
         }
         self.begins(None)
     }
@@ -154,9 +154,15 @@ impl<'a> Kept<'a> {
     ) -> Result<Option<String>, Trouble> {
         let text = Origin::text(self.rt, self.server.as_str(), before, self.plan.keys())?;
         if let Err(error) = self.file.write_origin(text.as_bytes()) {
-            let path = self.file.origin_path()?;
-            return Err(Trouble::at(self.rt, Cannot::Begin, path.as_str(), error));
+            let origin = self.file.origin_path()?;
+            return Err(self.unwritten(origin, error));
         }
         Ok(saved)
+    }
+
+    /// A file next to the progress could not be written.
+    fn unwritten(&self, file: String, error: Error) -> Trouble {
+        let given = self.options.progress.as_str();
+        Trouble::beside(self.rt, Cannot::Begin, given, file, error)
     }
 }

@@ -1,29 +1,31 @@
 //! The files of a run: its plan, its progress, where that was kept, and its metrics.
 //!
 //! A run takes the lock of its progress file (`locked`), and judges the file before it begins with it
-//! (`progress_to_begin_with`). `FileKeeper` keeps what is known after each exchange. `MetricsFile` has
+//! (`progress_to_begin_with`). `ProgressKeeper` saves what is known after each exchange. `MetricsFile` has
 //! what a run counts. `list_progress` is the command `list`, which reads such files and asks nobody.
 //!
-//! All is safe and total. But for the calls of `FileKeeper` none of what is public has a clause, as std
-//! tells a contract nothing of files. What it calls is proved over every text, disk and writer. The stored
-//! runs, `make origin` and `make causes` try it.
+//! All is safe and total. Only `ProgressKeeper` has clauses, those of `Keeper`, as std tells a contract
+//! nothing of files. What it calls is proved over every text, disk and writer. The stored runs, `make origin`
+//! and `make causes` try it.
 #![tactic(auto)]
 
 mod believing;
-mod file_keeper;
+mod has_failures;
 mod kept;
 mod listing;
 mod locking;
 mod metrics_file;
 mod origin;
 mod plan_file;
+mod progress_keeper;
 mod reading;
 mod recalling;
 
 pub use believing::progress_to_begin_with;
-pub use file_keeper::FileKeeper;
+pub use has_failures::HasFailures;
 pub use listing::list_progress;
 pub use locking::locked;
 pub use metrics_file::MetricsFile;
 pub use plan_file::PlanFile;
+pub use progress_keeper::{MachineKeeper, ProgressKeeper};
 pub use reading::{plan_at, plan_text_at, text_at};

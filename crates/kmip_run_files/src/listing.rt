@@ -1,8 +1,9 @@
 //! The command `list`, over files.
 
+use crate::origin::Origin;
 use crate::plan_file::PlanFile;
 use crate::reading::{plan_at, text_within};
-use crate::recalling::{judge_attributes, origin_of, progress_file_at};
+use crate::recalling::{judge_attributes, progress_file_at};
 use kmip_choices::{Format, ListOptions};
 use kmip_explaining::tell_other_plan;
 use kmip_files::{MOST_PROGRESS_BYTES, ProgressFile};
@@ -12,7 +13,8 @@ use kmip_plan_commands::run_list;
 use kmip_progress::{Progress, ProgressFault};
 use kmip_trouble::{Trouble, plan_name, print_documents, standard_output};
 use kmip_ttlv::NoMemory;
-use std::io::BufWriter;
+use std::alloc::Global;
+use std::io::{self, BufWriter, ErrorKind};
 
 /// The command `list`: the plan is read first, then the progress, and then what says where that was
 /// kept. No lock is taken, as the file is whole at any instant. Where the progress is listed, standard
@@ -51,7 +53,7 @@ pub fn list_progress(rt: &HostRuntime, options: &ListOptions) -> Result<ExitStat
 /// refused.
 ///
 /// # Errors
-/// Why what says it can't be read, and where the progress was kept for other attributes.
+/// If the progress was saved for other attributes, or memory runs out.
 fn origin_line(
     file: &ProgressFile<'_, HostRuntime>,
     plan: &PlanFile,
@@ -68,15 +70,57 @@ fn origin_line(
 /// The line of a progress that is one of this plan.
 fn told_origin(file: &ProgressFile<'_, HostRuntime>, plan: &PlanFile) -> Result<String, Trouble> {
     let rt = file.system();
-    match origin_of(file, false)? {
-        Some(origin) => {
+    match known_origin(file)? {
+        Known::Origin(origin) => {
             judge_attributes(file, &origin, plan.plan.keys())?;
             Ok(origin.kept_text(rt)?)
         }
-        None => {
+        Known::Nothing => {
             let path = file.given_path();
             let line = format!(in rt.alloc(); "against which server {path} was kept is not known")?;
             Ok(line)
         }
+        Known::Unreadable(why) => Ok(why),
     }
+}
+
+/// What is known of where a progress was saved.
+#[derive(Drop)]
+enum Known {
+    Origin(Origin),
+    /// There is no file that says so.
+    Nothing,
+    /// The file that should say so cannot be used: the line that says why.
+    Unreadable(String),
+}
+
+/// What is known of where the progress was saved. A file that cannot be used does not keep it from being listed.
+///
+/// # Errors
+/// If memory runs out.
+fn known_origin(file: &ProgressFile<'_, HostRuntime>) -> io::Result<Known> {
+    let alloc = file.system().alloc();
+    let path = file.origin_path()?;
+    match file.read_origin() {
+        Ok(None) => Ok(Known::Nothing),
+        Ok(Some(text)) => match Origin::read(alloc, text.as_str())? {
+            Some(origin) => Ok(Known::Origin(origin)),
+            None => unreadable(
+                alloc,
+                path.as_str(),
+                "it does not say where a progress was saved",
+            ),
+        },
+        Err(error) if error.kind() == ErrorKind::OutOfMemory => Err(error),
+        Err(error) => {
+            let why = format!(in alloc; "{error}")?;
+            unreadable(alloc, path.as_str(), why.as_str())
+        }
+    }
+}
+
+/// The file at the path cannot be used, for this reason.
+fn unreadable(alloc: Global, path: &str, why: &str) -> io::Result<Known> {
+    let line = format!(in alloc; "{path}: {why}; run needs --believe to use the progress")?;
+    Ok(Known::Unreadable(line))
 }

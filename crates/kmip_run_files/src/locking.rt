@@ -31,8 +31,8 @@ pub fn locked<'a>(
             Err(Trouble::from(Obstacle::InUse(path)))
         }
         Err(LockFault::Io(error)) => {
-            let beside = file.lock_path()?;
-            Err(Trouble::at(rt, Cannot::Begin, beside.as_str(), error))
+            let lock = file.lock_path()?;
+            Err(Trouble::beside(rt, Cannot::Begin, path, lock, error))
         }
     }
 }

@@ -3,8 +3,8 @@
 use crate::origin::Origin;
 use kmip_files::{MOST_PROGRESS_BYTES, ProgressFile};
 use kmip_plan::Key;
-use kmip_trouble::{Cannot, Obstacle, Trouble};
-use std::io::ErrorKind;
+use kmip_trouble::{Cannot, Obstacle, Place, Trouble};
+use std::io::{self, ErrorKind};
 
 /// The progress file at this path.
 ///
@@ -29,15 +29,22 @@ pub(crate) fn origin_of(
     match file.read_origin() {
         Ok(None) => Ok(None),
         Ok(Some(text)) => match Origin::read(rt.alloc(), text.as_str())? {
-            None if !is_believed => Err(Trouble::from(Obstacle::NoOrigin(file.origin_path()?))),
+            None if !is_believed => Err(no_origin(file)?),
             origin => Ok(origin),
         },
         Err(error) if is_believed && error.kind() != ErrorKind::OutOfMemory => Ok(None),
         Err(error) => {
-            let path = file.origin_path()?;
-            Err(Trouble::unread(rt, path.as_str(), MOST_PROGRESS_BYTES, error))
+            let (given, origin) = (file.given_path(), file.origin_path()?);
+            Err(Trouble::unread_origin(rt, given, origin, MOST_PROGRESS_BYTES, error))
         }
     }
+}
+
+/// The file that should say where a progress was saved does not.
+fn no_origin(file: &ProgressFile<'_, HostRuntime>) -> io::Result<Trouble> {
+    let given = String::from_str(file.system().alloc(), file.given_path())?;
+    let place = Place::beside(given, file.origin_path()?);
+    Ok(Trouble::from(Obstacle::NoOrigin(place)))
 }
 
 /// That a progress file was kept for the attributes of these keys.

@@ -7,6 +7,8 @@ ghost use Rattle.kmip_trouble.specs.Words.{cannot_word};
 pub enum Cannot {
     /// A file is not read.
     Read,
+    /// The file that says where a progress was saved is not read.
+    ReadOrigin,
     /// A file beside a progress is not written, so that nothing is asked.
     Begin,
     /// What is known is not written, after something was asked.
@@ -25,7 +27,7 @@ impl Cannot {
         ensures { result.now ≡ cannot_word self }
     {
         match self {
-            Cannot::Read => "cannot read",
+            Cannot::Read | Cannot::ReadOrigin => "cannot read",
             Cannot::Begin | Cannot::Save | Cannot::Last | Cannot::Measure => "cannot write",
             Cannot::Connect => "cannot connect",
         }

@@ -16,6 +16,12 @@ impl<'a> Display for Cause<'a> {
         let error = self.error;
         match (self.cannot, Remedy::of(error.kind())) {
             (Cannot::Read, _) | (Cannot::Begin, None) => write!(f, "{error}"),
+            (Cannot::ReadOrigin, _) => {
+                write!(
+                    f,
+                    "{error}; fix that, or give --believe to use the progress all the same"
+                )
+            }
             (Cannot::Connect, _) => write!(f, "{error}; give a shorter path"),
             (Cannot::Begin, Some(remedy)) => write!(f, "{error}; {remedy} and run again"),
             (Cannot::Save, None) => {

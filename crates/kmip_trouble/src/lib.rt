@@ -4,7 +4,7 @@
 //! `Told` is a standard stream that tells why it fails. `print_documents` prints what a command has to say
 //! in JSON, or that there is no memory for it.
 //!
-//! All is safe and total. `Trouble::tell`, `Trouble::at`, `Trouble::unread`, `print_documents`, `tell_why`,
+//! All is safe and total. `Trouble` and `Place`, `print_documents`, `tell_why`,
 //! `tell_cause`, `tell_output`, `tell_of_terminal`, `standard_input` and `standard_output` have no clause,
 //! as std tells a contract nothing of the bytes of streams and the words of the system. No clause says
 //! which line of a plan `push_refused_plan` tells, as kmip_explaining finds it. `make causes` wants the
@@ -17,6 +17,7 @@ mod cause;
 mod causes;
 mod naming;
 mod obstacle;
+mod place;
 mod remedy;
 mod reporting;
 mod told;
@@ -27,6 +28,7 @@ pub use cannot::Cannot;
 pub use causes::{tell_cause, tell_why};
 pub use naming::{INPUT_PATH, plan_name};
 pub use obstacle::{Obstacle, push_refused_plan};
+pub use place::Place;
 pub use reporting::{print_documents, push_told};
 pub use told::{
     STANDARD_INPUT, Told, standard_input, standard_output, tell_of_terminal, tell_output,

@@ -5,6 +5,7 @@ ghost use Rattle.kmip_json.specs.FaultJson.{is_plan_memory};
 use crate::another_server::AnotherServer;
 use crate::cannot::Cannot;
 use crate::causes::{tell_cause, tell_why};
+use crate::place::Place;
 use crate::reporting::{print_documents, push_reason, push_told};
 use kmip_explaining::{line_of_fault, tell_refusal};
 use kmip_json::{push_plan_fault, push_progress_fault};
@@ -24,20 +25,23 @@ const NO_TEXT: &str = "it is no UTF-8 text";
 /// Why a file does not say where a progress was kept.
 const NO_ORIGIN: &str = "it does not say where a progress was kept";
 
+/// What to do about it.
+const WITHOUT_ORIGIN: &str = "remove it and give --believe to use the progress all the same";
+
 /// What to do about a file that is not what it is to be.
 const LOOK_THERE: &str = "see what stands there";
 
 /// What keeps a command from its work.
 #[derive(Drop)]
 pub enum Obstacle {
-    /// Something cannot be done at a path, by the system's word.
-    Cannot(Cannot, String, Error),
-    /// The file at the path has more bytes than these.
-    TooLong(String, u64),
-    /// The file at the path is no UTF-8 text.
-    NoText(String),
-    /// The file at the path is to say where a progress was kept, and does not.
-    NoOrigin(String),
+    /// An I/O error.
+    Cannot(Cannot, Place, Error),
+    /// The file has more bytes than these.
+    TooLong(Place, u64),
+    /// The file is not UTF-8 text.
+    NoText(Place),
+    /// The file should say where a progress was saved, and does not.
+    NoOrigin(Place),
     /// The file at the path has this text, which is no plan.
     NoPlan(String, String, PlanFault),
     /// Another run has the progress file at the path.
@@ -90,15 +94,19 @@ impl Obstacle {
     /// Tells on standard error what there is to say of it.
     fn explain(&self, rt: &HostRuntime) {
         match self {
-            Obstacle::Cannot(cannot, path, error) => tell_cause(rt, path.as_str(), *cannot, error),
-            Obstacle::TooLong(path, most_bytes) => tell_why(
+            Obstacle::Cannot(cannot, place, error) => tell_cause(rt, place.file(), *cannot, error),
+            Obstacle::TooLong(place, most_bytes) => tell_why(
                 rt,
-                path.as_str(),
+                place.file(),
                 format_args!("it has more than {most_bytes} bytes; {LOOK_THERE}"),
             ),
-            Obstacle::NoText(path) => tell_why(rt, path.as_str(), NO_TEXT),
-            Obstacle::NoOrigin(path) => {
-                tell_why(rt, path.as_str(), format_args!("{NO_ORIGIN}; {LOOK_THERE}"));
+            Obstacle::NoText(place) => tell_why(rt, place.file(), NO_TEXT),
+            Obstacle::NoOrigin(place) => {
+                tell_why(
+                    rt,
+                    place.file(),
+                    format_args!("{NO_ORIGIN}; {WITHOUT_ORIGIN}"),
+                );
             }
             Obstacle::NoPlan(path, plan, _) => tell_refusal(rt, path.as_str(), plan.as_str()),
             Obstacle::InUse(_) => {}
@@ -115,14 +123,14 @@ impl Obstacle {
     /// Prints it in a line.
     fn print(&self, rt: &HostRuntime) -> io::Result<()> {
         match self {
-            Obstacle::Cannot(cannot, path, _) => {
-                rt.println(format_args!("{} {path}", cannot.text()))
+            Obstacle::Cannot(cannot, place, _) => {
+                rt.println(format_args!("{} {}", cannot.text(), place.given()))
             }
-            Obstacle::TooLong(path, most_bytes) => {
-                rt.println(format_args!("longer than {most_bytes} bytes: {path}"))
+            Obstacle::TooLong(place, most_bytes) => {
+                rt.println(format_args!("longer than {most_bytes} bytes: {}", place.given()))
             }
-            Obstacle::NoText(path) | Obstacle::NoOrigin(path) => {
-                rt.println(format_args!("{} {path}", Cannot::Read.text()))
+            Obstacle::NoText(place) | Obstacle::NoOrigin(place) => {
+                rt.println(format_args!("{} {}", Cannot::Read.text(), place.given()))
             }
             Obstacle::NoPlan(_, _, fault) => print_refusal(rt, fault),
             Obstacle::InUse(path) => rt.println(format_args!("progress in use: {path}")),
@@ -144,18 +152,18 @@ impl Obstacle {
     /// Where there is no memory for it.
     fn push_document(&self, alloc: Global, text: &mut Vec<u8>) -> Result<(), NoMemory> {
         match self {
-            Obstacle::Cannot(cannot, path, error) => {
-                push_reason(alloc, cannot.text(), path.as_str(), error, text)
+            Obstacle::Cannot(cannot, place, error) => {
+                push_reason(alloc, cannot.text(), place.given(), error, text)
             }
-            Obstacle::TooLong(path, most_bytes) => {
+            Obstacle::TooLong(place, most_bytes) => {
                 let why = format_args!("it has more than {most_bytes} bytes");
-                push_reason(alloc, "too long", path.as_str(), why, text)
+                push_reason(alloc, "too long", place.given(), why, text)
             }
-            Obstacle::NoText(path) => {
-                push_reason(alloc, Cannot::Read.text(), path.as_str(), NO_TEXT, text)
+            Obstacle::NoText(place) => {
+                push_reason(alloc, Cannot::Read.text(), place.given(), NO_TEXT, text)
             }
-            Obstacle::NoOrigin(path) => {
-                push_reason(alloc, Cannot::Read.text(), path.as_str(), NO_ORIGIN, text)
+            Obstacle::NoOrigin(place) => {
+                push_reason(alloc, Cannot::Read.text(), place.given(), NO_ORIGIN, text)
             }
             Obstacle::NoPlan(_, plan, fault) => {
                 push_refused_plan(alloc, plan.as_str(), fault, text)

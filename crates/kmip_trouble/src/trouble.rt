@@ -2,6 +2,7 @@
 
 use crate::cannot::Cannot;
 use crate::obstacle::Obstacle;
+use crate::place::Place;
 use crate::told::tell_output;
 use kmip_choices::Format;
 use kmip_json::NO_MEMORY_LINE;
@@ -44,27 +45,63 @@ impl From<AllocError> for Trouble {
 }
 
 impl Trouble {
-    /// That something cannot be done at a path; want of memory is no such failure.
+    /// An I/O error at `path`. Running out of memory is reported separately.
     pub fn at(rt: &HostRuntime, cannot: Cannot, path: &str, error: Error) -> Trouble {
-        if error.kind() == ErrorKind::OutOfMemory {
-            return Trouble::Io(error);
-        }
-        match String::from_str(rt.alloc(), path) {
-            Ok(path) => Trouble::from(Obstacle::Cannot(cannot, path, error)),
+        match place_of(rt, path, None) {
+            Ok(place) => Trouble::at_place(cannot, place, error),
             Err(want) => Trouble::from(want),
         }
     }
 
-    /// That a file is not read that may have so many bytes.
-    pub fn unread(rt: &HostRuntime, path: &str, most_bytes: u64, error: Error) -> Trouble {
-        let kind = error.kind();
-        if kind != ErrorKind::FileTooLarge && kind != ErrorKind::InvalidData {
-            return Trouble::at(rt, Cannot::Read, path, error);
-        }
-        match String::from_str(rt.alloc(), path) {
-            Ok(path) if kind == ErrorKind::InvalidData => Trouble::from(Obstacle::NoText(path)),
-            Ok(path) => Trouble::from(Obstacle::TooLong(path, most_bytes)),
+    /// An I/O error at `file`, which is next to the file at the path that the command was given.
+    pub fn beside(
+        rt: &HostRuntime,
+        cannot: Cannot,
+        given: &str,
+        file: String,
+        error: Error,
+    ) -> Trouble {
+        match place_of(rt, given, Some(file)) {
+            Ok(place) => Trouble::at_place(cannot, place, error),
             Err(want) => Trouble::from(want),
+        }
+    }
+
+    /// The file at `path` could not be read. It may have at most this number of bytes.
+    pub fn unread(rt: &HostRuntime, path: &str, most_bytes: u64, error: Error) -> Trouble {
+        match place_of(rt, path, None) {
+            Ok(place) => Trouble::unread_place(Cannot::Read, place, most_bytes, error),
+            Err(want) => Trouble::from(want),
+        }
+    }
+
+    /// The file that says where a progress was saved could not be read. It may have at most this number of
+    /// bytes.
+    pub fn unread_origin(
+        rt: &HostRuntime,
+        given: &str,
+        file: String,
+        most_bytes: u64,
+        error: Error,
+    ) -> Trouble {
+        match place_of(rt, given, Some(file)) {
+            Ok(place) => Trouble::unread_place(Cannot::ReadOrigin, place, most_bytes, error),
+            Err(want) => Trouble::from(want),
+        }
+    }
+
+    fn at_place(cannot: Cannot, place: Place, error: Error) -> Trouble {
+        if error.kind() == ErrorKind::OutOfMemory {
+            return Trouble::Io(error);
+        }
+        Trouble::from(Obstacle::Cannot(cannot, place, error))
+    }
+
+    fn unread_place(cannot: Cannot, place: Place, most_bytes: u64, error: Error) -> Trouble {
+        match error.kind() {
+            ErrorKind::FileTooLarge => Trouble::from(Obstacle::TooLong(place, most_bytes)),
+            ErrorKind::InvalidData => Trouble::from(Obstacle::NoText(place)),
+            _ => Trouble::at_place(cannot, place, error),
         }
     }
 
@@ -79,6 +116,18 @@ impl Trouble {
             (Trouble::Refused(obstacle), Format::Json) => obstacle.tell_in_json(rt),
             (Trouble::Io(error), _) => failed(rt, format, error),
         }
+    }
+}
+
+/// The place of the file at the path that the command was given, or of another file next to it.
+///
+/// # Errors
+/// If memory runs out.
+fn place_of(rt: &HostRuntime, given: &str, file: Option<String>) -> Result<Place, AllocError> {
+    let given = String::from_str(rt.alloc(), given)?;
+    match file {
+        Some(file) => Ok(Place::beside(given, file)),
+        None => Ok(Place::of(given)),
     }
 }
 
