@@ -29,6 +29,8 @@ impl<'a> Watch<'a> {
 impl<'a> Patience for Watch<'a> {
     ghost has_given_up = { λ watch. watch.pace.has_given_up };
 
+    ghost asked = { λ watch. watch.pace.asked };
+
     fn exchanged(&mut self, client: &Client<'_>, got_on: bool) {
         self.pace.exchanged(client, got_on);
         self.account.know(client);

@@ -3,6 +3,7 @@
 use crate::failure::Failure;
 use crate::peer_talk::PeerTalk;
 use crate::silence::Silence;
+use byteorder::{BigEndian, ByteOrder};
 use kmip_protocol::LinkFault;
 use kmip_ttlv::{HEAD_SIZE, MAX_SIZE};
 use std::cell::Cell;
@@ -77,16 +78,14 @@ impl Wire {
 
 /// Why a head that begins as one of a message is none: it is of too long a message, or else no KMIP.
 fn bad_head(head: &[u8]) -> Silence {
-    match head {
-        [_, _, _, _, first, second, third, fourth] => {
-            let behind = u32::from_be_bytes([*first, *second, *third, *fourth]);
-            let size = u64::from(behind).saturating_add(HEAD_SIZE as u64);
-            if size > MAX_SIZE as u64 {
-                Silence::TooLong(size)
-            } else {
-                Silence::NoKmip(PeerTalk::Kmip)
-            }
-        }
-        _ => Silence::NoKmip(PeerTalk::Kmip),
+    if head.len() < HEAD_SIZE {
+        return Silence::NoKmip(PeerTalk::Kmip);
+    }
+    let length = BigEndian::read_u32(&head[4..HEAD_SIZE]);
+    let size = u64::from(length).saturating_add(HEAD_SIZE as u64);
+    if size > MAX_SIZE as u64 {
+        Silence::TooLong(size)
+    } else {
+        Silence::NoKmip(PeerTalk::Kmip)
     }
 }

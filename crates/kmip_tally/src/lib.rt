@@ -1,4 +1,4 @@
-//! What a run took: with which steps of a key it is credited, and how the keys of its plan stand.
+//! What a run asked and learnt about each key, and which keys are finished.
 //!
 //! A `Course` is what a run asked about a key, and how many of its steps are known to have taken effect.
 //! `Verdicts` are those on the keys of a plan; how many keys have each is kept, and is at any time what
