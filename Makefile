@@ -36,16 +36,19 @@ program := crates/kmipctl/out/kmipctl
 PREFIX = /usr/local
 DESTDIR =
 growths := crates/test_memory/out/test_memory
+# Proves and builds the program, and notes from which sources (tools/proved.sh). If these change meanwhile, it is old.
+prove = { echo 'Proving and building kmipctl: from a clean clone this takes some 40 minutes on 4 cores.' >&2; \
+	sum=$$(tools/proved.sh sources) && (cd crates/kmipctl && rt run </dev/null >/dev/null) && touch $(program) && \
+	{ tools/proved.sh note $(program) "$$sum" || { touch -d @0 $(program); false; }; }; }
 sources := crates.txt $(shell find crates -name out -prune -o \( -name '*.rt' -o -name '*.antt' \) -print)
 
 .PHONY: all install uninstall dist deb demo check fmt test rows bench refuse faults hostile storm peers turns troubles origin causes reports completions installed tls pykmip reading reference man layers examples documents tools help
 
 all: $(program)
+	@tools/proved.sh check $(program) || $(prove)
 
 $(program): $(sources)
-	@echo 'Proving and building kmipctl: from a clean clone this takes some 40 minutes on 4 cores.' >&2
-	@cd crates/kmipctl && rt run </dev/null >/dev/null
-	@touch $@
+	@$(prove)
 
 $(growths): $(sources)
 	@cd crates/test_memory && rt run </dev/null >/dev/null

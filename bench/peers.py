@@ -466,7 +466,7 @@ class Peers:
         files, memory = held()
         # The system may take or give a page meanwhile; the least that could leak by connection is 160 KB in all.
         self.look('ten thousand connections one after the other', (status == 0, status),
-                  (printed == FINISHED.format(2), printed), (files == before[0], (before, files)),
+                  (printed == FINISHED.format(2), printed), (files <= before[0], (before, files)),
                   (memory - before[1] < 64, (before, memory)))
         server.kill()
         server.wait()

@@ -3,7 +3,8 @@
 #
 #     examples/demo.sh PROGRAM
 #
-# It runs the proved program where that is built. Else it runs the sources by `rt try`, which proves nothing.
+# It runs the program if that is built, and says whether it was proved from the sources that lie here
+# (tools/proved.sh). Otherwise it runs the sources by `rt try`, which proves nothing.
 set -eu
 program=$1
 case $program in /*) ;; *) program=$PWD/$program ;; esac
@@ -15,7 +16,12 @@ echo
 if [ -x "$program" ]; then
     "$program" sim --plan "$examples/lost-create.toml" --script "$examples/lost-create.script" --trace
     echo
-    echo 'This was the proved program. One key was made, and no second one.'
+    cd "$examples/.."
+    if tools/proved.sh check "$program" 2>/dev/null; then
+        echo 'This was the proved program. One key was made, and no second one.'
+    else
+        echo 'One key was made, and no second one. This program was not proved from these sources: run make.'
+    fi
 else
     cd "$examples/../crates/kmipctl"
     echo 'Nothing is built yet, so rt try runs the sources. This takes about a minute.' >&2

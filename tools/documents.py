@@ -2,7 +2,11 @@
 what the sources say of themselves and bring in."""
 import re
 
+from big_crates import check_big_crates
+from calls import check_calls
+from claims import check_claims
 from comments import check_comments
+from counts import check_counts
 from headline import check_headline
 from layers import check_layers
 from links import check_links
@@ -14,6 +18,8 @@ from plan_schema import check_plan_schema
 from prose import check_prose, documents
 from row_files import check_rows
 from sources import CRATES
+from touches import check_touches
+from trusted import check_trusted
 from uses import check_uses
 from versions import check_versions
 from ways import check_ways
@@ -26,6 +32,8 @@ def check(repository):
     faults = check_comments(repository) + check_headline(repository) + check_own_numbers() + check_layers()
     faults += check_links() + check_names() + check_messages() + check_rows() + check_mistakes(repository) + check_ways() + check_prose()
     faults += check_uses(repository) + check_plan_schema() + check_man_pages() + check_versions()
+    faults += check_calls(repository) + check_trusted() + check_big_crates()
+    faults += check_counts() + check_claims() + check_touches()
     print(f'{faults} places to look at' if faults else 'nothing to look at')
     return 1 if faults else 0
 

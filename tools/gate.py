@@ -3,8 +3,8 @@
 
     tools/gate.py
 
-It runs at the top of the repository. First comes `rt ci`; where that fails no trial is run. Each trial has a
-line, and what it printed stands in out/gate/NAME.log, and is printed too where it fails. A trial is skipped,
+It runs at the top of the repository. First comes `rt ci`; where that fails no trial is run. If it passes, a note next
+to the program says which sources it was proved from (tools/proved.sh). Each trial has a line, and what it printed stands in out/gate/NAME.log, and is printed too where it fails. A trial is skipped,
 by its name, where the machine lacks what it needs. The last line counts all: `N passed, N failed`, and how
 many were skipped where some were. The exit status is 0 where nothing failed.
 """
@@ -20,6 +20,7 @@ TOP = os.path.realpath(os.path.join(os.path.dirname(os.path.realpath(__file__)),
 PROGRAM = 'crates/kmipctl/out/kmipctl'
 GROWTHS = 'crates/test_memory/out/test_memory'
 LOGS = 'out/gate'
+PROVED = os.path.join(TOP, 'tools/proved.sh')
 COUNTS = re.compile(r'^(\d+) passed, (\d+) failed')
 
 # The name, the command, and the programs that it needs: of each inner list one.
@@ -55,6 +56,16 @@ def prove():
     return passed, max(failed, 1 if running.returncode else 0)
 
 
+def sum_of_sources():
+    """The sum of the sources, as they are now."""
+    return subprocess.run([PROVED, 'sources'], stdout=subprocess.PIPE, text=True).stdout.strip()
+
+
+def note_proof(before):
+    """Notes that the program was proved from the sources that had this sum before the proof."""
+    return subprocess.run([PROVED, 'note', PROGRAM, before]).returncode == 0
+
+
 def lacks(needs):
     """Returns the first thing that the machine lacks, if it lacks one."""
     return next((words[0] for words in needs if not any(map(shutil.which, words))), None)
@@ -78,8 +89,11 @@ def succeeds(name, command):
 def main():
     os.chdir(TOP)
     os.makedirs(LOGS, exist_ok=True)
+    before = sum_of_sources()
     passed, failed = prove()
     skipped = 0
+    if not failed and not note_proof(before):
+        failed += 1
     if failed:
         print(f'no trial was run: {", ".join(name for name, _, _ in TRIALS)}')
     for name, command, needs in [] if failed else TRIALS:

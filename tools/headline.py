@@ -4,8 +4,9 @@
     tools/headline.py            writes the list
     tools/headline.py --check    says whether it is up to date; the exit status is 1 where it is not
 
-Run it at the top of the repository. The headline is the clause *safe* of `kmip_runs::campaign`. The list has
-an entry for each file of specs/, with what the file says of itself and the definitions that count.
+Run it at the top of the repository. The headline is the clause *safe* of `kmip_runs::campaign`. The list has three parts,
+each with its count: what the conclusion of the clause rests on, what its premises add, and what the methods of a link
+owe. A part has an entry for each file of specs/, with what the file says of itself and the definitions that count.
 """
 import pathlib
 import re
@@ -15,7 +16,7 @@ sys.dont_write_bytecode = True
 
 from made import made_part
 from sources import Repository
-from traits import Spoken
+from traits import Spoken, counted
 
 PAGE = pathlib.Path('docs/PROOF.md')
 TOOL = 'tools/headline.py'
@@ -25,24 +26,31 @@ NAMED = re.compile(r'^--     (\w+)  ', re.M)
 
 
 def headline_list(repository):
-    """The entries, crate by crate."""
-    lines, crate = [], ''
-    for file, definitions in by_file(repository):
-        if file.crate != crate:
-            crate = file.crate
-            lines += ['', f'{crate}', '']
-        names = ', '.join(f'`{name}`' for one in definitions for name in one.names)
-        lines.append(f'- [{file.path.stem}](../{file.path}): {" ".join(file.says)}')
-        lines += [f'  {part}' for part in wrapped(names)]
+    """The parts, and the entries of each, crate by crate."""
+    lines = []
+    for number, (title, things) in enumerate(spoken(repository).parts()):
+        lines += ['', f'**{title}**: {counted(repository.in_order(things), "more " if number else "")}.']
+        crate = ''
+        for file, definitions in by_file(repository, things):
+            if file.crate != crate:
+                crate = file.crate
+                lines += ['', f'{crate}', '']
+            names = ', '.join(f'`{name}`' for one in definitions for name in one.names)
+            lines.append(f'- [{file.path.stem}](../{file.path}): {" ".join(file.says)}')
+            lines += [f'  {part}' for part in wrapped(names)]
     return '\n'.join(lines[1:] + ['', ''])
 
 
-def by_file(repository):
-    """The files that the clause rests on, each below those that it uses, with their definitions."""
+def spoken(repository):
+    """What the clause speaks of."""
     function = next(one for one in repository.functions if one.path == CALL)
-    clause = next(one for one in function.promises if one[1] == CLAUSE)
+    return Spoken(repository, function, next(one for one in function.promises if one[1] == CLAUSE))
+
+
+def by_file(repository, things):
+    """The files that have these definitions, each below those that it uses, with their definitions."""
     files = []
-    for one in repository.in_order(repository.behind(Spoken(repository, function, clause).roots)):
+    for one in repository.in_order(things):
         if not files or files[-1][0] is not one.file:
             files.append((one.file, []))
         files[-1][1].append(one)
@@ -73,7 +81,7 @@ def check_headline(repository):
 
 def first_faults(repository):
     """The files that a reader opens first and that do not name the other files of their crate, in their order."""
-    files = [file for file, _ in by_file(repository)]
+    files = [file for file, _ in by_file(repository, repository.behind(spoken(repository).roots))]
     for first in files:
         if first.path.stem == FIRST:
             others = [file.path.stem for file in files if file.crate == first.crate and file is not first]

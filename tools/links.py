@@ -1,4 +1,4 @@
-"""Where the links and the paths of the documents lead: to files, to headings, and to lines of the sources."""
+"""Where the links and the paths of the documents lead: to files that declare the name, to headings, and to lines of the sources."""
 import pathlib
 import re
 
@@ -8,6 +8,12 @@ LINK = re.compile(r'\[((?:[^\[\]]|\[[^\]]*\])*)\]\(\s*<?([^)\s>]+)>?(?:\s+"[^"]*
 TARGET = re.compile(r'^ {0,3}\[([^\]^]+)\]:\s+<?([^\s>]+)', re.M)
 PATH = re.compile(r'`((?:crates|docs|bench|examples|tools)/[\w./-]+)`')
 LINES = re.compile(r'L(\d+)(?:-L(\d+))?')
+QUOTED = re.compile(r'`(?:\w+::)*(\w+)`')
+# What declares a name, by the kind of source.
+DECLARED = {
+    '.rt': r'\b(?:fn|struct|enum|trait|const|static|type|mod) NAME\b',
+    '.antt': r'^\s*(?:(?:abbrev|unfoldable) )?(?:pub )?(?:(?:data|record) NAME\b|NAME : )',
+}
 
 
 def check_links():
@@ -44,7 +50,7 @@ def fault_of(document, name, link):
         return 'no such file'
     lines = LINES.fullmatch(place)
     if not place:
-        return None
+        return declaring_fault(target, name)
     if lines and target.suffix != '.md':
         return line_fault(target, name, int(lines.group(1)), int(lines.group(2) or lines.group(1)))
     if target.is_dir() or place not in headings_of(target):
@@ -61,6 +67,15 @@ def line_fault(target, name, first, last):
     if quoted and quoted.group(1) not in re.findall(r"[^\s(){}:,;<>]+", '\n'.join(lines[first - 1:last])):
         return f'{quoted.group(1)} does not stand there'
     return None
+
+
+def declaring_fault(target, name):
+    """Why a source is not the one that is meant: it does not declare the name that the link's words are, as `read`."""
+    quoted = QUOTED.fullmatch(name.strip())
+    if not quoted or target.suffix not in DECLARED:
+        return None
+    declared = DECLARED[target.suffix].replace('NAME', quoted.group(1))
+    return None if re.search(declared, target.read_text(), re.M) else f'{quoted.group(1)} is not declared there'
 
 
 def headings_of(target):

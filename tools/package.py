@@ -7,7 +7,7 @@
 
 It runs at the top of the repository, as a user that is not root, and builds nothing. Both have what
 `tools/install.sh` copies. The tar's folder has the folders bin, lib and share, for below /usr/local. It also has
-MADE-OF, the list of what the program is made of, and SHA256SUMS, for `sha256sum -c SHA256SUMS`. The times in both
+MADE-OF, the list of what the program is made of and whether it was proved from these sources, and SHA256SUMS, for `sha256sum -c SHA256SUMS`. The times in both
 are that of the commit, so one commit and one program give one tar. The program has to say the version of the
 sources.
 """
@@ -28,9 +28,13 @@ VERSION = re.compile(r'^const VERSION: &str = "([0-9.]+)";$', re.M)
 SOURCE = pathlib.Path('crates/kmip_command_line/src/subcommand.rt')
 TOOLCHAIN = re.compile(r'toolchain \(`([^`]+)`\)')
 OUT = pathlib.Path('out')
+PROGRAM = 'crates/kmipctl/out/kmipctl'
+PROVED = pathlib.Path(__file__).resolve().with_name('proved.sh')
 LIST = 'share/doc/kmipctl/INSTALLED'
 # What dpkg calls the machines.
 DEBIAN_ARCHITECTURES = {'x86_64': 'amd64'}
+# What is said of a program that was not proved from the sources that lie here.
+NOT_PROVED = 'this program was not proved from these sources'
 
 CHANGES = '''kmipctl ({version}) unstable; urgency=medium
 
@@ -53,7 +57,7 @@ Priority: optional
 Description: brings the keys of a plan to a key server, over KMIP 2.1
  kmipctl makes the symmetric keys of a plan on a key server, and brings each
  as far as the plan says. No key is ever made twice or destroyed too early,
- also where replies are lost: that is proved of the code.
+ also where replies are lost: that is proved of the code.{proof}
  .
  It speaks no TLS itself. A tunnel such as stunnel does.
 '''
@@ -101,11 +105,17 @@ def crates_of(text, name='kmipctl'):
     return sorted(own), sorted(kit)
 
 
-def made_of():
+def is_proved(program):
+    """Whether this program was proved from the sources that lie here (tools/proved.sh)."""
+    return not subprocess.run([PROVED, 'check', program], stderr=subprocess.DEVNULL).returncode
+
+
+def made_of(program=PROGRAM):
     """The list of what the program is made of."""
     own, kit = crates_of(pathlib.Path('crates.txt').read_text())
     return '\n'.join([
         f'kmipctl {version()}', f'commit: {commit()}', f'toolchain: {toolchain()}',
+        f'proved: {"from these sources" if is_proved(program) else "no, " + NOT_PROVED}',
         '', "Crates of the repository:", *(f'  {crate}' for crate in own),
         '', "Crates of the toolchain's kit, of the version that the kit has:", *(f'  {crate}' for crate in kit),
         '', 'The C library is the one of the machine.', ''])
@@ -148,7 +158,7 @@ def pack(program):
     staged(program, OUT / 'dist', '/usr/local')
     (OUT / 'dist/usr/local').rename(folder)
     (OUT / 'dist/usr').rmdir()
-    (folder / 'MADE-OF').write_text(made_of())
+    (folder / 'MADE-OF').write_text(made_of(program))
     (folder / 'SHA256SUMS').write_text(sums(folder, 'sha256', files_in(folder)))
     made = OUT / f'{name}.tar.gz'
     words = ['tar', '--create', '--file=-', '--sort=name', '--format=ustar', f'--mtime=@{time_of_commit()}',
@@ -186,7 +196,7 @@ def debian_folder(program, folder):
     staged(program, folder, '/usr')
     if shutil.which('strip'):
         subprocess.run(['strip', '--strip-unneeded', str(folder / 'usr/bin/kmipctl')], check=True)
-    (folder / 'usr/share/doc/kmipctl/MADE-OF').write_text(made_of())
+    (folder / 'usr/share/doc/kmipctl/MADE-OF').write_text(made_of(program))
     for page in sorted((folder / 'usr/share/man').rglob('*.[15]')):
         page.with_name(page.name + '.gz').write_bytes(gzip.compress(page.read_bytes(), mtime=0))
         page.unlink()
@@ -200,6 +210,7 @@ def debian_folder(program, folder):
     (control / 'md5sums').write_text(sums(folder, 'md5', names))
     (control / 'control').write_text(CONTROL.format(
         version=version(), architecture=DEBIAN_ARCHITECTURES[platform.machine()], size=-(-size // 1024),
+        proof='' if is_proved(program) else f'\n .\n But {NOT_PROVED}.',
         maintainer=git('log', '-1', '--format=%an <%ae>') or 'not known <root@localhost>', libc=libc_of(program)))
     for path in [folder, *folder.rglob('*')]:
         path.chmod(0o755 if path.is_dir() or os.access(path, os.X_OK) and path.stat().st_mode & 0o100 else 0o644)
@@ -227,6 +238,8 @@ def main(words):
         return 2
     os.umask(0o022)
     judge(words[1])
+    if not is_proved(words[1]):
+        print(f'{words[1]}: {NOT_PROVED}: make proves and builds it', file=sys.stderr)
     print(ways[words[0]](words[1]))
     return 0
 

@@ -7,10 +7,12 @@
                                                 prints the definitions that this one clause rests on
     tools/reading.py --check                    compares the documents with the code
 
-Definitions stand in the order in which to read them: what is built on comes first. Where a clause speaks of a
-ghost of a trait (`L.honest`), the trait's clauses that speak of it follow, and their definitions too. A clause
-without a name is called `requires` or `ensures`. Where the only promise of a call is a record, its fields count as
-clauses of the call.
+Definitions stand in the order in which to read them: what is built on comes first. If a clause speaks of a ghost of a
+trait (`L.honest`), the trait's clauses that speak of it follow. The definitions of a clause are parted in up to three
+lists, each with its count: those that its conclusion rests on, those that its premises add, and those that the trait's
+clauses add. Without a clause the last list is of all that the traits of the call's type parameters owe. A clause
+without a name is called `requires` or `ensures`. If the only promise of a call is a record, its fields count as clauses
+of the call. A method of a type that implements a trait stands for that of the trait.
 
 Run it at the top of the repository (`make reading` does). It reads the sources alone, and proves nothing.
 """
@@ -24,7 +26,7 @@ signal.signal(signal.SIGPIPE, signal.SIG_DFL)
 from documents import check
 from items import reexports_of
 from sources import CRATES, Definition, Repository, roots_of
-from traits import Spoken
+from traits import Spoken, counted, owed_to, traits_of
 
 
 def find(repository, wanted):
@@ -34,6 +36,8 @@ def find(repository, wanted):
     if exact:
         return exact
     crate, _, rest = wanted.partition('::')
+    if '::' in rest:
+        return methods_of_traits(repository, crate, *rest.split('::')[-2:])
     return [one for one in repository.functions
             if one.path.startswith(crate + '::') and one.path.endswith('::' + rest.split('::')[-1])]
 
@@ -42,9 +46,18 @@ def shown_from(repository, wanted):
     """The name of a call in the crate that it is made in, where the crate of the name only shows it."""
     crate, _, name = wanted.partition('::')
     for other, names in reexports_of(crate, repository.crates):
-        if name in names:
+        if name.split('::')[0] in names:
             return f'{other}::{name}'
     return wanted
+
+
+def methods_of_traits(repository, crate, kind, method):
+    """The methods of this name of the traits that a type of the crate implements."""
+    sources = '\n'.join(path.read_text() for path in sorted((CRATES / crate / 'src').glob('*.rt')))
+    found = re.findall(rf'^impl(?:<(?:[^<>]|<[^<>]*>)*>)? (\w+)(?:<[^\n]*>)? for {kind}\b', sources, re.M)
+    traits = [traits_of(repository)[name] for name in found if name in traits_of(repository)]
+    wanted = {f'{trait.path.parts[1]}::{trait.name}::{method}' for trait in traits}
+    return [one for one in repository.functions if one.path in wanted]
 
 
 def print_list(repository):
@@ -59,7 +72,15 @@ def print_function(repository, function):
         print(f'    {line}'.rstrip())
     for clause in function.clauses:
         print_clause(clause)
-    print_definitions(repository, repository.behind(roots_of(repository, function)))
+    things = repository.behind(roots_of(repository, function))
+    print_definitions(repository, 'What it promises rests', things)
+    for trait, roots in owed_to(repository, function):
+        more = repository.behind(roots) - things
+        things |= more
+        print(f'\nWhat the methods of {trait.name} promise ({trait.path}):')
+        print_promises(trait.promises)
+        if repository.in_order(more):
+            print_definitions(repository, f'What {trait.name} owes rests', more, 'more ')
 
 
 def print_clause(clause):
@@ -79,19 +100,20 @@ def print_one(repository, function, wanted):
     print(f'{function.path}, of {function.file}:{function.line}')
     for line in function.docs:
         print(f'    {line}'.rstrip())
-    things = set()
+    parts = []
     for clause in [one for one in function.clauses if one[0] == 'requires' and one not in chosen]:
         print('  (asked of the caller; its definitions are left out)')
         print_clause(clause)
     for clause in chosen:
         print_clause(clause)
         spoken = Spoken(repository, function, clause)
-        things |= spoken.roots
+        parts += spoken.parts()
         for group in spoken.groups:
             print_ghosts(*group)
         if spoken.elsewhere:
             print(f'\nGhosts of traits from elsewhere: {", ".join(spoken.elsewhere)}')
-    print_definitions(repository, repository.behind(things))
+    for number, (title, things) in enumerate(parts):
+        print_definitions(repository, f'{title} rests', things, 'more ' if number else '')
     return 0
 
 
@@ -101,15 +123,19 @@ def print_ghosts(trait, ghosts, beside, promises):
     for ghost in ghosts:
         print_ghost(ghost)
     print(f'What the methods of {trait.name} promise of them:')
+    print_promises(promises)
+    if beside:
+        print('These name other ghosts too, of which nothing more is printed:')
+    for ghost in beside:
+        print_ghost(ghost)
+
+
+def print_promises(promises):
     for promise in promises:
         if promise.comment:
             print(f'  {promise.comment}')
         name = f'{promise.kind} {promise.name}'.strip()
         print(f'  {promise.method}, {name} {{ {promise.body} }}  (line {promise.line})')
-    if beside:
-        print('These name other ghosts too, of which nothing more is printed:')
-    for ghost in beside:
-        print_ghost(ghost)
 
 
 def print_ghost(ghost):
@@ -118,9 +144,9 @@ def print_ghost(ghost):
         print(f'      {line}')
 
 
-def print_definitions(repository, things):
+def print_definitions(repository, title, things, more=''):
     ordered = repository.in_order(things)
-    print(f'\nIt rests on so many definitions of specs/, each below those that it is made of: {len(ordered)}')
+    print(f'\n{title} on {counted(ordered, more)}, each below those that it is made of.')
     file = None
     for definition in ordered:
         if definition.file is not file:

@@ -1,7 +1,7 @@
 """The ghosts of the traits: what a clause such as `L.honest` speaks of, and what the trait promises of it."""
 import re
 
-from sources import CRATES, RECORD, WORD, Crate, Definition, Field, fields_of, imports_of
+from sources import CRATES, RECORD, WORD, Crate, Definition, Field, arrows_of, fields_of, imports_of
 
 TRAIT = re.compile(r'^(?:pub |pub\(crate\) )?trait (\w+)[^\n]*\{\n(.*?)^\}', re.M | re.S)
 GHOST = re.compile(r'^((?: *///[^\n]*\n)*) *ghost (\w+): \{ *(.*?) *\};', re.M | re.S)
@@ -119,19 +119,44 @@ def traits_in(path):
 
 
 class Spoken:
-    """What one clause of a function speaks of: its roots, and the ghosts of traits with what is promised of them."""
+    """What one clause of a function speaks of, and the ghosts of traits with what is promised of them.
+
+    `promised` has the roots of its conclusion, `asked` those of its premises, and `owed` those of what the traits
+    promise of their ghosts. `roots` has all of them.
+    """
 
     def __init__(self, repository, function, clause):
         self.repository, self.groups, self.elsewhere = repository, [], []
         body, types = clause[2], types_seen(function, clause[2])
-        self.roots = resolved(repository, body, function.imports, clause)
-        for name in types:
-            self.roots |= repository.models.get(name, set())
+        *premises, conclusion = arrows_of(body)
+        self.promised = self.roots_of(function, clause, conclusion)
+        self.asked = self.roots_of(function, clause, ' → '.join(premises)) if premises else set()
+        self.premises, self.roots, self.owed = premises, self.promised | self.asked, set()
         traits, texts = traits_of(repository), [(function.header + ' ' + generics_of(function.signature), body)]
         texts += [repository.views[name] for name in sorted(types) if name in repository.views]
         for name, ghosts in self.ghosts_in(function, texts, traits).items():
             trait = traits[name]
             self.follow(trait, [trait.ghosts[one] for ghost in ghosts for one in self.seen_of(trait, ghost, body)])
+        self.roots |= self.owed
+
+    def roots_of(self, function, clause, body):
+        """What a part of the clause names, and how the types of what it names are seen."""
+        roots = resolved(self.repository, body, function.imports, clause)
+        for name in types_seen(function, body):
+            roots |= self.repository.models.get(name, set())
+        return roots
+
+    def parts(self):
+        """The three lists: each with what it is of, and its definitions that stand in no list before it."""
+        owing = ', '.join(trait.name for trait, *_ in self.groups)
+        named = [('What is promised', self.promised), ('What its premises say', self.asked),
+                 (f'What the methods of {owing} owe', self.owed)]
+        seen = set()
+        for title, roots in named:
+            things = self.repository.behind(roots) - seen
+            seen |= things
+            if roots and (title == named[0][0] or any(isinstance(thing, Definition) for thing in things)):
+                yield title, things
 
     def seen_of(self, trait, ghost, body):
         """The ghost; where it is a record, those of its fields that the clause and its definitions speak of."""
@@ -165,9 +190,9 @@ class Spoken:
         spoken = set().union(*(promise.words() for promise in promises)) if promises else set()
         beside = [ghost for ghost in trait.named_in(spoken) if ghost not in ghosts and ghost.name not in trait.fields]
         for promise in promises:
-            self.roots |= resolved(self.repository, promise.body, trait.imports, promise.field)
+            self.owed |= resolved(self.repository, promise.body, trait.imports, promise.field)
         for ghost in ghosts + beside:
-            self.roots |= self.repository.resolve(ghost.text, self.imports_of(trait, ghost))
+            self.owed |= self.repository.resolve(ghost.text, self.imports_of(trait, ghost))
         self.groups.append((trait, ghosts, beside, promises))
 
     @staticmethod
@@ -179,6 +204,27 @@ class Spoken:
     def definitions(self):
         things = self.repository.behind(self.roots)
         return self.repository.in_order([thing for thing in things if isinstance(thing, Definition)])
+
+
+def counted(definitions, more=''):
+    """How many definitions these are, and how many lines they have without the comments above them."""
+    lines = sum(len(one.text.strip().splitlines()) for one in definitions)
+    return f'{len(definitions)} {more}definition{"s" * (len(definitions) != 1)} ({lines} line{"s" * (lines != 1)})'
+
+
+def owed_to(repository, function):
+    """What the traits of a function's type parameters owe: each trait, and the roots of its clauses and ghosts."""
+    traits, found = traits_of(repository), []
+    bounds = bounds_of(function.header + ' ' + generics_of(function.signature))
+    for name in dict.fromkeys(name for names in bounds.values() for name in names):
+        if name in traits:
+            trait, roots = traits[name], set()
+            for promise in trait.promises:
+                roots |= resolved(repository, promise.body, trait.imports, promise.field)
+            for ghost in trait.ghosts.values():
+                roots |= repository.resolve(ghost.text, Spoken.imports_of(trait, ghost))
+            found.append((trait, roots))
+    return found
 
 
 def words_and_fields(text):

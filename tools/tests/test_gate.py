@@ -36,6 +36,15 @@ class Gate(Scratch):
         os.environ['PATH'] = f'{self.top}/bin:{os.environ["PATH"]}'
         self.assertEqual(printed(gate.prove), ((7, 2), ['one crate', '7 passed, 2 failed']))
 
+    def test_what_was_proved_is_noted(self):
+        self.write({'crates.txt': 'low:\n', 'crates/low/src/lib.rt': '//! A.\n', gate.PROGRAM: 'program\n'})
+        before = gate.sum_of_sources()
+        self.assertTrue(gate.note_proof(before))
+        self.assertIn(f'sources {before}\n', (self.top / 'crates/kmipctl/out/PROVED').read_text())
+        self.write({'crates/low/src/lib.rt': '//! B.\n'})
+        self.assertFalse(gate.note_proof(before))
+        self.assertFalse((self.top / 'crates/kmipctl/out/PROVED').exists())
+
     def test_each_trial_is_named_once(self):
         names = [name for name, _, _ in gate.TRIALS]
         self.assertEqual(len(names), len(set(names)))

@@ -25,9 +25,11 @@ class Headline(Scratch):
             1, ['docs/PROOF.md: its list of definitions is out of date: run tools/headline.py']))
         self.assertEqual(headline.main([]), 0)
         self.assertEqual(pathlib.Path('docs/PROOF.md').read_text(), (
-            f'Before.\n\n{BEGIN}low\n\n- [Start](../crates/low/specs/Start.antt): The start.\n  `History`\n'
-            '- [Carried](../crates/low/specs/Carried.antt): What carrying is.\n  `Carried`, `Worn`\n\n'
-            f'high\n\n- [Calls](../crates/high/specs/Calls.antt): What a call is.\n  `Sent`\n\n{END}After.\n'))
+            f'Before.\n\n{BEGIN}**What is promised**: 2 definitions (4 lines).\n\n'
+            'low\n\n- [Start](../crates/low/specs/Start.antt): The start.\n  `History`\n\n'
+            'high\n\n- [Calls](../crates/high/specs/Calls.antt): What a call is.\n  `Sent`\n\n'
+            '**What the methods of Carrier owe**: 2 more definitions (4 lines).\n\n'
+            f'low\n\n- [Carried](../crates/low/specs/Carried.antt): What carrying is.\n  `Carried`, `Worn`\n\n{END}After.\n'))
         self.assertEqual(printed(headline.check_headline, Repository()), (0, []))
 
     def test_the_file_to_open_first_names_the_others(self):

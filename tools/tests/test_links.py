@@ -39,6 +39,14 @@ class Links(Scratch):
             'docs/A.md:3: leads nowhere: ../crates/one/specs/A.antt#L1: is_a does not stand there',
             'docs/A.md:4: leads nowhere: ../crates/one/specs/A.antt#L2: is does not stand there'])
 
+    def test_names_are_declared_where_a_link_leads(self):
+        self.write({'crates/one/src/a.rt': '/// Uses `is_b`.\npub fn is_c() -> bool {\n    is_b()\n}\n'})
+        self.assertEqual(self.check(
+            '[`is_c`](../crates/one/src/a.rt), [`one::is_c`](../crates/one/src/a.rt), [is_b](../crates/one/src/a.rt)\n'
+            '[`is_b`](../crates/one/src/a.rt)\n[`A`](../crates/one/specs/A.antt)\n'), [
+            'docs/A.md:2: leads nowhere: ../crates/one/src/a.rt: is_b is not declared there',
+            'docs/A.md:3: leads nowhere: ../crates/one/specs/A.antt: A is not declared there'])
+
     def test_fenced_blocks_have_no_links(self):
         self.assertEqual(self.check('```\n[b](C.md)\n```\n'), [])
 

@@ -1,5 +1,6 @@
 """What the packages are made of, and the examples that they have."""
 import re
+import subprocess
 import unittest
 
 from scratch import Scratch, TOOLS, printed
@@ -20,6 +21,42 @@ class Packages(Scratch):
         lines = package.made_of().splitlines()
         self.assertEqual((lines[0], lines[2]), ('kmipctl 1.2.3', 'toolchain: a-kit logic 7'))
         self.assertEqual([line.strip() for line in lines if line.startswith('  ')], ['kmipctl', 'low', 'middle', 'hex', 'toml'])
+
+    def write_proved(self):
+        """A program with its note, and sources with a version."""
+        self.write({'crates.txt': CRATES, str(package.SOURCE): '\nconst VERSION: &str = "1.2.3";\n', 'crates/low/out/left.rt': 'old\n',
+                    'README.md': '| needs | the Rattle toolchain (`a-kit logic 7`), `make` |\n', 'crates/kmipctl/out/kmipctl': 'program\n'})
+        summed = subprocess.run([package.PROVED, 'sources'], capture_output=True, text=True).stdout.strip()
+        return subprocess.run([package.PROVED, 'note', package.PROGRAM, summed], capture_output=True).returncode, summed
+
+    def test_a_program_that_was_proved_from_these_sources(self):
+        self.assertEqual(self.write_proved()[0], 0)
+        self.assertTrue(package.is_proved(package.PROGRAM))
+        self.assertEqual(package.made_of().splitlines()[3], 'proved: from these sources')
+        self.write({'crates/low/out/left.rt': 'new\n'})
+        self.assertTrue(package.is_proved(package.PROGRAM))
+
+    def test_a_program_that_was_not(self):
+        wanted = 'proved: no, this program was not proved from these sources'
+        for path, text in ('crates/kmipctl/out/kmipctl', 'other\n'), ('crates/low/specs/A.antt', '-- a\n'), ('crates.txt', CRATES + '\n'):
+            self.write_proved()
+            self.write({path: text})
+            self.assertFalse(package.is_proved(package.PROGRAM), path)
+            self.assertEqual(package.made_of().splitlines()[3], wanted)
+            (self.top / path).unlink()
+        self.write_proved()
+        (self.top / 'crates/kmipctl/out/PROVED').unlink()
+        self.assertEqual(package.made_of().splitlines()[3], wanted)
+
+    def test_nothing_is_noted_if_the_sources_changed_during_the_proof(self):
+        _, summed = self.write_proved()
+        self.write({'crates/low/src/lib.rt': '//! New.\n'})
+        noted = subprocess.run([package.PROVED, 'note', package.PROGRAM, summed], capture_output=True)
+        self.assertEqual((noted.returncode, (self.top / 'crates/kmipctl/out/PROVED').exists()), (1, False))
+
+    def test_the_description_of_a_package(self):
+        parts = dict(version='1', architecture='amd64', size=1, maintainer='a', libc='2')
+        self.assertIn('is proved of the code.\n .\n It speaks', package.CONTROL.format(proof='', **parts))
 
     def test_a_source_without_a_version(self):
         self.write({str(package.SOURCE): '\n', 'README.md': '\n'})

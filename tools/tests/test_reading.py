@@ -27,9 +27,15 @@ class Reading(Scratch):
     def test_a_function_rests_on_all_its_clauses(self):
         status, lines = printed(reading.main, ['high::send'])
         self.assertEqual(status, 0)
-        self.assertEqual(self.names(lines), ['History', 'IsLight', 'Sent', 'IsTold'])
+        self.assertEqual(self.names(lines), ['History', 'IsLight', 'Sent', 'IsTold', 'Carried', 'Worn', 'Quick'])
         self.assertEqual([line for line in lines if line.startswith('crates/')], [
-            'crates/low/specs/Start.antt: The start.', 'crates/high/specs/Calls.antt: What a call is.'])
+            'crates/low/specs/Start.antt: The start.', 'crates/high/specs/Calls.antt: What a call is.',
+            'crates/low/specs/Carried.antt: What carrying is.'])
+        self.assertEqual([line for line in lines if ' rests on ' in line], [
+            'What it promises rests on 4 definitions (8 lines), each below those that it is made of.',
+            'What Carrier owes rests on 3 more definitions (6 lines), each below those that it is made of.'])
+        self.assertIn('What the methods of Carrier promise (crates/low/src/carrying.rt):', lines)
+        self.assertIn('  carry, ensures quick { quick self.old → Quick (history self.new) }  (line 43)', lines)
         self.assertIn('  std.specs.Prelude: Bool, IsTrue, List, ◌≤◌', lines)
 
     def test_a_clause_rests_on_less(self):
@@ -41,7 +47,7 @@ class Reading(Scratch):
     def test_the_ghosts_of_a_trait_are_followed(self):
         status, lines = printed(reading.main, ['high::send', 'safe'])
         self.assertEqual(status, 0)
-        self.assertEqual(self.names(lines), ['History', 'Carried', 'Worn', 'Sent'])
+        self.assertEqual(self.names(lines), ['History', 'Sent', 'Carried', 'Worn'])
         self.assertIn('  careful : Self → Type 0  (line 30)', lines)
         self.assertIn('      It drops nothing.', lines)
         self.assertIn('  A careful one stays so.', lines)
@@ -49,6 +55,26 @@ class Reading(Scratch):
         self.assertIn('  wear : Self → ℕ  (line 36)', lines)
         self.assertNotIn('quick', ' '.join(lines))
         self.assertEqual(lines[5:7], ['  (asked of the caller; its definitions are left out)', '  requires { IsLight load.now }'])
+
+    def test_what_is_promised_and_what_is_asked_are_two_lists(self):
+        self.write({'crates/high/src/calling.rt': CRATES['crates/high/src/calling.rt'].replace(
+            'ensures told { IsTold result }', 'ensures told { IsLight load.now → IsFull load.now → IsTold result }').replace(
+            'IsLight, IsTold}', 'IsLight, IsTold, IsFull}')})
+        lines = printed(reading.main, ['high::send', 'told'])[1]
+        self.assertEqual(self.names(lines), ['IsTold', 'IsLight', 'IsFull'])
+        self.assertEqual([line for line in lines if ' rests on ' in line], [
+            'What is promised rests on 1 definition (2 lines), each below those that it is made of.',
+            'What its premises say rests on 2 more definitions (4 lines), each below those that it is made of.'])
+
+    def test_a_method_of_a_type_stands_for_that_of_its_trait(self):
+        for wanted in 'low::Load::carry', 'low::Carrier::carry', 'low::carry':
+            status, lines = printed(reading.main, [wanted, 'quick'])
+            self.assertEqual((status, lines[0]), (0, 'low::Carrier::carry, of crates/low/src/carrying.rt:39'), wanted)
+        self.assertEqual(printed(reading.main, ['low::Wear::carry'])[0], 1)
+
+    def test_a_crate_may_show_a_trait_of_another(self):
+        self.write({'crates/high/src/lib.rt': CRATES['crates/high/src/lib.rt'] + 'pub use low::{Carrier, Load};\n'})
+        self.assertEqual(printed(reading.main, ['high::Carrier::carry', 'quick'])[1][0], 'low::Carrier::carry, of crates/low/src/carrying.rt:39')
 
     def test_a_method_of_the_trait_names_its_ghosts_bare(self):
         status, lines = printed(reading.main, ['low::Carrier::carry', 'quick'])
@@ -111,7 +137,7 @@ class Reading(Scratch):
     def test_a_record_below_has_its_premise(self):
         self.write_records()
         status, lines = printed(reading.main, ['high::move_on', 'safe'])
-        self.assertEqual((status, self.names(lines)), (0, ['History', 'Worn']))
+        self.assertEqual((status, self.names(lines)), (0, ['Worn', 'History']))
         self.assertIn('  ensures safe { (M.saw mover.old).sure → Worn far (M.saw mover.new).all }', lines)
 
     def test_the_fields_of_a_ghost_are_ghosts(self):
