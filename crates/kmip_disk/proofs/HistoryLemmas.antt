@@ -90,6 +90,7 @@ saved_by {E} a b c text u result wrote closed = record {
   any_moment = closed_on a b c (IsBeforeOrText a text) wrote.lawful wrote.any_moment closed.any_moment;
   still = λ was. closed.still (wrote.still was);
   failed = failed result closed.failed;
+  limit = closed.limit ∙ wrote.limit;
 }
   where
     failed : (r : Result (Unit {0}) E) → OnErr r (HasRisenBy 1 b.failures c.failures) → OnErr r (HasRisenBy 1 a.failures c.failures)
@@ -106,4 +107,5 @@ saved_not a b text fault wrote = record {
   any_moment = wrote.any_moment;
   still = wrote.still;
   failed = wrote.failed;
+  limit = wrote.limit;
 }

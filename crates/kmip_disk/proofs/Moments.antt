@@ -1,5 +1,5 @@
 -- How a run of calls of a disk goes on.
-use Rattle.std.proofs.Common.{◌≤◌, OnOk, Result, arith, inl, inr, ⊎_elim, ◌∙◌}
+use Rattle.std.proofs.Common.{◌≡◌, ◌≤◌, OnOk, Result, arith, inl, inr, ⊎_elim, ◌∙◌}
 use Rattle.std.specs.Prelude.{Err, Ok}
 use Rattle.kmip_disk.specs.Calls.{Counts, Elapses, LeavesFile}
 use Rattle.kmip_disk.specs.Views.{Content, DiskView}
@@ -56,6 +56,6 @@ alone_twice old mid new lawful first second = record {
 }
 
 -- a count that had not fallen before rises by a failure
-pub counts_on : {A E : Type 0} (old mid new : DiskView) (result : Result A E) → old.failures ≤ mid.failures → Counts mid result new → Counts old result new
-counts_on old mid new (Ok _) le counts = record { later = omega (arith, le, counts.later); failed = tt }
-counts_on old mid new (Err _) le counts = record { later = omega (arith, le, counts.later); failed = omega (arith, le, counts.failed) }
+pub counts_on : {A E : Type 0} (old mid new : DiskView) (result : Result A E) → mid.limit ≡ old.limit → old.failures ≤ mid.failures → Counts mid result new → Counts old result new
+counts_on old mid new (Ok _) limit le counts = record { limit = counts.limit ∙ limit; later = omega (arith, le, counts.later); failed = tt }
+counts_on old mid new (Err _) limit le counts = record { limit = counts.limit ∙ limit; later = omega (arith, le, counts.later); failed = omega (arith, le, counts.failed) }

@@ -15,7 +15,7 @@ put_synced {E} a b c d text u v result lawful made written synced =
       alone = alone_twice a b d lawful made.alone (alone_twice b c d made.alone.lawful written.alone synced.alone);
       beside = on_ok result (λ same. same ∙ has) synced.same;
       durable = on_ok result (λ only x kept. only x kept ∙ has) synced.durable;
-      counted = counts_on a c d result (omega (arith, made.counted.later, written.counted.later)) synced.counted;
+      counted = counts_on a c d result (written.counted.limit ∙ made.counted.limit) (omega (arith, made.counted.later, written.counted.later)) synced.counted;
     }
 
 -- nothing was done but beside the file
@@ -42,7 +42,7 @@ replaced_by {E} a b c text u result lawful put moves =
       whole = ⊎_elim (λ keeps. inl (keeps.file ∙ put.alone.file)) (λ takes. inr (takes.file ∙ put.beside)) moves.whole;
       any_moment = goes_on a b c P so_far moves.time (λ x left. ⊎_elim (now_too a b P so_far put.alone.lawful x) (λ kept. inr (put.durable x kept)) (moves.crash x left));
       still = λ was. ⊎_elim (stayed was) taken moves.whole;
-      counted = counts_on a b c result put.counted.later moves.counted;
+      counted = counts_on a b c result put.counted.limit put.counted.later moves.counted;
     }
 
 -- and what is beside the file is removed
@@ -56,6 +56,7 @@ tidied {E} a b c text fault result replaced removed = record {
   tidied = removed_or_not result removed;
   failed = omega (arith, replaced.counted.failed, removed.counted.later);
   later = omega (arith, replaced.counted.later, removed.counted.later);
+  limit = removed.counted.limit ∙ replaced.counted.limit;
 }
   where
     removed_or_not : (r : Result (Unit {0}) E) → RemovesBeside b r c → (c.beside ≡ None) ⊎ HasRisenBy 2 a.failures c.failures
@@ -73,6 +74,7 @@ tidy a b text u replaced = record {
   tidied = tt;
   failed = tt;
   later = replaced.counted.later;
+  limit = replaced.counted.limit;
 }
 
 -- where the text stands there already, nothing is written
@@ -86,6 +88,7 @@ not_written a text u lawful has = record {
   tidied = tt;
   failed = tt;
   later = omega arith;
+  limit = refl;
 }
 
 -- the text that was told as the last one is this

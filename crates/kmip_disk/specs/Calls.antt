@@ -16,8 +16,9 @@ pub record Elapses (old new : DiskView) : Type 0 where
 abbrev pub HasRisenBy : ℕ → ℕ → ℕ → Type 0
 HasRisenBy n old new = min (old + n) (2 ^ 64 - 1) ≤ new
 
--- A call that failed was counted, and no count falls.
+-- A call that failed was counted, and no count falls. No call changes after how many calls the disk stops.
 pub record Counts {A E : Type 0} (old : DiskView) (result : Result A E) (new : DiskView) : Type 0 where
+  pub limit : new.limit ≡ old.limit
   pub later : old.failures ≤ new.failures
   pub failed : OnErr result (HasRisenBy 1 old.failures new.failures)
 

@@ -15,6 +15,7 @@ unclaimed failures = record {
   moment = 0;
   left_since = λ t c. ⊥;
   failures = failures;
+  limit = None;
   kill_loses_nothing = λ lawful. absurd lawful;
   counts_now = λ lawful. absurd lawful;
   only_now = λ lawful. absurd lawful;

@@ -27,6 +27,8 @@ pub record DiskView : Type 1 where
   pub left_since : ℕ → Content → Type 0
   -- How many calls have failed, up to 2^64 - 1.
   pub failures : ℕ
+  -- After how many calls it stops, if it is one that stops after a number of them.
+  pub limit : Option ℕ
   -- A program that is killed loses nothing: what a read gives is among what a crash may leave.
   pub kill_loses_nothing : lawful → may_leave file
   -- This moment is one of those since an earlier one.

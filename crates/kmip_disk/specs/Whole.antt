@@ -45,6 +45,8 @@ pub record WritesWhole {E : Type 0} (old : DiskView) (text : List ℕ) (result :
   -- It fails only where a call of the disk failed. No count falls.
   pub failed : OnErr result (HasRisenBy 1 old.failures new.failures)
   pub later : old.failures ≤ new.failures
+  -- It changes nothing of after how many calls the disk stops.
+  pub limit : new.limit ≡ old.limit
 
 -- What was written is made to last.
 pub record Closes {E : Type 0} (old : DiskView) (result : Result (Unit {0}) E) (new : DiskView) : Type 0 where
@@ -62,6 +64,8 @@ pub record Closes {E : Type 0} (old : DiskView) (result : Result (Unit {0}) E) (
   pub still : IsWritten old → IsWritten new
   -- It fails only where a call of the disk failed.
   pub failed : OnErr result (HasRisenBy 1 old.failures new.failures)
+  -- It changes nothing of after how many calls the disk stops.
+  pub limit : new.limit ≡ old.limit
 
 -- A crash leaves this text, whole, and nothing else.
 abbrev pub LeavesText : DiskView → List ℕ → Type 0
@@ -83,6 +87,8 @@ pub record Saves {E : Type 0} (old : DiskView) (text : List ℕ) (result : Resul
   pub still : IsWritten old → IsWritten new
   -- It fails only where a call of the disk failed.
   pub failed : OnErr result (HasRisenBy 1 old.failures new.failures)
+  -- It changes nothing of after how many calls the disk stops.
+  pub limit : new.limit ≡ old.limit
 
 -- One of these texts, whole.
 abbrev pub IsOneOf : List (List ℕ) → Content → Type 0

@@ -1,8 +1,8 @@
 //! A disk in memory, which stops where it is told to.
-ghost use Rattle.std.specs.Prelude.{◌≡◌, ◌⊎◌, ◌++◌, ◌∷◌, [], IfOk, None, OnErr, OnOk, Some, List, ℕ};
-ghost use Rattle.kmip_disk.specs.Calls.{LeavesFile};
+ghost use Rattle.std.specs.Prelude.{◌≡◌, ◌⊎◌, ◌<◌, ◌+◌, ◌-◌, ◌++◌, ◌∷◌, [], get_or, length, Err, IfErr, IfOk, None, OnErr, OnOk, Some, List, ℕ};
+ghost use Rattle.kmip_disk.specs.Calls.{CreatesBeside, LeavesFile, ReadsFile, RemovesBeside, Renames, SyncsBeside, SyncsFolder, WritesBeside};
 ghost use Rattle.kmip_disk.specs.Views.{Content};
-ghost use Rattle.kmip_disk.specs.Memory.{IsOutcome, IsOutcomeOfOne, bytes_of, memory_view};
+ghost use Rattle.kmip_disk.specs.Memory.{IsOutcome, IsOutcomeOfOne, bytes_left_of, bytes_of, memory_view, outcome_at};
 
 use crate::disk::Disk;
 use crate::memory_fault::MemoryFault;
@@ -37,6 +37,9 @@ impl MemoryDisk {
         ensures beside { (memory_view result).beside ≡ None }
         // A crash leaves no file.
         ensures crash { (c : Content) → (memory_view result).may_leave c → c ≡ None }
+        // It stops after so many calls, and all of them are left.
+        ensures limit { result.turns.limit ≡ calls }
+        ensures left { result.turns.left ≡ calls }
     {
         MemoryDisk {
             alloc,
@@ -44,10 +47,7 @@ impl MemoryDisk {
             beside: None,
             back: Vec::new(alloc),
             gone: Vec::new(alloc),
-            turns: Turns {
-                left: calls,
-                failures: 0,
-            },
+            turns: Turns::of(calls),
         }
     }
 
@@ -58,13 +58,19 @@ impl MemoryDisk {
         ensures alone { LeavesFile (memory_view self.old) (memory_view self.new) }
         // So does the file beside.
         ensures beside { (memory_view self.new).beside ≡ (memory_view self.old).beside }
+        // It stops after so many calls, and all of them are left.
+        ensures limit { self.new.turns.limit ≡ calls }
+        ensures left { self.new.turns.left ≡ calls }
     {
+        self.turns.limit = calls;
         self.turns.left = calls;
     }
 
     /// How many files a crash at this moment may leave in the file's place, of which `after_crash` leaves one.
-    pub fn outcomes(&self) -> usize {
-        self.back.len().saturating_add(1)
+    pub fn outcomes(&self) -> usize
+        ensures { result ≡ length self.now.back.items + 1 }
+    {
+        self.back.len() + 1
     }
 
     /// The disk as a crash at this moment leaves it, which then stops after so many calls. In the file's place
@@ -72,8 +78,15 @@ impl MemoryDisk {
     /// Of bytes that are not on the disk the first half is left.
     ///
     /// # Errors
-    /// Where there is no memory.
+    /// `NoMemory`, and no other.
     pub fn after_crash(&self, which: usize, calls: usize) -> Result<MemoryDisk, MemoryFault>
+        // It is the one of this number.
+        ensures which { IfOk result (λ disk.
+            (memory_view disk).file ≡ bytes_left_of (outcome_at self.now which)) }
+        // It stops after so many calls, and all of them are left.
+        ensures limit { IfOk result (λ disk. disk.turns.limit ≡ calls) }
+        ensures calls { IfOk result (λ disk. disk.turns.left ≡ calls) }
+        ensures refused { IfErr result (λ fault. fault ≡ MemoryFault.NoMemory) }
         // It is one of those that a crash may leave.
         ensures left { IfOk result (λ disk.
             (memory_view self.now).may_leave (memory_view disk).file) }
@@ -89,10 +102,7 @@ impl MemoryDisk {
             beside,
             back: Vec::new(self.alloc),
             gone: Vec::new(self.alloc),
-            turns: Turns {
-                left: calls,
-                failures: 0,
-            },
+            turns: Turns::of(calls),
         })
     }
 }
@@ -103,8 +113,9 @@ fn file_at<'a>(
     back: &'a [Option<StoredFile>],
     which: usize,
 ) -> &'a Option<StoredFile>
-    ensures { (c : Content) → IsOutcome result.now c
+    ensures one { (c : Content) → IsOutcome result.now c
         → IsOutcome file.now c ⊎ IsOutcomeOfOne back.now c }
+    ensures which { result.now ≡ get_or back.now which file.now }
 {
     if which < back.len() {
         &back[which]
@@ -116,6 +127,8 @@ fn file_at<'a>(
 /// What a crash leaves of a file: its bytes, or the first half of them where they are not on the disk.
 fn left_of(alloc: Global, file: &Option<StoredFile>) -> Result<Option<StoredFile>, MemoryFault>
     ensures left { IfOk result (λ left. IsOutcome file.now (bytes_of left)) }
+    ensures bytes { IfOk result (λ left. bytes_of left ≡ bytes_left_of file.now) }
+    ensures refused { IfErr result (λ fault. fault ≡ MemoryFault.NoMemory) }
     ensures only { IfOk result (λ left. (c : Content) → IsOutcome left c → c ≡ bytes_of left) }
 {
     let Some(file) = file else {
@@ -200,7 +213,11 @@ impl Disk for MemoryDisk {
         matches!(fault, MemoryFault::NoMemory)
     }
 
-    fn create_beside(&mut self) -> Result<(), MemoryFault> {
+    fn create_beside(&mut self) -> Result<(), MemoryFault>
+        ensures done { CreatesBeside (memory_view self.old) result (memory_view self.new) }
+        ensures turn { self.new.turns.left ≡ self.old.turns.left - 1 }
+        ensures stopped { self.old.turns.left ≡ 0 → result ≡ Err MemoryFault.Stopped }
+    {
         self.turns.take_turn()?;
         self.beside = Some(StoredFile {
             bytes: Vec::new(self.alloc),
@@ -209,7 +226,11 @@ impl Disk for MemoryDisk {
         Ok(())
     }
 
-    fn write_beside(&mut self, bytes: &[u8]) -> Result<(), MemoryFault> {
+    fn write_beside(&mut self, bytes: &[u8]) -> Result<(), MemoryFault>
+        ensures done { WritesBeside (memory_view self.old) bytes.now result (memory_view self.new) }
+        ensures turn { self.new.turns.left ≡ self.old.turns.left - 1 }
+        ensures stopped { self.old.turns.left ≡ 0 → result ≡ Err MemoryFault.Stopped }
+    {
         self.turns.take_turn()?;
         match write_at_end(&mut self.beside, bytes) {
             Ok(()) => Ok(()),
@@ -217,7 +238,11 @@ impl Disk for MemoryDisk {
         }
     }
 
-    fn sync_beside(&mut self) -> Result<(), MemoryFault> {
+    fn sync_beside(&mut self) -> Result<(), MemoryFault>
+        ensures done { SyncsBeside (memory_view self.old) result (memory_view self.new) }
+        ensures turn { self.new.turns.left ≡ self.old.turns.left - 1 }
+        ensures stopped { self.old.turns.left ≡ 0 → result ≡ Err MemoryFault.Stopped }
+    {
         self.turns.take_turn()?;
         match sync(&mut self.beside) {
             Ok(()) => Ok(()),
@@ -225,7 +250,11 @@ impl Disk for MemoryDisk {
         }
     }
 
-    fn rename(&mut self) -> Result<(), MemoryFault> {
+    fn rename(&mut self) -> Result<(), MemoryFault>
+        ensures done { Renames (memory_view self.old) result (memory_view self.new) }
+        ensures turn { self.new.turns.left ≡ self.old.turns.left - 1 }
+        ensures stopped { self.old.turns.left ≡ 0 → result ≡ Err MemoryFault.Stopped }
+    {
         self.turns.take_turn()?;
         match replace(&mut self.file, &mut self.beside, &mut self.back) {
             Ok(()) => Ok(()),
@@ -233,7 +262,11 @@ impl Disk for MemoryDisk {
         }
     }
 
-    fn sync_folder(&mut self) -> Result<(), MemoryFault> {
+    fn sync_folder(&mut self) -> Result<(), MemoryFault>
+        ensures done { SyncsFolder (memory_view self.old) result (memory_view self.new) }
+        ensures turn { self.new.turns.left ≡ self.old.turns.left - 1 }
+        ensures stopped { self.old.turns.left ≡ 0 → result ≡ Err MemoryFault.Stopped }
+    {
         self.turns.take_turn()?;
         match self.gone.append(&mut self.back) {
             Ok(()) => Ok(()),
@@ -241,13 +274,22 @@ impl Disk for MemoryDisk {
         }
     }
 
-    fn remove_beside(&mut self) -> Result<(), MemoryFault> {
+    fn remove_beside(&mut self) -> Result<(), MemoryFault>
+        ensures done { RemovesBeside (memory_view self.old) result (memory_view self.new) }
+        ensures turn { self.new.turns.left ≡ self.old.turns.left - 1 }
+        ensures stopped { self.old.turns.left ≡ 0 → result ≡ Err MemoryFault.Stopped }
+    {
         self.turns.take_turn()?;
         self.beside = None;
         Ok(())
     }
 
-    fn read(&self, alloc: Global) -> Result<Option<Vec<u8>>, MemoryFault> {
+    fn read(&self, alloc: Global) -> Result<Option<Vec<u8>>, MemoryFault>
+        ensures read { ReadsFile (λ v. v.items) (memory_view self.now) result }
+        ensures going { OnOk result (0 < self.now.turns.left) }
+        ensures refused { 0 < self.now.turns.left
+            → IfErr result (λ fault. fault ≡ MemoryFault.NoMemory) }
+    {
         if self.turns.left == 0 {
             return Err(MemoryFault::Stopped);
         }

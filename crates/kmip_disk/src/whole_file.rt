@@ -137,16 +137,16 @@ fn put_beside<D: Disk>(disk: &mut D, text: &[u8]) -> Result<(), D::Fault>
 /// Makes an empty file beside the file. A file that a run left there is removed.
 ///
 /// # Errors
-/// Why the file could not be made at first, if none could be removed.
+/// Why the file could not be made, or why what is in its place could not be removed.
 fn create<D: Disk>(disk: &mut D) -> Result<(), D::Fault>
     ensures { (D.view disk.old).lawful
         → CreatesBeside (D.view disk.old) result (D.view disk.new) }
 {
-    let Err(fault) = disk.create_beside() else {
-        return Ok(());
-    };
-    match disk.remove_beside() {
-        Ok(()) => disk.create_beside(),
-        Err(_) => Err(fault),
+    match disk.create_beside() {
+        Ok(()) => Ok(()),
+        Err(_) => {
+            disk.remove_beside()?;
+            disk.create_beside()
+        }
     }
 }

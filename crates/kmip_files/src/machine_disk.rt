@@ -38,15 +38,6 @@ impl<'a, R: Files> MachineDisk<'a, R> {
     }
 }
 
-impl<'a, R: Files> MachineDisk<'a, R> {
-    /// Makes the file beside, if there is none.
-    fn make_beside(&self) -> io::Result<R::File> {
-        let mut options = OpenOptions::new();
-        options.write(true).create_new(true).mode(self.mode);
-        options.open(self.rt, self.beside)
-    }
-}
-
 impl<'a, R: Files> Disk for MachineDisk<'a, R> {
     ghost use Rattle.kmip_disk.specs.Private.{unclaimed};
 
@@ -59,14 +50,9 @@ impl<'a, R: Files> Disk for MachineDisk<'a, R> {
     }
 
     fn create_beside(&mut self) -> io::Result<()> {
-        let made = match self.make_beside() {
-            Err(error) if error.kind() == ErrorKind::AlreadyExists => {
-                fs::remove_file(self.rt, self.beside)?;
-                self.make_beside()?
-            }
-            made => made?,
-        };
-        self.file = Some(made);
+        let mut options = OpenOptions::new();
+        options.write(true).create_new(true).mode(self.mode);
+        self.file = Some(options.open(self.rt, self.beside)?);
         Ok(())
     }
 
@@ -94,7 +80,10 @@ impl<'a, R: Files> Disk for MachineDisk<'a, R> {
 
     fn remove_beside(&mut self) -> io::Result<()> {
         self.file = None;
-        fs::remove_file(self.rt, self.beside)
+        match fs::remove_file(self.rt, self.beside) {
+            Err(error) if error.kind() == ErrorKind::NotFound => Ok(()),
+            removed => removed,
+        }
     }
 
     fn read(&self, alloc: Global) -> io::Result<Option<Vec<u8>>> {

@@ -13,7 +13,7 @@ use Rattle.kmip_plan_commands.specs.Checking.{check_after_text, IsRefusedAfter}
 use Rattle.kmip_plan_commands.specs.SimEnds.{IsRefusedFor, IsRun}
 use Rattle.kmip_plan_commands.specs.declared.sim_end.SimEnd.{SimEnd}
 use Rattle.kmip_plan_commands.specs.declared.sim_end.SimEnd.TheVariants.{CrashRefused, Ran}
-use Rattle.kmip_simulation.specs.Simulating.{IsCrashOf}
+use Rattle.kmip_simulation.specs.Simulating.{RefusesCrashOf}
 
 -- What reading a script gives in which `prolong` has to stand so often, and no `crash` beside it.
 abbrev pub GivesWords : List ℕ → ℕ → Result (List Word) ScriptFault → Type 0
@@ -25,7 +25,7 @@ GivesWords script prolonged (Err ScriptNoMemory) = Unit {0}
 -- How these words ended for the keys of a plan: the disk of a run does not allow its crash, or their runs were
 -- made.
 abbrev pub Plays : ℕ → List Key → List Word → SimEnd → Type 0
-Plays batch keys words (CrashRefused number) = IsCrashOf keys words number
+Plays batch keys words (CrashRefused number) = RefusesCrashOf keys batch words number
 Plays batch keys words (Ran simulation) = (simulation.words ≡ words) × IsRun batch keys words simulation.end simulation.link
 Plays batch keys words end = ⊥
 

@@ -9,7 +9,7 @@ use Rattle.kmip_scripted.specs.Scenes.{Scene}
 use Rattle.kmip_scripted.specs.ScriptTexts.{FailsAt, IsScript}
 use Rattle.kmip_scripted.specs.Words.{crashes, prolongings}
 use Rattle.kmip_scripted.specs.declared.word.Word.{Word}
-use Rattle.kmip_simulation.specs.Simulating.{AreSimulated, IsCrashOf, IsSimulated, IsSimulatedWithCrashes}
+use Rattle.kmip_simulation.specs.Simulating.{AreSimulated, IsSimulated, IsSimulatedWithCrashes, RefusesCrashOf}
 use Rattle.kmip_simulation.specs.declared.simulation.Simulation.{Simulation}
 use Rattle.kmip_plan_commands.specs.declared.sim_end.SimEnd.{SimEnd}
 use Rattle.kmip_plan_commands.specs.declared.sim_end.SimEnd.TheVariants.{PlanRefused, ProlongsNot, ScriptRefused, CrashRefused, Ran}
@@ -61,19 +61,19 @@ pub record IsRun (batch : ℕ) (keys : List Key) (words : List Word) (end : Camp
   pub crashed : 0 < crashes words → IsSimulatedWithCrashes keys batch words end link
 
 -- The disk of the run of this number does not allow the crash that the script has for it.
-pub record HasRefusedCrash (keys : List Key) (script : List ℕ) (number : ℕ) : Type 0 where
+pub record HasRefusedCrash (batch : ℕ) (keys : List Key) (script : List ℕ) (number : ℕ) : Type 0 where
   -- The words of the script.
   pub words : List Word
   -- The script has these words.
   pub is_script : IsScript script words
   -- None of them is `prolong`.
   pub none : prolongings words ≡ 0
-  -- They have a crash for the run of this number.
-  pub crash : IsCrashOf keys words number
+  -- They have a crash for the run of this number, and it was refused.
+  pub crash : RefusesCrashOf keys batch words number
 
 -- How a script ended for the keys of a plan, of which each message asks about so many at most.
 abbrev pub EndsPlan : ℕ → List Key → List ℕ → SimEnd → Type 0
-EndsPlan batch keys script (CrashRefused number) = HasRefusedCrash keys script number
+EndsPlan batch keys script (CrashRefused number) = HasRefusedCrash batch keys script number
 EndsPlan batch keys script end = EndsScript (IsRun batch keys) script 0 end
 
 -- How a script ended for the keys of a plan and, behind its one `prolong`, for those of a further one: the

@@ -10,6 +10,7 @@ use Rattle.kmip_runs.specs.declared.stop.Stop.{Stop}
 use Rattle.kmip_runs.specs.declared.stop.Stop.TheVariants as stops
 use Rattle.kmip_runs.specs.Saved.{IsInMemory, IsWhole}
 use Rattle.kmip_runs.specs.declared.save_fault.SaveFault.{SaveFault}
+use Rattle.kmip_runs.specs.declared.save_fault.SaveFault.TheVariants as faults
 use Rattle.kmip_runs.proofs.CarryLemmas.{whole_before}
 use Rattle.kmip_runs.proofs.WentLemmas.{stop_is}
 
@@ -24,7 +25,7 @@ sent_long keys most old new knowns nexts made learnt =
 
 -- where memory sufficed and all was saved
 pub ended_whole : {V E : Type 0} (keys : List Key) (most : ℕ) (old mid : Past) (knowns nexts : List Knowledge) (closed : Result V E) (result last : Result Stop SaveFault) (made : ℕ)
-    (before noted after : List ℕ) → OnOk closed (last ≡ result) → OnErr closed (OnOk result (last ≡ Ok stops.NoMemory)) → OnErr result (last ≡ result)
+    (before noted after : List ℕ) → OnOk closed (last ≡ result) → OnErr closed (OnOk result (last ≡ Ok stops.NoMemory)) → OnErr closed (OnErr result (last ≡ Err faults.NoMemory))
     → (IsInMemory result → Learnt keys most old mid knowns nexts made) → noted ≡ before → OnOk closed (EndedAt (length mid.sent) noted after) → IsWhole last
     → EndedAt (length old.sent + made) before after
 ended_whole keys most old mid knowns nexts closed result last made before noted after same stop fault learnt none close whole =

@@ -28,6 +28,7 @@ use Rattle.kmip_runs.specs.PrivateCarried.{Carried, CarryingLaws, SavesProgress,
 use Rattle.kmip_runs.specs.PrivateTurns.{MakesTurn}
 use Rattle.kmip_runs.specs.Saved.{AreUnsaved, Grounds, IsInMemory, IsLeft, IsWhole, Situation, grounds_in, moment, text_at}
 use Rattle.kmip_runs.specs.declared.save_fault.SaveFault.{SaveFault}
+use Rattle.kmip_runs.specs.declared.save_fault.SaveFault.TheVariants as faults
 use Rattle.kmip_runs.specs.declared.turn_fault.TurnFault.{TurnFault}
 use Rattle.kmip_runs.specs.declared.turn_fault.TurnFault.TheVariants.{Unmade, Unheard}
 use Rattle.kmip_runs.proofs.KnownLemmas.{learnt_nothing, learnt_still, stays_itself}
@@ -46,26 +47,26 @@ at_most_one stops.Conflict count are = omega (arith, are)
 at_most_one stops.NoMemory count are = are
 
 still_unsaved : {V E : Type 0} (closed : Result V E) (result last : Result Stop SaveFault) → OnOk closed (last ≡ result) → OnErr closed (OnOk result (last ≡ Ok stops.NoMemory))
-    → OnErr result (last ≡ result) → (count : ℕ) → AreUnsaved result count → AreUnsaved last count
+    → OnErr closed (OnErr result (last ≡ Err faults.NoMemory)) → (count : ℕ) → AreUnsaved result count → AreUnsaved last count
 still_unsaved (Ok v) result last same stop fault count are = subst (λ r. AreUnsaved r count) (sym same) are
 still_unsaved (Err e) (Ok s) last same stop fault count are = subst (λ r. AreUnsaved r count) (sym stop) (at_most_one s count are)
 still_unsaved (Err e) (Err f) last same stop fault count are = subst (λ r. AreUnsaved r count) (sym fault) are
 
 still_tried : {V E : Type 0} (closed : Result V E) (result last : Result Stop SaveFault) → OnOk closed (last ≡ result) → OnErr closed (OnOk result (last ≡ Ok stops.NoMemory))
-    → OnErr result (last ≡ result) → (text : List ℕ) (texts : List (List ℕ)) → IsTried result text texts → IsTried last text texts
+    → OnErr closed (OnErr result (last ≡ Err faults.NoMemory)) → (text : List ℕ) (texts : List (List ℕ)) → IsTried result text texts → IsTried last text texts
 still_tried (Ok v) result last same stop fault text texts is = subst (λ r. IsTried r text texts) (sym same) is
 still_tried (Err e) (Ok s) last same stop fault text texts is = subst (λ r. IsTried r text texts) (sym stop) is
 still_tried (Err e) (Err f) last same stop fault text texts is = subst (λ r. IsTried r text texts) (sym fault) is
 
 pub memory_before : {V E : Type 0} (closed : Result V E) (result last : Result Stop SaveFault) → OnOk closed (last ≡ result) → OnErr closed (OnOk result (last ≡ Ok stops.NoMemory))
-    → OnErr result (last ≡ result) → IsInMemory last → IsInMemory result
+    → OnErr closed (OnErr result (last ≡ Err faults.NoMemory)) → IsInMemory last → IsInMemory result
 memory_before (Ok v) result last same stop fault memory = λ is. memory (same ∙ is)
 memory_before (Err e) (Ok s) last same stop fault memory = absurd (memory stop)
-memory_before (Err e) (Err f) last same stop fault memory = λ is. memory (fault ∙ is)
+memory_before (Err e) (Err f) last same stop fault memory = λ is. absurd cc
 
 -- where memory ran out at the end, it did before, or only there
 pub cut_before : {V E : Type 0} (closed : Result V E) (result last : Result Stop SaveFault) → OnOk closed (last ≡ result) → OnErr closed (OnOk result (last ≡ Ok stops.NoMemory))
-    → OnErr result (last ≡ result) → last ≡ Ok stops.NoMemory → (result ≡ Ok stops.NoMemory) ⊎ IsInMemory result
+    → OnErr closed (OnErr result (last ≡ Err faults.NoMemory)) → last ≡ Ok stops.NoMemory → (result ≡ Ok stops.NoMemory) ⊎ IsInMemory result
 cut_before (Ok v) result last same stop fault is = inl (sym same ∙ is)
 cut_before (Err e) (Ok stops.AllFinished) last same stop fault is = inr (λ so. absurd cc)
 cut_before (Err e) (Ok stops.Limit) last same stop fault is = inr (λ so. absurd cc)
@@ -74,7 +75,7 @@ cut_before (Err e) (Ok stops.NoMemory) last same stop fault is = inl refl
 cut_before (Err e) (Err f) last same stop fault is = inr (λ so. absurd cc)
 
 pub whole_before : {V E P : Type 0} (closed : Result V E) (result last : Result Stop SaveFault) → OnOk closed (last ≡ result) → OnErr closed (OnOk result (last ≡ Ok stops.NoMemory))
-    → OnErr result (last ≡ result) → IsWhole last → IsWhole result × (OnOk closed P → P)
+    → OnErr closed (OnErr result (last ≡ Err faults.NoMemory)) → IsWhole last → IsWhole result × (OnOk closed P → P)
 whole_before (Ok v) result last same stop fault whole = (subst IsWhole same whole, λ p. p)
 whole_before (Err e) (Ok s) last same stop fault whole = absurd (subst IsWhole stop whole refl)
 whole_before (Err e) (Err f) last same stop fault whole = absurd (subst IsWhole fault whole)
@@ -307,7 +308,7 @@ pub carried_closed : {V E : Type 0} → CarryingLaws → (a b : Situation) (z : 
     → IsLawful a.client.keys → ((names : Names) → b.link.honest names → z.honest names × Delivered names b.link.past z.past)
     → ((keys : List Key) → b.link.amid keys → Sound keys b.link.past → z.amid keys × PassedAmid keys b.link.past z.past)
     → ((names : Names) → b.link.calm names → z.calm names × OnOk closed (z.past ≡ b.link.past)) → OnOk closed (ended ≡ result)
-    → OnErr closed (OnOk result (ended ≡ Ok stops.NoMemory)) → OnErr result (ended ≡ result)
+    → OnErr closed (OnOk result (ended ≡ Ok stops.NoMemory)) → OnErr closed (OnErr result (ended ≡ Err faults.NoMemory))
     → Carried a b result m → Carried a (record b { link = z }) ended m
 carried_closed l a b z result ended closed m lawful delivers passes calms same stop fault first =
     let memory = memory_before closed result ended same stop fault in
@@ -357,21 +358,21 @@ carried_kept a b k result closed m same lasts first = record {
 -- ---- how it ends
 
 pub stands_last : (c : ClientState) → {V E : Type 0} (closed : Result V E) (result last : Result Stop SaveFault) → OnOk closed (last ≡ result)
-    → OnErr closed (OnOk result (last ≡ Ok stops.NoMemory)) → OnErr result (last ≡ result) → IfOk result (λ stop. IsBorneOut stop c.keys c.knowns)
+    → OnErr closed (OnOk result (last ≡ Ok stops.NoMemory)) → OnErr closed (OnErr result (last ≡ Err faults.NoMemory)) → IfOk result (λ stop. IsBorneOut stop c.keys c.knowns)
     → IfOk last (λ stop. IsBorneOut stop c.keys c.knowns)
 stands_last c (Ok v) result last same stop fault stands = subst (λ r. IfOk r (λ s. IsBorneOut s c.keys c.knowns)) (sym same) stands
 stands_last c (Err e) (Ok s) last same stop fault stands = subst (λ r. IfOk r (λ s. IsBorneOut s c.keys c.knowns)) (sym stop) tt
 stands_last c (Err e) (Err f) last same stop fault stands = subst (λ r. IfOk r (λ s. IsBorneOut s c.keys c.knowns)) (sym fault) tt
 
 pub limit_last : {V E : Type 0} (closed : Result V E) (result last : Result Stop SaveFault) → OnOk closed (last ≡ result) → OnErr closed (OnOk result (last ≡ Ok stops.NoMemory))
-    → OnErr result (last ≡ result) → last ≡ Ok stops.Limit → result ≡ Ok stops.Limit
+    → OnErr closed (OnErr result (last ≡ Err faults.NoMemory)) → last ≡ Ok stops.Limit → result ≡ Ok stops.Limit
 limit_last (Ok v) result last same stop fault is = sym same ∙ is
 limit_last (Err e) (Ok s) last same stop fault is = let both = stop_is stops.NoMemory stops.Limit (sym stop ∙ is) in absurd cc
-limit_last (Err e) (Err f) last same stop fault is = sym fault ∙ is
+limit_last (Err e) (Err f) last same stop fault is = let both : Err faults.NoMemory ≡ Ok stops.Limit = sym fault ∙ is in absurd cc
 
 -- where it was left, it is once the run has ended
 pub left_last : {V E : Type 0} (closed : Result V E) (result last : Result Stop SaveFault) → OnOk closed (last ≡ result) → OnErr closed (OnOk result (last ≡ Ok stops.NoMemory))
-    → OnErr result (last ≡ result) → IsLeft result → IsLeft last
+    → OnErr closed (OnErr result (last ≡ Err faults.NoMemory)) → IsLeft result → IsLeft last
 left_last (Ok v) result last same stop fault left = subst IsLeft (sym same) left
 left_last (Err e) (Ok s) last same stop fault left = inr stop
 left_last (Err e) (Err f) last same stop fault (inl is) = absurd cc

@@ -1,7 +1,7 @@
 -- For keepers over a disk: what the calls of a file that is replaced whole are to who keeps texts in it. For commands: what is kept of a run
 -- under other premises.
-use Rattle.std.proofs.Common.{Err, Ok, List, OnOk, Result, inl, refl, ℕ}
-use Rattle.kmip_disk.specs.Views.{Content, DiskView}
+use Rattle.std.proofs.Common.{Err, Ok, List, Result, inl, refl, ℕ}
+use Rattle.kmip_disk.specs.Views.{DiskView}
 use Rattle.kmip_disk.specs.Whole.{Closes, IsBeforeOrText, WritesWhole}
 use Rattle.kmip_disk.proofs.ForCallers.{nothing_since}
 use Rattle.kmip_plan.specs.declared.key.Key.{Key}
@@ -20,6 +20,7 @@ saves_nothing disk text fault lawful = record {
   whole = inl refl;
   any_moment = nothing_since disk lawful (IsBeforeOrText disk text) (λ c left. inl left);
   still = λ was. was;
+  limit = refl;
 }
 
 -- the text was written
@@ -30,6 +31,7 @@ saves_whole old new text done wrote = record {
   whole = wrote.whole;
   any_moment = wrote.any_moment;
   still = wrote.still;
+  limit = wrote.limit;
 }
 
 -- it could not be
@@ -40,6 +42,7 @@ saves_not old new text fault other wrote = record {
   whole = wrote.whole;
   any_moment = wrote.any_moment;
   still = wrote.still;
+  limit = wrote.limit;
 }
 
 -- it was made to last
@@ -49,6 +52,7 @@ lasts old new done closed = record {
   same = closed.same;
   any_moment = closed.any_moment;
   still = closed.still;
+  limit = closed.limit;
   lasts = closed.durable;
 }
 
@@ -59,6 +63,7 @@ lasts_not old new fault other closed = record {
   same = closed.same;
   any_moment = closed.any_moment;
   still = closed.still;
+  limit = closed.limit;
   lasts = λ written. tt;
 }
 

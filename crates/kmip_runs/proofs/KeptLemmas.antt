@@ -1,5 +1,5 @@
 -- What is kept of several exchanges, and of the end of a run.
-use Rattle.std.proofs.Common.{◌≡◌, ◌≢◌, ◌≤◌, ℕ, ◌+◌, List, [], ◌∷◌, ◌++◌, map, Result, Ok, Err, sym, ap, subst, refl, ◌∙◌, append_assoc, append-nil}
+use Rattle.std.proofs.Common.{◌≡◌, ◌≢◌, ℕ, ◌+◌, List, ◌++◌, map, Result, Ok, sym, ap, ◌∙◌, append_assoc}
 use Rattle.std.proofs.lemmas.List.{map-append}
 use Rattle.kmip_client.specs.Laws.{HearingIsBlind, OnwardTwice}
 use Rattle.kmip_plan.specs.declared.key.Key.{Key}

@@ -1,5 +1,5 @@
 -- What is kept of exchanges, one after the other: their moments, the texts that were saved, and what a crash may leave.
-use Rattle.std.proofs.Common.{◌≡◌, ◌≢◌, ◌≤◌, ◌⊎◌, ℕ, zero, suc, ◌+◌, List, [], ◌∷◌, ◌++◌, map, Result, Ok, Err, OnErr, OnOk, Some, sym, ap, subst, refl, ◌∙◌, append_assoc, append-nil, inl, inr, arith}
+use Rattle.std.proofs.Common.{◌≡◌, ◌≢◌, ◌≤◌, ◌⊎◌, ℕ, zero, suc, ◌+◌, List, [], ◌∷◌, ◌++◌, map, Result, Ok, Err, OnErr, Some, sym, ap, subst, refl, ◌∙◌, append_assoc, append-nil, inl, inr, arith}
 use Rattle.std.proofs.lemmas.List.{map-append}
 use Rattle.std.proofs.lemmas.List.Elements.{All-append, All-cons, All-nil}
 use Rattle.kmip_client.specs.Clients.{ClientState}
@@ -10,9 +10,9 @@ use Rattle.kmip_plan.specs.declared.key.Key.{Key}
 use Rattle.kmip_runs.specs.declared.stop.Stop.{Stop}
 use Rattle.kmip_runs.specs.declared.stop.Stop.TheVariants as stops
 use Rattle.kmip_runs.specs.declared.save_fault.SaveFault.{SaveFault}
-use Rattle.kmip_runs.specs.Keeping.{Kept, MakesLast}
+use Rattle.kmip_runs.specs.Keeping.{MakesLast}
 use Rattle.kmip_runs.specs.Lasting.{IsReadBack, IsTextOf, IsTried, Leaves, LeavesTheFile}
-use Rattle.kmip_runs.specs.PrivateCarried.{SavesProgress, WritesNothing, WritesProgress}
+use Rattle.kmip_runs.specs.PrivateCarried.{SavesProgress, WritesProgress}
 use Rattle.kmip_runs.specs.Saved.{IsWhole, Moment, text_at}
 
 -- a read gives the text of what was known at this moment
@@ -30,6 +30,7 @@ leaves_same keys honest ended disk stop made lawful none = record {
   read_back = All-nil (IsReadBack keys);
   tried_read_back = All-nil (IsTextOf keys ended);
   still = λ was. was;
+  limit = refl;
   same = λ is. refl;
   file = λ holds whole some. absurd (omega (arith, none whole, some));
 }
@@ -52,6 +53,7 @@ leaves_one keys honest c ended old new stop done same known w =
       read_back = All-cons (IsReadBack keys) ended [] w.read_back (All-nil (IsReadBack keys));
       tried_read_back = All-nil (IsTextOf keys ended);
       still = w.saves.still;
+      limit = w.saves.limit;
       same = λ none. absurd (omega (arith, none));
       file = λ holds whole some. w.saves.written;
     }
@@ -71,6 +73,7 @@ leaves_not keys honest c ended old new fault same known (inl w) =
       read_back = All-nil (IsReadBack keys);
       tried_read_back = All-cons (IsTextOf keys ended) (text_at keys ended) [] (refl, w.read_back) (All-nil (IsTextOf keys ended));
       still = w.saves.still;
+      limit = w.saves.limit;
       same = λ none. absurd (omega (arith, none));
       file = λ holds whole some. absurd whole;
     }
@@ -82,6 +85,7 @@ leaves_not keys honest c ended old new fault same known (inr w) = record {
   read_back = All-nil (IsReadBack keys);
   tried_read_back = All-nil (IsTextOf keys ended);
   still = w.still;
+  limit = w.limit;
   same = λ none. absurd (omega (arith, none));
   file = λ holds whole some. absurd whole;
 }
@@ -122,6 +126,7 @@ leaves_then keys honest mid ended a b c stop result m n first second memory text
   read_back = All-append (IsReadBack keys) first second before.read_back after.read_back;
   tried_read_back = after.tried_read_back;
   still = λ was. after.still (before.still was);
+  limit = after.limit ∙ before.limit;
   same = λ none. after.same (omega (arith, none)) ∙ before.same (omega (arith, none));
   file = λ holds whole some.
       last_then keys mid ended b c m n some (before.file holds memory) (after.file holds whole) (text holds whole) after.same after.still;
@@ -138,6 +143,7 @@ leaves_from keys honest later moments ended a b result n gives l = record {
   read_back = l.read_back;
   tried_read_back = l.tried_read_back;
   still = l.still;
+  limit = l.limit;
   same = l.same;
   file = λ holds. l.file (gives holds);
 }
@@ -156,6 +162,7 @@ leaves_ended keys honest moments mid ended a b result last n whole tried same l 
       read_back = l.read_back;
       tried_read_back = l.tried_read_back;
       still = l.still;
+      limit = l.limit;
       same = l.same;
       file = λ holds done. l.file holds (whole done);
     }
@@ -171,6 +178,7 @@ leaves_closed keys honest moments ended a b c result closed n makes l = record {
   read_back = l.read_back;
   tried_read_back = l.tried_read_back;
   still = λ was. makes.still (l.still was);
+  limit = makes.limit ∙ l.limit;
   same = λ none. makes.same ∙ l.same none;
   file = λ holds done some. let had = l.file holds done some in (makes.same ∙ had.0, makes.still had.1);
 }

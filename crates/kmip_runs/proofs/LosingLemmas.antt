@@ -9,7 +9,7 @@ use Rattle.kmip_client.specs.Clients.{AreSettled, ClientState, WorksAt}
 use Rattle.kmip_plan.specs.declared.key.Key.{Key}
 use Rattle.kmip_client.specs.declared.knowledge.Knowledge.{Knowledge}
 use Rattle.kmip_client.specs.declared.question.Question.{Question}
-use Rattle.kmip_protocol.specs.Clean.{AreNoFewer, Counted, Disturbances, IsCounted, one_disturbed}
+use Rattle.kmip_protocol.specs.Clean.{AreNoFewer, Counted, Disturbances, IsCounted}
 use Rattle.kmip_protocol.specs.Exchanges.{Exchanged, HandsOver}
 use Rattle.kmip_protocol.specs.Past.{Names, Past, is_planned}
 use Rattle.kmip_protocol.specs.Seen.{Seen}

@@ -28,7 +28,7 @@ risen_at_fault (Err e) a b c at_most risen = rises_from a b c at_most risen
 
 -- the end of the run writes nothing
 pub output_before : {V E : Type 0} (closed : Result V E) (result last : Result Stop SaveFault) → OnOk closed (last ≡ result) → OnErr closed (OnOk result (last ≡ Ok stops.NoMemory))
-    → OnErr result (last ≡ result) → last ≡ Err faults.Output → result ≡ Err faults.Output
+    → OnErr closed (OnErr result (last ≡ Err faults.NoMemory)) → last ≡ Err faults.Output → result ≡ Err faults.Output
 output_before (Ok v) result last same stop fault is = sym same ∙ is
 output_before (Err e) (Ok s) last same stop fault is = let both : Ok stops.NoMemory ≡ Err faults.Output = sym stop ∙ is in absurd cc
-output_before (Err e) (Err f) last same stop fault is = sym fault ∙ is
+output_before (Err e) (Err f) last same stop fault is = let both : Err faults.NoMemory ≡ Err faults.Output = sym fault ∙ is in absurd cc

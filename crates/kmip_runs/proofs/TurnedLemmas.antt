@@ -1,18 +1,19 @@
 -- Turns of one exchange, turns after turns, and how what ends them changes.
-use Rattle.std.proofs.Common.{◌≡◌, ◌≢◌, ◌∙◌, ℕ, ◌+◌, List, [], ◌∷◌, ◌++◌, length, Option, Result, Ok, Err, OnErr, OnOk, ap, arith, append-nil, inl, refl, subst, sym}
+use Rattle.std.proofs.Common.{◌≡◌, ◌≢◌, ℕ, ◌+◌, List, [], ◌∷◌, ◌++◌, Option, Result, Ok, Err, OnErr, OnOk, arith, inl, refl, subst, sym}
 use Rattle.std.proofs.lemmas.List.{length-append}
 use Rattle.kmip_client.specs.Asking.{after_ask}
 use Rattle.kmip_client.specs.Clients.{ClientState}
 use Rattle.kmip_protocol.specs.Past.{Names, Past, is_planned}
 use Rattle.kmip_protocol.specs.Turns.{taught}
 use Rattle.kmip_runs.specs.Private.{IsGivenUp, Rests, TurnsOnce, exchanges_made}
-use Rattle.kmip_runs.specs.Turning.{AreExchanged, GivesUp, IsLeft, IsTurned, Turns, stop_in}
+use Rattle.kmip_runs.specs.Turning.{AreExchanged, IsLeft, IsTurned, Turns, stop_in}
 use Rattle.kmip_runs.specs.declared.save_fault.SaveFault.{SaveFault}
+use Rattle.kmip_runs.specs.declared.save_fault.SaveFault.TheVariants as faults
 use Rattle.kmip_runs.specs.declared.stop.Stop.{Stop}
 use Rattle.kmip_runs.specs.declared.stop.Stop.TheVariants as stops
 use Rattle.kmip_runs.specs.declared.turn_fault.TurnFault.{TurnFault}
 use Rattle.kmip_runs.proofs.KnownLemmas.{joined}
-use Rattle.kmip_runs.proofs.TurnLemmas.{turned_broken, turned_keys, turned_limit, turned_more, turned_none, turned_rest}
+use Rattle.kmip_runs.proofs.TurnLemmas.{turned_broken, turned_limit, turned_more, turned_none, turned_rest}
 
 -- ---- one exchange
 
@@ -75,7 +76,7 @@ turned_wanting honest stops.NoMemory made c next p q t = t
 
 -- the end of the run over the link may change why
 pub turned_last : {V E : Type 0} (honest : Type 0) (closed : Result V E) (result last : Result Stop SaveFault) (made : ℕ) (c next : ClientState) (p q : Past)
-    → OnOk closed (last ≡ result) → OnErr closed (OnOk result (last ≡ Ok stops.NoMemory)) → OnErr result (last ≡ result)
+    → OnOk closed (last ≡ result) → OnErr closed (OnOk result (last ≡ Ok stops.NoMemory)) → OnErr closed (OnErr result (last ≡ Err faults.NoMemory))
     → IsTurned honest (stop_in result) made c next p q → IsTurned honest (stop_in last) made c next p q
 turned_last honest (Ok v) result last made c next p q same stop fault t = subst (λ r. IsTurned honest (stop_in r) made c next p q) (sym same) t
 turned_last honest (Err e) (Ok s) last made c next p q same stop fault t =

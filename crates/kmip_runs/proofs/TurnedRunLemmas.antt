@@ -63,7 +63,7 @@ turned_push keys last saved runs ends talks clients run end talk client turned i
 
 -- ---- one run
 
-left_same : (stop : Stop) (last next : ClientState) → stop ≢ stops.NoMemory → IsLeft stop last next → next ≡ last
+pub left_same : (stop : Stop) (last next : ClientState) → stop ≢ stops.NoMemory → IsLeft stop last next → next ≡ last
 left_same stops.AllFinished last next memory left = left
 left_same stops.Limit last next memory left = left
 left_same stops.Conflict last next memory left = left

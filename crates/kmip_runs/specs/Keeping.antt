@@ -32,6 +32,7 @@ guarded view P = record {
   moment = view.moment;
   left_since = view.left_since;
   failures = view.failures;
+  limit = view.limit;
   kill_loses_nothing = λ both. view.kill_loses_nothing both.0;
   counts_now = λ both. view.counts_now both.0;
   only_now = λ both. view.only_now both.0;
@@ -58,6 +59,8 @@ pub record SavesText {E : Type 0} (old : DiskView) (text : List ℕ) (result : R
   pub any_moment : LeavesOnly old new (IsBeforeOrText old text)
   -- Where the bytes of the file were on the disk before, those of the file are after it, also at a fault.
   pub still : IsWritten old → IsWritten new
+  -- It changes nothing of after how many calls the disk stops.
+  pub limit : new.limit ≡ old.limit
 
 -- The text that was saved last is made to last.
 pub record MakesLast {E : Type 0} (old : DiskView) (result : Result (Unit {0}) E) (new : DiskView) : Type 0 where
@@ -69,5 +72,7 @@ pub record MakesLast {E : Type 0} (old : DiskView) (result : Result (Unit {0}) E
   pub any_moment : LeavesOnly old new old.may_leave
   -- Where the bytes of the file were on the disk before, they are after it.
   pub still : IsWritten old → IsWritten new
+  -- It changes nothing of after how many calls the disk stops.
+  pub limit : new.limit ≡ old.limit
   -- At `Ok` a crash leaves what a read gives and nothing else, where the bytes of the file were on the disk.
   pub lasts : IsWritten old → OnOk result ((c : Content) → new.may_leave c → c ≡ old.file)

@@ -41,6 +41,8 @@ pub record Leaves (keys : List Key) (honest : Type 0) (moments : List Moment) (e
   pub tried_read_back : All (IsTextOf keys ended) tried
   -- If the bytes of the file were on the disk at the start, those of the file are at the end.
   pub still : IsWritten old → IsWritten new
+  -- The run changes nothing of after how many calls the disk stops.
+  pub limit : new.limit ≡ old.limit
   -- If no exchange was made, a read gives what it gave.
   pub same : exchanges ≡ 0 → new.file ≡ old.file
   -- If all was saved over an honest link, a read gives the text of what is known at the end.

@@ -28,6 +28,8 @@ pub mod Campaigns
 pub mod MakesCampaigns
 -- runs of which a crash of the machine may end some
 pub mod Crashes
+-- the disk of a run that a crash is to end
+pub mod CrashedDisks
 -- private: what the parts of such runs keep
 pub mod PrivateCrashes
 -- private: what the parts of a campaign keep

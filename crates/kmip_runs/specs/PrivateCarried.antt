@@ -112,6 +112,7 @@ pub record WritesNothing (old new : DiskView) : Type 0 where
   pub lawful : new.lawful
   pub any_moment : LeavesOneOf old [] new
   pub still : IsWritten old → IsWritten new
+  pub limit : new.limit ≡ old.limit
 
 -- The text of what a client knows was given to the disk, and is read back as that.
 pub record WritesProgress (old : DiskView) (client : ClientState) (result : Result (Unit {0}) SaveFault) (new : DiskView) : Type 0 where

@@ -16,6 +16,7 @@ use Rattle.kmip_runs.specs.Keeping.{Kept}
 use Rattle.kmip_runs.specs.declared.stop.Stop.{Stop}
 use Rattle.kmip_runs.specs.declared.stop.Stop.TheVariants as stops
 use Rattle.kmip_runs.specs.declared.save_fault.SaveFault.{SaveFault}
+use Rattle.kmip_runs.specs.declared.save_fault.SaveFault.TheVariants as faults
 
 -- What is known at a moment, and all that has happened by then.
 pub record Moment : Type 0 where
@@ -65,6 +66,10 @@ AreKept knowns (moment ∷ moments) = AllZip IsKept knowns moment.knowns × AreK
 -- It did not stop for want of memory. A text that was not saved is no want of memory here.
 abbrev pub IsInMemory : Result Stop SaveFault → Type 0
 IsInMemory result = result ≢ Ok stops.NoMemory
+
+-- Memory did not run out, neither in an exchange, nor while a text was saved, nor at the end of the run.
+abbrev pub HasMemory : Result Stop SaveFault → Type 0
+HasMemory result = IsInMemory result × (result ≢ Err faults.NoMemory)
 
 -- Memory did not run out, and no text was left unsaved.
 abbrev pub IsWhole : Result Stop SaveFault → Type 0

@@ -5,6 +5,7 @@ ghost use Rattle.kmip_progress.specs.Texts.{progress_text};
 ghost use Rattle.kmip_runs.specs.CarriesOut.{CarriesOut, stage};
 ghost use Rattle.kmip_runs.specs.PrivateCarried.{CarryingLaws, MakesExchangesInTurn, MakesOneExchange, SavesProgress};
 ghost use Rattle.kmip_runs.specs.Refusals.{HasRisen};
+ghost use Rattle.kmip_runs.specs.Saved.{HasMemory};
 
 use crate::campaigning::laws_of_runs;
 use crate::driving::{stop_of, turn};
@@ -48,8 +49,9 @@ use std::alloc::Global;
 /// was no memory to learn from its reply.
 ///
 /// # Errors
-/// Why the text of the last exchange was not saved; no further exchange is then made. Want of memory in
-/// an exchange, or at the end of the run, is the reason to stop `Stop::NoMemory`.
+/// Why the text of the last exchange was not saved; no further exchange is then made. It is `NoMemory` too if
+/// the text was not saved and memory ran out at the end of the run. Without such a text, want of memory in an
+/// exchange, or at the end of the run, is the reason to stop `Stop::NoMemory`.
 pub fn carry_out<L: Link, K: Keeper, P: Patience>(
     alloc: Global,
     client: &mut Client<'_>,
@@ -58,12 +60,15 @@ pub fn carry_out<L: Link, K: Keeper, P: Patience>(
     patience: &mut P,
     limit: usize,
 ) -> (Result<Stop, SaveFault>, usize)
-    ensures { CarriesOut limit
+    ensures carries { CarriesOut limit
         (stage (L.seen link.old) client.old (K.kept keeper.old) (P.has_given_up patience.old)
         (P.asked patience.old))
         result.0 result.1
         (stage (L.seen link.new) client.new (K.kept keeper.new) (P.has_given_up patience.new)
         (P.asked patience.new)) }
+    // Unless memory ran out, the link after it is what calls made of the link before, as the link itself
+    // tells it.
+    ensures followed { HasMemory result.0 → L.follows link.old link.new }
 {
     laws_below();
     laws_of_runs();
@@ -105,12 +110,13 @@ fn exchange_in_turn<L: Link, K: Keeper, P: Patience>(
     patience: &mut P,
     limit: usize,
 ) -> (Result<Stop, SaveFault>, usize)
-    ensures { MakesExchangesInTurn limit
+    ensures made { MakesExchangesInTurn limit
         (stage (L.seen link.old) client.old (K.kept keeper.old) (P.has_given_up patience.old)
         (P.asked patience.old))
         result.0 result.1
         (stage (L.seen link.new) client.new (K.kept keeper.new) (P.has_given_up patience.new)
         (P.asked patience.new)) }
+    ensures followed { HasMemory result.0 → L.follows link.old link.new }
 {
     laws_below();
     let _plan = client.plan();
@@ -141,7 +147,7 @@ fn exchange_once<L: Link, K: Keeper>(
     link: &mut L,
     keeper: &mut K,
 ) -> (Result<Stop, SaveFault>, usize)
-    ensures { MakesOneExchange (record {
+    ensures made { MakesOneExchange (record {
       client = client.old;
       link = L.seen link.old;
       keeper = K.kept keeper.old;
@@ -150,6 +156,7 @@ fn exchange_once<L: Link, K: Keeper>(
       link = L.seen link.new;
       keeper = K.kept keeper.new;
     }) result.0 result.1 }
+    ensures followed { HasMemory result.0 → L.follows link.old link.new }
 {
     laws_below();
     // proof: a key that is settled is not worked on
@@ -222,13 +229,11 @@ fn after_close(
 ) -> Result<Stop, SaveFault>
     ensures whole { OnOk closed (result ≡ carried) }
     ensures stop { OnErr closed (OnOk carried (result ≡ Ok Stop.NoMemory)) }
-    ensures fault { OnErr carried (result ≡ carried) }
+    ensures fault { OnErr closed (OnErr carried (result ≡ Err SaveFault.NoMemory)) }
 {
-    match closed {
-        Ok(()) => carried,
-        Err(NoMemory) => match carried {
-            Ok(_) => Ok(Stop::NoMemory),
-            Err(fault) => Err(fault),
-        },
+    match (carried, closed) {
+        (carried, Ok(())) => carried,
+        (Ok(_), Err(NoMemory)) => Ok(Stop::NoMemory),
+        (Err(_), Err(NoMemory)) => Err(SaveFault::NoMemory),
     }
 }

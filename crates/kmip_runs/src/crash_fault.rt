@@ -1,5 +1,6 @@
 //! Why runs end before their last one.
 ghost use Rattle.std.specs.Prelude.{◌≡◌};
+ghost use Rattle.kmip_disk.specs.declared.memory_fault.MemoryFault.TheVariants as wants;
 ghost use Rattle.kmip_runs.specs.declared.crash_fault.CrashFault.TheVariants as faults;
 
 use kmip_disk::MemoryFault;
@@ -32,7 +33,7 @@ impl<T: Drop> From<AllocFailed<T>> for CrashFault {
 }
 
 impl From<MemoryFault> for CrashFault {
-    ghost from_gives = { λ _ e. Unit {0} };
+    ghost from_gives = { λ fault e. fault ≡ wants.NoMemory → e ≡ faults.NoMemory };
 
     fn from(fault: MemoryFault) -> CrashFault {
         match fault {

@@ -1,12 +1,12 @@
 //! Runs in turn over one link, of which a crash of the machine may end some.
-ghost use Rattle.std.specs.Prelude.{◌≡◌, ◌≢◌, [], IfOk, IsTrue, None, OnOk, Some};
+ghost use Rattle.std.specs.Prelude.{◌≡◌, ◌≢◌, [], Err, IfOk, IsTrue, None, OnOk, Some};
 ghost use Rattle.std.specs.List.{All};
-ghost use Rattle.kmip_disk.specs.Memory.{memory_view};
 ghost use Rattle.kmip_messages.specs.Members.{may_have};
 ghost use Rattle.kmip_progress.specs.Suiting.{Suits};
 ghost use Rattle.kmip_runs.specs.Crashes.{MakesCrashes, MayCrash};
-ghost use Rattle.kmip_runs.specs.PrivateCrashes.{CrashesEach, CrashesOne, IsLeftOn};
-ghost use Rattle.kmip_runs.specs.Saved.{IsInMemory};
+ghost use Rattle.kmip_runs.specs.PrivateCrashes.{CrashesEach, CrashesOne, IsLeftOn, IsNotLeft};
+ghost use Rattle.kmip_runs.specs.Saved.{HasMemory};
+ghost use Rattle.kmip_runs.specs.declared.crash_fault.CrashFault.TheVariants.{Refused};
 ghost use Rattle.kmip_runs.specs.declared.left.Left.TheVariants.{Torn};
 
 use crate::campaign_end::CampaignEnd;
@@ -49,7 +49,8 @@ pub fn campaign_with_crashes<L: Link>(
 ) -> CrashesEnd
     // Each run asks about one to eight keys at once.
     requires { MayCrash runs.now }
-    ensures { MakesCrashes (L.seen link.old) plan.now runs.now result (L.seen link.new) }
+    ensures { MakesCrashes (L.seen link.old) plan.now runs.now result (L.seen link.new)
+        (L.follows link.old link.new) }
 {
     laws_of_runs();
     plan.keys();
@@ -94,7 +95,8 @@ fn crash_each<L: Link>(
     requires none_saved { end.old.campaign.saved.items ≡ [] }
     requires none_left { end.old.left.items ≡ [] }
     requires batches { MayCrash runs.now }
-    ensures { CrashesEach (L.seen link.old) plan.now runs.now result end.new (L.seen link.new) }
+    ensures { CrashesEach (L.seen link.old) plan.now runs.now result end.new (L.seen link.new)
+        (L.follows link.old link.new) }
 {
     laws_of_runs();
     plan.keys();
@@ -122,7 +124,8 @@ fn one_crashing<'p, L: Link>(
     requires suits { All (Suits plan.now) end.old.campaign.saved.items }
     ensures { CrashesOne plan.now crashing
         (record { client = client.old; link = L.seen link.old; end = end.old }) result
-        (record { client = client.new; link = L.seen link.new; end = end.new }) }
+        (record { client = client.new; link = L.seen link.new; end = end.new })
+        (L.follows link.old link.new) }
 {
     match crashing.crash {
         None => whole_run(alloc, plan, client, link, crashing.run, end),
@@ -147,7 +150,8 @@ fn whole_run<'p, L: Link>(
     requires suits { All (Suits plan.now) end.old.campaign.saved.items }
     ensures { CrashesOne plan.now (record { run = run; crash = None })
         (record { client = client.old; link = L.seen link.old; end = end.old }) result
-        (record { client = client.new; link = L.seen link.new; end = end.new }) }
+        (record { client = client.new; link = L.seen link.new; end = end.new })
+        (L.follows link.old link.new) }
 {
     laws_of_runs();
     plan.keys();
@@ -182,7 +186,8 @@ fn crashed_run<'p, L: Link>(
     requires suits { All (Suits plan.now) end.old.campaign.saved.items }
     ensures { CrashesOne plan.now (record { run = run; crash = Some crash })
         (record { client = client.old; link = L.seen link.old; end = end.old }) result
-        (record { client = client.new; link = L.seen link.new; end = end.new }) }
+        (record { client = client.new; link = L.seen link.new; end = end.new })
+        (L.follows link.old link.new) }
 {
     laws_of_runs();
     what_is_true_is_no_conflict();
@@ -222,7 +227,7 @@ fn crashed_run<'p, L: Link>(
 /// # Errors
 /// Where memory ran out in a run that ended so.
 fn in_memory(carried: Result<Stop, SaveFault>) -> Result<(), NoMemory>
-    ensures { OnOk result (IsInMemory carried) }
+    ensures { OnOk result (HasMemory carried) }
 {
     match carried {
         Ok(Stop::NoMemory) | Err(SaveFault::NoMemory) => Err(NoMemory),
@@ -240,9 +245,10 @@ fn progress_left(
     keeper: &DiskKeeper,
     left: Left,
 ) -> Result<Progress, CrashFault>
-    ensures left { IfOk result (IsLeftOn (memory_view keeper.now.file.disk) plan.now) }
+    ensures left { IfOk result (IsLeftOn left keeper.now.file.disk plan.now) }
     ensures suits { IfOk result (λ progress. Suits plan.now progress) }
     ensures not_torn { OnOk result (left ≢ Torn) }
+    ensures refused { result ≡ Err Refused → IsNotLeft left keeper.now.file.disk plan.now }
 {
     let Some(bytes) = keeper.left(alloc, left)? else {
         let nothing = Client::fresh(alloc, plan)?;

@@ -1,8 +1,10 @@
 //! A keeper on a disk in memory, which stops where it is told to.
-ghost use Rattle.std.specs.Prelude.{◌≡◌, ◌≢◌, ◌≤◌, IfOk, OnOk, option_map};
+ghost use Rattle.std.specs.Prelude.{◌≡◌, ◌≢◌, ◌≤◌, ◌<◌, [], Err, IfErr, IfOk, None, OnErr, OnOk, Some, option_map};
 ghost use Rattle.kmip_disk.specs.Memory.{memory_view};
+ghost use Rattle.kmip_runs.specs.CrashedDisks.{CannotLeave, LeavesAtStop, place_left};
 ghost use Rattle.kmip_runs.specs.PrivateCrashes.{BeginsWith};
 ghost use Rattle.kmip_runs.specs.Refusals.{HasRisen};
+ghost use Rattle.kmip_runs.specs.declared.crash_fault.CrashFault.TheVariants.{Refused};
 ghost use Rattle.kmip_runs.specs.declared.left.Left.TheVariants.{Torn};
 ghost use Rattle.kmip_runs.specs.declared.save_fault.SaveFault.TheVariants as faults;
 
@@ -36,8 +38,12 @@ impl DiskKeeper {
         client: &Client<'_>,
         calls: usize,
     ) -> Result<DiskKeeper, NoMemory>
-        ensures { IfOk result (λ keeper.
+        ensures begins { IfOk result (λ keeper.
             BeginsWith client.now (memory_view keeper.file.disk)) }
+        ensures limit { IfOk result (λ keeper. keeper.file.disk.turns.limit ≡ calls) }
+        ensures left { IfOk result (λ keeper. keeper.file.disk.turns.left ≡ calls) }
+        ensures none_saved { IfOk result (λ keeper. keeper.texts.items ≡ []) }
+        ensures none_refused { IfOk result (λ keeper. keeper.refusals ≡ 0) }
     {
         // proof: a text that was written is read back
         texts_are_read_back();
@@ -62,9 +68,12 @@ impl DiskKeeper {
     /// # Errors
     /// `Refused` where the disk has not stopped, or does not leave this; and `NoMemory`.
     pub(crate) fn left(&self, alloc: Global, left: Left) -> Result<Option<Vec<u8>>, CrashFault>
-        ensures left { IfOk result (λ found. (memory_view self.now.file.disk).may_leave
+        ensures found { IfOk result (λ found. LeavesAtStop left self.now.file.disk
+            (option_map (λ v. v.items) found)) }
+        ensures may { IfOk result (λ found. (memory_view self.now.file.disk).may_leave
             (option_map (λ v. v.items) found)) }
         ensures not_torn { OnOk result (left ≢ Torn) }
+        ensures refused { result ≡ Err Refused → CannotLeave left self.now.file.disk }
     {
         self.stopped(alloc)?;
         let which = self.place_of(left)?;
@@ -74,9 +83,12 @@ impl DiskKeeper {
     }
 
     /// # Errors
-    /// `Refused` where the disk has not stopped, and `NoMemory`.
-    fn stopped(&self, alloc: Global) -> Result<(), CrashFault> {
-        match self.file.read(alloc) {
+    /// `Refused` if the disk has not stopped, and `NoMemory`.
+    fn stopped(&self, alloc: Global) -> Result<(), CrashFault>
+        ensures stopped { OnOk result (self.now.file.disk.turns.left ≡ 0) }
+        ensures refused { result ≡ Err Refused → 0 < self.now.file.disk.turns.left }
+    {
+        match self.file.disk.read(alloc) {
             Ok(_) => Err(CrashFault::Refused),
             Err(MemoryFault::NoMemory) => Err(CrashFault::NoMemory),
             Err(MemoryFault::Stopped | MemoryFault::NotFound) => Ok(()),
@@ -88,7 +100,9 @@ impl DiskKeeper {
     /// # Errors
     /// `Refused` where a crash does not leave this.
     fn place_of(&self, left: Left) -> Result<usize, CrashFault>
-        ensures { OnOk result (left ≢ Torn) }
+        ensures not_torn { OnOk result (left ≢ Torn) }
+        ensures place { IfOk result (λ place. place_left left self.now.file.disk ≡ Some place) }
+        ensures refused { OnErr result (place_left left self.now.file.disk ≡ None) }
     {
         let outcomes = self.file.disk.outcomes();
         let back = match left {

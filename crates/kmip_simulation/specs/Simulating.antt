@@ -1,6 +1,6 @@
 -- What holds of a campaign over a link in memory that followed a script, and of all that happened.
 -- Source: own.
-use Rattle.std.specs.Prelude.{◌≡◌, ◌≤◌, ◌-◌, ℕ, ⊤, List, [], false, length, filter, map, replicate, slice_get, take, None}
+use Rattle.std.specs.Prelude.{◌≡◌, ◌≤◌, ◌+◌, ◌-◌, IsTrue, ℕ, ⊤, List, [], false, length, filter, map, replicate, slice_get, take, None}
 use Rattle.std.specs.List.{All, AllZip}
 use Rattle.kmip_plan.specs.declared.key.Key.{Key}
 use Rattle.kmip_client.specs.Held.{TrueProgress}
@@ -84,10 +84,22 @@ pub record IsSimulatedWithCrashes (keys : List Key) (batch : ℕ) (words : List 
   pub allowed : crashes.is_refused ≡ false
   pub well : CrashesWell (seen_in (first_scene words)) keys crashes (seen_in link)
   pub made : MakesCrashes (seen_in (first_scene words)) keys (crashing_in_batches batch (crashing_runs_of keys words)) crashes (seen_in link)
+      (Follows (first_scene words) link)
 
 -- a crash is to end the run of this number, from 1
 abbrev pub IsCrashOf : List Key → List Word → ℕ → Type 0
 IsCrashOf keys words number = IsCrashing (slice_get (crashing_runs_of keys words) (number - 1)) × (1 ≤ number)
+
+-- The runs of a script before the one of this number were made for a plan. That one was carried out too, and the crash that is to end it was
+-- refused, as the campaign with crashes says.
+pub record RefusesCrashOf (keys : List Key) (batch : ℕ) (words : List Word) (number : ℕ) : Type 0 where
+  pub is_crash : IsCrashOf keys words number
+  pub crashes : CrashesEnd
+  pub link : Scene
+  pub refused : IsTrue crashes.is_refused
+  pub number_is : number ≡ length crashes.campaign.runs.items + 1
+  pub made : MakesCrashes (seen_in (first_scene words)) keys (crashing_in_batches batch (crashing_runs_of keys words)) crashes (seen_in link)
+      (Follows (first_scene words) link)
 
 -- After that, a second campaign made these runs for the same plan over the same link.
 pub record IsSimulatedAgain (keys : List Key) (batch : ℕ) (words : List Word) (runs : List Run) (first second : CampaignEnd) (link : Scene) : Type 0 where

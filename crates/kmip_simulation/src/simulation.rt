@@ -11,10 +11,10 @@ ghost use Rattle.kmip_runs.specs.Campaigns.{AreProlonged};
 ghost use Rattle.kmip_simulation.specs.Simulating.{
   AreSimulated,
   IsCarriedOut,
-  IsCrashOf,
   IsSimulated,
   IsSimulatedAgain,
   IsSimulatedWithCrashes,
+  RefusesCrashOf,
   crashing_in_batches,
   first_scene,
   in_batches,
@@ -130,9 +130,10 @@ pub fn simulate_with_crashes(
         IsSimulatedWithCrashes plan.now batch script s.end s.link) }
     // The words that are kept are those of the script.
     ensures words { IfOk result (λ s. s.words ≡ script) }
-    // A crash is refused only where the script has one for the run of that number.
+    // A crash is refused only where the script has one for the run of that number. The disk of that run has
+    // not stopped then, or a crash leaves no such file.
     ensures refused { (number : ℕ) → result ≡ Err (CrashRefused number)
-        → IsCrashOf plan.now script number }
+        → RefusesCrashOf plan.now batch script number }
 {
     nothing_done_is_sound();
     opening_is_mirrored();

@@ -15,8 +15,8 @@ use Rattle.kmip_runs.proofs.RefusalLemmas.{output_before, risen_at_fault, risen_
 use Rattle.kmip_runs.proofs.TurnedLemmas.{turned_last}
 use Rattle.kmip_runs.proofs.carrying.carry_out.Goals as goal
 
-pub returns : goal.returns
-returns g c =
+pub returns-clause-carries : goal.returns-clause-carries
+returns-clause-carries g c =
     let laws = c.laws_below.ensures in
     let lawful = c.plan-plan.ensures.lawful in
     let done = c.exchange_in_turn-carried in
@@ -30,7 +30,7 @@ returns g c =
     let new = g.L.Link.seen close.new.link in
     let names = is_planned client.keys in
     let kept = g.K.Keeper.kept in
-    let made = done.ensures.exchanges in
+    let made = done.ensures.made.exchanges in
     let first = made.carried in
     let before : Situation = record { client = client; link = old; keeper = kept c.args.keeper.now } in
     let between : Situation = record { client = next; link = mid; keeper = kept done.new.keeper } in
@@ -58,7 +58,7 @@ returns g c =
             losing = paid;
             outlasts = λ honest patient whole enough.
                 outlasted laws client next old new last done.result.1 c.args.limit lawful good (carried.went.good good) (paid honest) stands
-                (λ is. unless_given_up _ _ _ _ done.ensures.limit patient (limit is)) whole enough;
+                (λ is. unless_given_up _ _ _ _ done.ensures.made.limit patient (limit is)) whole enough;
             no_conflict = good_end laws before after last done.result.1 carried.went stands good;
             safe =
                 let ended = carried.went.good good in
@@ -75,10 +75,10 @@ returns g c =
             takes_nothing_back = carried.went.takes_nothing_back honest;
             ended =
                 ended_whole client.keys client.batch old.past mid.past client.knowns next.knowns close.result done.result.0 last done.result.1
-                old.ended mid.ended new.ended end.whole end.stop end.fault known.1 (done.ensures.ended honest) closed.ended;
+                old.ended mid.ended new.ended end.whole end.stop end.fault known.1 (done.ensures.made.ended honest) closed.ended;
             once =
                 ended_once mid.past new.past old.ended mid.ended new.ended (laws.requests names mid.past new.past closed.honest.1).sent
-                (done.ensures.ended honest) (one_of_both close.result closed.ended closed.unended);
+                (done.ensures.made.ended honest) (one_of_both close.result closed.ended closed.unended);
           };
       forgets_nothing = carried.went.keeps;
       moments = carried.kept;
@@ -92,12 +92,12 @@ returns g c =
           risen_still before.keeper.refusals between.keeper.refusals after.keeper.refusals made.counted shut.ensures.counted
           (made.output (output_before close.result done.result.0 last end.whole end.stop end.fault is));
       stops_for_its_reason = stands;
-      limit = λ is. done.ensures.limit (limit is);
+      limit = λ is. done.ensures.made.limit (limit is);
       given_up = λ fresh gave.
-          let left = done.ensures.given_up fresh gave in
+          let left = done.ensures.made.given_up fresh gave in
           (left_last close.result done.result.0 last end.whole end.stop end.fault left.0, left.1);
       within = search rules;
-      asked = done.ensures.asked;
+      asked = done.ensures.made.asked;
       turned = record {
         until = mid.past;
         turned = turned_last (old.honest names) close.result done.result.0 last done.result.1 client next old.past mid.past end.whole end.stop end.fault made.turned;
@@ -107,6 +107,6 @@ returns g c =
         calm = carried.went.near settling;
         settles = λ enough patient whole.
             settled_end laws before after last done.result.1 c.args.limit lawful carried.went stands
-            (λ is. unless_given_up _ _ _ _ done.ensures.limit patient (limit is)) settling enough whole;
+            (λ is. unless_given_up _ _ _ _ done.ensures.made.limit patient (limit is)) settling enough whole;
       };
     }

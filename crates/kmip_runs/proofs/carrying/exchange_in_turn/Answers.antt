@@ -2,6 +2,7 @@
 use Rattle.std.proofs.Common.{◌+◌, ◌<◌, ◌≡◌, ◌∙◌, Ok, ap, length, sym, subst, refl, rules, arith}
 use Rattle.kmip_protocol.specs.Past.{is_planned}
 use Rattle.kmip_runs.specs.Losing.{left_for}
+use Rattle.kmip_runs.specs.Saved.{HasMemory}
 use Rattle.kmip_runs.specs.Turning.{IsTurned, stop_in}
 use Rattle.kmip_runs.specs.declared.stop.Stop.TheVariants as stops
 use Rattle.kmip_runs.proofs.CarryLemmas.{carried_itself, carried_more, carried_stop, carried_then, carried_unbegun}
@@ -22,14 +23,15 @@ loop-made-init g c = record {
   turned = turned_not_yet _ c.args.client.now (g.L.Link.seen c.args.link.now).past;
   counted = omega arith;
   ended = λ honest. refl;
+  followed = g.met.L.Link.itself c.args.link.now;
   paid = λ good honest. paid_none (left_for c.args.client.now (g.L.Link.seen c.args.link.now).past) (g.L.Link.seen c.args.link.now).disturbances;
 }
 
-pub returns-then-not-is_at_limit : goal.returns-then-not-is_at_limit
-returns-then-not-is_at_limit g c =
+pub returns-then-not-is_at_limit-clause-made : goal.returns-then-not-is_at_limit-clause-made
+returns-then-not-is_at_limit-clause-made g c =
     let step = c.exchange_once-carried in
     let before = c.loop-made.invariant in
-    let made = step.ensures.exchanges in
+    let made = step.ensures.made.exchanges in
     record {
       exchanges = record {
         carried =
@@ -55,17 +57,17 @@ returns-then-not-is_at_limit g c =
       within = search rules;
       asked =
           let told = c.tell.ensures.unasked in
-          let one = step.ensures.within in
+          let one = step.ensures.made.within in
           let below : c.loop-made.made < c.args.limit = search rules in
           omega (arith, told, one, below, before.asked);
       ended = λ honest.
-          step.ensures.ended (is_planned c.args.client.now.keys) (before.carried.went.learns honest).0 ∙ before.ended honest;
+          step.ensures.made.ended (is_planned c.args.client.now.keys) (before.carried.went.learns honest).0 ∙ before.ended honest;
     }
 
 pub loop-made-preserved : goal.loop-made-preserved
 loop-made-preserved g c =
     let step = c.exchange_once-carried in
-    let made = step.ensures.exchanges in
+    let made = step.ensures.made.exchanges in
     let tired = g.P.Patience.has_given_up in
     let limit : step.result.0 ≡ Ok stops.Limit = search rules in
     record {
@@ -73,7 +75,7 @@ loop-made-preserved g c =
           carried_more c.laws_below.ensures (record { client = c.args.client.now; link = g.L.Link.seen c.args.link.now; keeper = g.K.Keeper.kept c.args.keeper.now })
           (record { client = c.loop-made.client; link = g.L.Link.seen c.loop-made.link; keeper = g.K.Keeper.kept c.loop-made.keeper })
           (record { client = step.new.client; link = g.L.Link.seen step.new.link; keeper = g.K.Keeper.kept step.new.keeper })
-          step.result.0 c.loop-made.made step.result.1 c.plan-plan.ensures.lawful c.loop-made.invariant.carried made.carried limit (step.ensures.limit limit);
+          step.result.0 c.loop-made.made step.result.1 c.plan-plan.ensures.lawful c.loop-made.invariant.carried made.carried limit (step.ensures.made.limit limit);
       as_many = c.tell.ensures.as_many ∙ c.loop-made.invariant.as_many ∙ ap length (sym made.carried.went.keeps.keys_stay);
       patient =
           elim c.else-made-limit.branch [
@@ -96,25 +98,28 @@ loop-made-preserved g c =
           ];
       turned =
           subst (λ r. IsTurned ((g.L.Link.seen c.args.link.now).honest (is_planned c.args.client.now.keys)) (stop_in r) (c.loop-made.made + 1) c.args.client.now step.new.client (g.L.Link.seen c.args.link.now).past (g.L.Link.seen step.new.link).past) limit
-          (subst (λ n. IsTurned ((g.L.Link.seen c.args.link.now).honest (is_planned c.args.client.now.keys)) (stop_in step.result.0) (c.loop-made.made + n) c.args.client.now step.new.client (g.L.Link.seen c.args.link.now).past (g.L.Link.seen step.new.link).past) (step.ensures.limit limit)
+          (subst (λ n. IsTurned ((g.L.Link.seen c.args.link.now).honest (is_planned c.args.client.now.keys)) (stop_in step.result.0) (c.loop-made.made + n) c.args.client.now step.new.client (g.L.Link.seen c.args.link.now).past (g.L.Link.seen step.new.link).past) (step.ensures.made.limit limit)
           (turned_then _ _ stops.Limit _ c.loop-made.made step.result.1 c.args.client.now c.loop-made.client step.new.client (g.L.Link.seen c.args.link.now).past (g.L.Link.seen c.loop-made.link).past
           (g.L.Link.seen step.new.link).past (λ is. absurd cc) c.loop-made.invariant.carried.went.keeps.keys_stay
           (λ honest. subst (λ ks. (g.L.Link.seen c.loop-made.link).honest (is_planned ks)) (sym c.loop-made.invariant.carried.went.keeps.keys_stay) (c.loop-made.invariant.carried.went.learns honest).0) c.loop-made.invariant.turned made.turned));
       counted = omega (arith, c.loop-made.invariant.counted, made.counted);
       ended = λ honest.
           let still = (c.loop-made.invariant.carried.went.learns honest).0 in
-          step.ensures.ended (is_planned c.args.client.now.keys) still ∙ c.loop-made.invariant.ended honest;
+          step.ensures.made.ended (is_planned c.args.client.now.keys) still ∙ c.loop-made.invariant.ended honest;
+      followed =
+          g.met.L.Link.twice c.args.link.now c.loop-made.link step.new.link c.loop-made.invariant.followed
+          (step.ensures.followed (subst HasMemory (sym limit) (λ is. absurd cc, λ is. absurd cc)));
       paid = λ good honest.
           let first = c.loop-made.invariant.paid good honest in
           let second = made.losing (c.loop-made.invariant.carried.went.good good)
           (subst (λ ks. (g.L.Link.seen c.loop-made.link).honest (is_planned ks)) (sym c.loop-made.invariant.carried.went.keeps.keys_stay)
           (c.loop-made.invariant.carried.went.learns honest).0) (limit_in_memory step.result.0 limit) in
-          let one = step.ensures.limit limit in
+          let one = step.ensures.made.limit limit in
           omega (arith, first, second, one);
     }
 
-pub returns-in_default : goal.returns-in_default
-returns-in_default g c = record {
+pub returns-in_default-clause-made : goal.returns-in_default-clause-made
+returns-in_default-clause-made g c = record {
   exchanges = record {
     carried = carried_unbegun c.laws_below.ensures (record { client = c.args.client.now; link = g.L.Link.seen c.args.link.now; keeper = g.K.Keeper.kept c.args.keeper.now });
     turned = turned_so _ stops.Limit stops.NoMemory 0 c.args.client.now c.args.client.now (g.L.Link.seen c.args.link.now).past (g.L.Link.seen c.args.link.now).past (λ is. absurd cc)
@@ -131,10 +136,10 @@ returns-in_default g c = record {
   ended = search rules;
 }
 
-pub returns-then-not-go_on : goal.returns-then-not-go_on
-returns-then-not-go_on g c =
+pub returns-then-not-go_on-clause-made : goal.returns-then-not-go_on-clause-made
+returns-then-not-go_on-clause-made g c =
     let step = c.exchange_once-carried in
-    let made = step.ensures.exchanges in
+    let made = step.ensures.made.exchanges in
     let limit : step.result.0 ≡ Ok stops.Limit = search rules in
     record {
       exchanges = record {
@@ -142,10 +147,10 @@ returns-then-not-go_on g c =
             carried_more c.laws_below.ensures (record { client = c.args.client.now; link = g.L.Link.seen c.args.link.now; keeper = g.K.Keeper.kept c.args.keeper.now })
             (record { client = c.loop-made.client; link = g.L.Link.seen c.loop-made.link; keeper = g.K.Keeper.kept c.loop-made.keeper })
             (record { client = step.new.client; link = g.L.Link.seen step.new.link; keeper = g.K.Keeper.kept step.new.keeper })
-            step.result.0 c.loop-made.made step.result.1 c.plan-plan.ensures.lawful c.loop-made.invariant.carried made.carried limit (step.ensures.limit limit);
+            step.result.0 c.loop-made.made step.result.1 c.plan-plan.ensures.lawful c.loop-made.invariant.carried made.carried limit (step.ensures.made.limit limit);
         turned =
             subst (λ r. IsTurned ((g.L.Link.seen c.args.link.now).honest (is_planned c.args.client.now.keys)) (stop_in r) (c.loop-made.made + 1) c.args.client.now step.new.client (g.L.Link.seen c.args.link.now).past (g.L.Link.seen step.new.link).past) limit
-            (subst (λ n. IsTurned ((g.L.Link.seen c.args.link.now).honest (is_planned c.args.client.now.keys)) (stop_in step.result.0) (c.loop-made.made + n) c.args.client.now step.new.client (g.L.Link.seen c.args.link.now).past (g.L.Link.seen step.new.link).past) (step.ensures.limit limit)
+            (subst (λ n. IsTurned ((g.L.Link.seen c.args.link.now).honest (is_planned c.args.client.now.keys)) (stop_in step.result.0) (c.loop-made.made + n) c.args.client.now step.new.client (g.L.Link.seen c.args.link.now).past (g.L.Link.seen step.new.link).past) (step.ensures.made.limit limit)
             (turned_then _ _ stops.Limit _ c.loop-made.made step.result.1 c.args.client.now c.loop-made.client step.new.client (g.L.Link.seen c.args.link.now).past (g.L.Link.seen c.loop-made.link).past
             (g.L.Link.seen step.new.link).past (λ is. absurd cc) c.loop-made.invariant.carried.went.keeps.keys_stay
             (λ honest. subst (λ ks. (g.L.Link.seen c.loop-made.link).honest (is_planned ks)) (sym c.loop-made.invariant.carried.went.keeps.keys_stay) (c.loop-made.invariant.carried.went.learns honest).0) c.loop-made.invariant.turned made.turned));
@@ -157,7 +162,7 @@ returns-then-not-go_on g c =
             let second = made.losing (c.loop-made.invariant.carried.went.good good)
             (subst (λ ks. (g.L.Link.seen c.loop-made.link).honest (is_planned ks)) (sym c.loop-made.invariant.carried.went.keeps.keys_stay)
             (c.loop-made.invariant.carried.went.learns honest).0) (limit_in_memory step.result.0 limit) in
-            let one = step.ensures.limit limit in
+            let one = step.ensures.made.limit limit in
             omega (arith, first, second, one);
       };
       limit = search rules;
@@ -168,11 +173,11 @@ returns-then-not-go_on g c =
           let below : c.loop-made.made < c.args.limit = search rules in
           omega (arith, told, below, c.loop-made.invariant.asked, c.go_on.ensures.asked);
       ended = λ honest.
-          step.ensures.ended (is_planned c.args.client.now.keys) (c.loop-made.invariant.carried.went.learns honest).0 ∙ c.loop-made.invariant.ended honest;
+          step.ensures.made.ended (is_planned c.args.client.now.keys) (c.loop-made.invariant.carried.went.learns honest).0 ∙ c.loop-made.invariant.ended honest;
     }
 
-pub returns : goal.returns
-returns g c =
+pub returns-clause-made : goal.returns-clause-made
+returns-clause-made g c =
     let made : c.loop-made.made ≡ c.args.limit = omega (arith, c.loop-made-test.false, c.loop-made.auto.made-end) in
     record {
       exchanges = record {
@@ -196,3 +201,18 @@ returns g c =
       asked = omega (arith, made, c.loop-made.invariant.asked);
       ended = search rules;
     }
+
+pub returns-then-not-is_at_limit-clause-followed : goal.returns-then-not-is_at_limit-clause-followed
+returns-then-not-is_at_limit-clause-followed g c = λ memory.
+    let step = c.exchange_once-carried in
+    g.met.L.Link.twice c.args.link.now c.loop-made.link step.new.link c.loop-made.invariant.followed (step.ensures.followed memory)
+
+pub returns-then-not-go_on-clause-followed : goal.returns-then-not-go_on-clause-followed
+returns-then-not-go_on-clause-followed g c = λ memory.
+    let step = c.exchange_once-carried in
+    let limit : step.result.0 ≡ Ok stops.Limit = search rules in
+    g.met.L.Link.twice c.args.link.now c.loop-made.link step.new.link c.loop-made.invariant.followed
+    (step.ensures.followed (subst HasMemory (sym limit) (λ is. absurd cc, λ is. absurd cc)))
+
+pub returns-clause-followed : goal.returns-clause-followed
+returns-clause-followed g c = λ memory. c.loop-made.invariant.followed

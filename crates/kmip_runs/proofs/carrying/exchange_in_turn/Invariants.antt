@@ -19,6 +19,7 @@ invariant-loop-made g l = record {
   turned : IsTurned ((g.L.Link.seen l.fn.link).honest (is_planned l.fn.client.keys)) stops.Limit l.made l.fn.client l.client (g.L.Link.seen l.fn.link).past (g.L.Link.seen l.link).past;
   counted : (g.K.Keeper.kept l.fn.keeper).refusals ≤ (g.K.Keeper.kept l.keeper).refusals;
   ended : (g.L.Link.seen l.fn.link).honest (is_planned l.fn.client.keys) → (g.L.Link.seen l.link).ended ≡ (g.L.Link.seen l.fn.link).ended;
+  followed : g.L.Link.follows l.fn.link l.link;
   paid : IsGood l.fn.client (g.L.Link.seen l.fn.link) → (g.L.Link.seen l.fn.link).honest (is_planned l.fn.client.keys)
       → ArePaid l.made (left_for l.fn.client (g.L.Link.seen l.fn.link).past) (left_for l.client (g.L.Link.seen l.link).past) (g.L.Link.seen l.fn.link).disturbances (g.L.Link.seen l.link).disturbances;
 }

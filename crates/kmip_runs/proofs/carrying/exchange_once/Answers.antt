@@ -10,8 +10,8 @@ use Rattle.kmip_runs.proofs.TurnedLemmas.{one_broken, one_rest, one_turn}
 use Rattle.kmip_runs.proofs.WentLemmas.{stop_is}
 use Rattle.kmip_runs.proofs.carrying.exchange_once.Goals as goal
 
-pub returns-in-Ok-false : goal.returns-in-Ok-false
-returns-in-Ok-false g c =
+pub returns-in-Ok-false-clause-made : goal.returns-in-Ok-false-clause-made
+returns-in-Ok-false-clause-made g c =
     let e = c.in-Ok-false.ensures in
     let client = c.args.client.now in
     let next = c.turn.new.client in
@@ -37,8 +37,8 @@ returns-in-Ok-false g c =
       ended = search rules;
     }
 
-pub returns-in-Err : goal.returns-in-Err
-returns-in-Err g c =
+pub returns-in-Err-clause-made : goal.returns-in-Err-clause-made
+returns-in-Err-clause-made g c =
     let e = c.in-Err.ensures in
     let client = c.args.client.now in
     let next = c.turn.new.client in
@@ -62,8 +62,8 @@ returns-in-Err g c =
       ended = search rules;
     }
 
-pub returns-in-Ok : goal.returns-in-Ok
-returns-in-Ok g c =
+pub returns-in-Ok-clause-made : goal.returns-in-Ok-clause-made
+returns-in-Ok-clause-made g c =
     let e = c.in-Ok-true.ensures in
     let client = c.args.client.now in
     let next = c.turn.new.client in
@@ -92,8 +92,8 @@ returns-in-Ok g c =
       ended = search rules;
     }
 
-pub returns-in-Err-save_progress : goal.returns-in-Err-save_progress
-returns-in-Err-save_progress g c =
+pub returns-in-Err-save_progress-clause-made : goal.returns-in-Err-save_progress-clause-made
+returns-in-Err-save_progress-clause-made g c =
     let e = c.in-Ok-true.ensures in
     let client = c.args.client.now in
     let next = c.turn.new.client in

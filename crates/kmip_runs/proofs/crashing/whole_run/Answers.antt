@@ -14,8 +14,8 @@ returns-in_err-one_run g c =
     let one = whole_one c.laws_of_runs.ensures keys c.as_slice.result.now c.args.run old new c.one_run.result _ c.keys.ensures.lawful none refl c.one_run.ensures in
     let result = c.from_residual.result in
     let fault = err_from_is_err_and result c.from_residual.ensures.1 in
-    subst (λ r. CrashesOne keys (record { run = c.args.run; crash = None }) old r new) (sym fault.1)
-    (whole_off keys c.args.run old new c.one_run.result c.in_err-one_run.field-0.0 fault.0 c.in_err-one_run.was fault.2 one)
+    subst (λ r. CrashesOne keys (record { run = c.args.run; crash = None }) old r new (g.L.Link.follows c.args.link.now c.one_run.new.link)) (sym fault.1)
+    (whole_off keys c.args.run old new c.one_run.result c.in_err-one_run.field-0.0 fault.0 _ c.in_err-one_run.was fault.2 one)
 
 pub returns : goal.returns
 returns g c =
@@ -24,4 +24,4 @@ returns g c =
     let new : CrashStage = record { client = c.one_run.new.client; link = g.L.Link.seen c.one_run.new.link; end = record c.args.end.now { campaign = c.one_run.new.end } } in
     let none : c.as_slice.result.now ≡ [] = c.as_slice.ensures.value ∙ c.new-nothing.ensures.items in
     let one = whole_one c.laws_of_runs.ensures keys c.as_slice.result.now c.args.run old new c.one_run.result _ c.keys.ensures.lawful none refl c.one_run.ensures in
-    whole_on keys c.args.run old new c.one_run.result c.in_ok-one_run.field-0 c.in_ok-one_run.was one
+    whole_on keys c.args.run old new c.one_run.result c.in_ok-one_run.field-0 _ c.in_ok-one_run.was one
