@@ -199,7 +199,8 @@ class Peers:
                 '--wait', '0', *more]
 
     def ended(self, words):
-        """The exit status of a command, or that it does not end, what is printed and told, and the seconds that it takes."""
+        """The exit status of a command, or that it does not end; what is printed and told; and the seconds that it
+        takes."""
         start = time.monotonic()
         with subprocess.Popen(words, stdout=subprocess.PIPE, stderr=subprocess.PIPE, text=True) as running:
             try:

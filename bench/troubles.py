@@ -26,8 +26,8 @@ TIME_STAMP, BATCH_COUNT, BATCH_ITEM, OPERATION, ITEM_ID = 0x420092, 0x42000d, 0x
 STATUS, REASON, PAYLOAD, UNIQUE_IDENTIFIER = 0x42007f, 0x42007e, 0x42007c, 0x420094
 STRUCTURE, INTEGER, ENUMERATION, TEXT, BYTES, DATE = 1, 2, 5, 7, 8, 9
 
-# What takes longer than so many seconds never ends, or is not given up. A busy machine takes seconds to start a program,
-# or to bring a file to the disk.
+# What takes longer than so many seconds never ends, or is not given up. A busy machine takes seconds to start a
+# program, or to bring a file to the disk.
 LONGEST = 60
 # What has not ended after so many seconds never does.
 EVER = 150
@@ -259,8 +259,8 @@ class Troubles:
         self.look(what, (lines, told), (printed.splitlines()[-1:], [stop]), (ending, status))
 
     def ended(self, where, *more, first=None, then=None):
-        """What comes of a run: its exit status, or that it does not end, and what is printed and told. Once it has told a
-        line that begins so, something else is done."""
+        """What comes of a run: its exit status, or that it does not end, and what is printed and told. Once it has
+        told a line that begins so, something else is done."""
         with open(self.path('told'), 'w') as told, subprocess.Popen(
                 self.words(where, more), cwd=self.folder, text=True, stdin=subprocess.DEVNULL, stdout=subprocess.PIPE,
                 stderr=told) as running:
