@@ -28,6 +28,8 @@ FINISHED = 'k1 active 2/2 finished\nfinished 1 of 1\nstop AllFinished 3\n'
 ALL_KNOWN = 'kmip-progress 2\nk1 active - 2 31\nend 1\n'
 SIMULATED = ('run 1 AllFinished 3\nk1 active 2/2 finished\nfinished 1 of 1\n'
              'ask 1 Locate k1\nask 2 Create k1\nask 3 Activate k1\nrecord 1 k1 Active\n')
+# What has not ended after so many seconds never does.
+EVER = 150
 # A Structure with nothing in it.
 ITEM = '4200080100000000\n'
 
@@ -103,7 +105,7 @@ class Causes:
 
     def run(self, words, said=(), **more):
         """A run in an environment with these variables."""
-        return subprocess.run([self.program, *words], cwd=self.folder, text=True, timeout=30, env=AROUND | dict(said),
+        return subprocess.run([self.program, *words], cwd=self.folder, text=True, timeout=EVER, env=AROUND | dict(said),
                               stdin=more.pop('stdin', subprocess.DEVNULL), **more)
 
     def case(self, what, words, printed, told, status=1, **more):
@@ -182,7 +184,7 @@ class Causes:
             return
         self.start()
         self.run((*RUN, '--progress', 'p', '--limit', '1'), stdout=subprocess.PIPE, stderr=subprocess.PIPE)
-        done = subprocess.run([*failing, self.program, *RUN, '--progress', 'p'], cwd=self.folder, text=True, timeout=60,
+        done = subprocess.run([*failing, self.program, *RUN, '--progress', 'p'], cwd=self.folder, text=True, timeout=EVER,
                               env=AROUND, stdin=subprocess.DEVNULL, capture_output=True)
         self.look(what, (done.returncode, 0), (done.stdout, FINISHED), (self.text('p'), ALL_KNOWN),
                   (done.stderr, f'p: {NO_DISK}; all is written, but a power cut may bring an older text back, which is true too\n'))
@@ -363,7 +365,7 @@ class Causes:
         for what in ('0<&-', '1>&-', '2>&-', '0<&- 1>&- 2>&-'):
             self.start()
             command = f'exec "$0" run --plan plan.toml --progress p --loopback --verbose {what}'
-            done = subprocess.run(['sh', '-c', command, self.program], cwd=self.folder, text=True, timeout=30,
+            done = subprocess.run(['sh', '-c', command, self.program], cwd=self.folder, text=True, timeout=EVER,
                                   stdin=subprocess.DEVNULL, capture_output=True)
             self.look(f'run with {what}', (done.returncode, 0), (self.text('p.lock'), ''), (self.text('p'), ALL_KNOWN),
                       (done.stdout, '' if '1>' in what else FINISHED),

@@ -18,7 +18,8 @@ import subprocess
 import sys
 import time
 
-LONGEST = 20
+# What has not come after so many seconds never does.
+LONGEST = 60
 OPTION = re.compile(r'^  (?:-\w, |    )--([\w-]+)(?: <(\w+)>)?', re.M)
 WORD = re.compile(r'^  <\w+>\n.*?\[possible values: ([^\]]*)\]', re.M | re.S)
 COMMANDS = re.compile(r'^Commands:\n(.*?)\n\n', re.M | re.S)

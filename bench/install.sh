@@ -44,9 +44,9 @@ skip() {
     echo "$1: skipped, this machine has no $2"
 }
 
-# Waits until the command succeeds, ten seconds at most.
+# Waits until the command succeeds, a minute at most.
 until_it_does() {
-    for _ in $(seq 100); do
+    for _ in $(seq 600); do
         if "$@" 2> /dev/null; then return; fi
         sleep 0.1
     done

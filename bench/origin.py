@@ -357,7 +357,7 @@ class Origins:
             words = [self.program, 'run', '--plan', self.plan, '--progress', self.progress, '--connect', peer.address,
                      '--metrics', os.path.join(self.folder, 'run.prom')]
             running = subprocess.Popen(words, stdout=subprocess.DEVNULL, stderr=subprocess.DEVNULL)
-            is_heard = heard.wait(30)
+            is_heard = heard.wait(150)
             running.kill()
             running.wait()
         self.look('a run was killed while it waited', is_heard, True)

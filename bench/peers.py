@@ -8,6 +8,7 @@ Each row prints what it looks at and `ok`, or what went wrong. Sockets on 127.0.
 is 0 where all is as it has to be.
 """
 
+import contextlib
 import os
 import shutil
 import socket
@@ -43,6 +44,16 @@ the batch id is echoed: yes
 reasons seen: 53, 67
 the promise holds here: each key is made once, and its steps are made once and in order
 '''
+# The most seconds that a run, look or probe may take that is to give up, or to go on, after 1 to 5 seconds. It tells
+# that from one that waits for ever, for as long as a reply drips (45 s), or for the time limit of `PATIENT`. It is
+# no less, as a busy machine may take seconds to start a program, or to bring a file to the disk.
+LONGEST = 30
+# Peers that say something have so much time for it: a busy machine does not make them silent ones.
+PATIENT = ('--timeout', '60')
+# The time limit of exchanges with a peer that holds its reply until it is let go.
+HELD = ('--timeout', '3600')
+# What has not ended or come after so many seconds never does.
+EVER = 150
 # The head of a reply of 144 bytes, and a Locate that found nothing of the name k2.
 HEAD = bytes.fromhex('42007b0100000090')
 OF_ANOTHER = HEAD + bytes.fromhex(
@@ -56,27 +67,27 @@ def silent(peer):
 
 
 def dripping(peer):
-    peer.recv(8192)
+    message(peer)
     for byte in HEAD + bytes(0x90):
         peer.send(bytes([byte]))
         time.sleep(0.3)
 
 
 def talking_rubbish(peer):
-    peer.recv(8192)
-    peer.send(b'HTTP/1.1 400 Bad Request\r\n\r\n')
+    message(peer)
+    peer.sendall(b'HTTP/1.1 400 Bad Request\r\n\r\n')
     peer.close()
 
 
 def closing_in_the_middle(peer):
-    peer.recv(8192)
-    peer.send(HEAD + bytes(20))
+    message(peer)
+    peer.sendall(HEAD + bytes(20))
     peer.close()
 
 
 def answering_another_question(peer):
-    while peer.recv(8192):
-        peer.send(OF_ANOTHER)
+    while message(peer):
+        peer.sendall(OF_ANOTHER)
 
 
 def answering_in_version_1_0(peer):
@@ -125,6 +136,19 @@ class Losing:
                 peer.sendall(reply)
 
 
+class Holding:
+    """A peer that holds the reply to each request until it is let go, and then closes without one."""
+
+    def __init__(self):
+        self.is_asked, self.is_let_go = threading.Event(), threading.Event()
+
+    def __call__(self, peer):
+        with peer:
+            message(peer)
+            self.is_asked.set()
+            self.is_let_go.wait()
+
+
 def listening(behaviour):
     """A port whose connections each behave so."""
     listener = socket.socket()
@@ -146,6 +170,24 @@ def listening(behaviour):
     return listener.getsockname()[1]
 
 
+def time_limit(behaviour):
+    """The time limit for exchanges with this peer: a second where the peer never gets to the end of a reply."""
+    return ('--timeout', '1') if behaviour in (silent, dripping) else PATIENT
+
+
+def until(condition):
+    """Waits until this holds, for ever at most, and says whether it does."""
+    end = time.monotonic() + EVER
+    while not condition() and time.monotonic() < end:
+        time.sleep(0.01)
+    return condition()
+
+
+def soon(took):
+    """The fact that this took no longer than it may."""
+    return took < LONGEST, f'it took {took:.2f} s, and may take {LONGEST}'
+
+
 class Peers:
     def __init__(self, program, folder):
         self.program, self.folder, self.wrong = program, folder, 0
@@ -156,40 +198,61 @@ class Peers:
         return [self.program, 'run', '--plan', plan or self.plan, '--progress', self.progress, *where,
                 '--wait', '0', *more]
 
+    def ended(self, words):
+        """The exit status of a command, or that it does not end; what is printed and told; and the seconds that it
+        takes."""
+        start = time.monotonic()
+        with subprocess.Popen(words, stdout=subprocess.PIPE, stderr=subprocess.PIPE, text=True) as running:
+            try:
+                printed, told = running.communicate(timeout=EVER)
+                status = running.returncode
+            except subprocess.TimeoutExpired:
+                running.kill()
+                printed, told = running.communicate()
+                status = f'killed, as it had not ended after {EVER} s'
+        return status, printed, told, time.monotonic() - start
+
     def run(self, where, *more, plan=None):
         """The exit status, what is printed, and the seconds that it takes; what is told meanwhile is kept."""
-        start = time.monotonic()
-        done = subprocess.run(self.words(where, *more, plan=plan), capture_output=True, text=True)
-        self.told = done.stderr
-        return done.returncode, done.stdout, time.monotonic() - start
+        status, printed, self.told, took = self.ended(self.words(where, *more, plan=plan))
+        return status, printed, took
+
+    def written(self, name):
+        return open(os.path.join(self.folder, name), 'w')
+
+    def read(self, name):
+        with open(os.path.join(self.folder, name)) as file:
+            return file.read()
 
     def forget(self):
         if os.path.exists(self.progress):
             os.remove(self.progress)
 
     def known(self):
-        with open(self.progress) as progress:
-            return progress.read()
+        return self.read('progress')
 
     def look(self, what, *facts):
         is_right = all(fact for fact, _ in facts)
-        print(f'{what}: ' + ('ok' if is_right else 'wrong'))
+        print(f'{what}: ' + ('ok' if is_right else 'wrong'), flush=True)
         for fact, said in facts:
             if not fact:
-                print(f'    {said!r}')
+                print(f'    {said!r}', flush=True)
         self.wrong += not is_right
 
     def serve(self, *more):
-        server = subprocess.Popen([self.program, 'serve', '--port', '0', *more], stdout=subprocess.PIPE, text=True)
+        """A server, and its port. What it tells is kept beside the progress, out of the way of the rows."""
+        with open(os.path.join(self.folder, 'server.told'), 'a') as told:
+            server = subprocess.Popen([self.program, 'serve', '--port', '0', *more], stdout=subprocess.PIPE, stderr=told,
+                                      text=True)
         return server, int(server.stdout.readline().split()[1])
 
     def bad_peers(self):
         for behaviour in (silent, dripping, talking_rubbish, closing_in_the_middle, answering_another_question):
             self.forget()
             port = listening(behaviour)
-            status, printed, took = self.run(('--connect', f'127.0.0.1:{port}'), '--limit', '3', '--timeout', '1')
+            status, printed, took = self.run(('--connect', f'127.0.0.1:{port}'), '--limit', '3', *time_limit(behaviour))
             self.look(f'a peer that is {behaviour.__name__.replace("_", " ")}',
-                      (status == 1, status), (printed == WORKING, printed), (took < 3.5, took),
+                      (status == 1, status), (printed == WORKING, printed), soon(took),
                       (self.known() == NOTHING_KNOWN, self.known()))
         server, port = self.serve('--connections', '1')
         status, printed, _ = self.run(('--connect', f'127.0.0.1:{port}'))
@@ -209,9 +272,8 @@ class Peers:
         status, printed, _ = self.run(where, '--limit', '50', plan=EXAMPLE)
         self.look('a longer plan over it', (status == 0, status),
                   (printed.endswith('finished 7 of 7\nstop AllFinished 24\n'), printed))
-        done = subprocess.run([self.program, 'probe', '--name-prefix', 'p', *where], capture_output=True, text=True)
-        self.look('a probe over it', (done.returncode == 0, done.returncode),
-                  (done.stdout.count(': yes\n') == 8, done.stdout))
+        status, printed, _ = self.probe(where)
+        self.look('a probe over it', (status == 0, status), (printed.count(': yes\n') == 8, printed))
         server.kill()
         server.wait()
 
@@ -247,14 +309,11 @@ class Peers:
             for one in waiting:
                 one.close()
         self.look('a Unix socket with no room for one more', (status == 1, status), (printed == WORKING, printed),
-                  (len(waiting) < 100, len(waiting)), (2.9 < took < 4.5, took))
+                  (len(waiting) < 100, len(waiting)), (2.9 < took, took), soon(took))
 
     def look_at(self, port, *more):
         """The exit status, what is printed and told, and the seconds that it takes."""
-        words = [self.program, 'look', '--plan', self.plan, '--connect', f'127.0.0.1:{port}', '--timeout', '1', *more]
-        start = time.monotonic()
-        done = subprocess.run(words, capture_output=True, text=True, timeout=60)
-        return done.returncode, done.stdout, done.stderr, time.monotonic() - start
+        return self.ended([self.program, 'look', '--plan', self.plan, '--connect', f'127.0.0.1:{port}', *more])
 
     def looks(self):
         """A look asks each question four times at most, and says why nothing is told."""
@@ -263,25 +322,25 @@ class Peers:
                                (answering_another_question, 'no reply'),
                                (answering_in_version_1_0, 'unreadable reply'),
                                (answering_without_a_count, 'unreadable reply')):
-            status, printed, told, took = self.look_at(listening(behaviour))
+            status, printed, told, took = self.look_at(listening(behaviour), *PATIENT)
             self.look(f'a look at a peer that is {behaviour.__name__.replace("_", " ")}', (status == 1, status),
-                      (printed == untold.format(why), printed), (told == '', told), (took < 3, took))
+                      (printed == untold.format(why), printed), (told == '', told), soon(took))
         for behaviour in (silent, dripping):
-            status, printed, told, took = self.look_at(listening(behaviour), '--give-up', '1')
+            status, printed, told, took = self.look_at(listening(behaviour), '--give-up', '1', *time_limit(behaviour))
             self.look(f'a look that gives up at a peer that is {behaviour.__name__}', (status == 1, status),
                       (printed == untold.format('no reply'), printed),
-                      (told == 'gave up: no answer came for 1 s\n', told), (took < 2.5, took))
+                      (told == 'gave up: no answer came for 1 s\n', told), soon(took))
 
     def looks_amid_losses(self):
         """Over a server whose first replies are lost: what is asked, and what is told of it."""
         finished = 'k1 active 1 Active finished\nfinished 1 of 1\n'
         server, port = self.serve('--connections', '1000000', '--verbose')
-        status, printed, told, _ = self.look_at(port)
+        status, printed, told, _ = self.look_at(port, *PATIENT)
         self.look('a look at a new server', (status == 1, status), (told == '', told),
                   (printed == 'k1 active - none to do: Create Activate\nfinished 0 of 1\n', printed))
         self.forget()
         self.run(('--connect', f'127.0.0.1:{port}'), '--limit', '2')
-        status, printed, told, _ = self.look_at(port, '--verbose')
+        status, printed, told, _ = self.look_at(port, '--verbose', *PATIENT)
         self.look('a look at a key on its way', (status == 1, status),
                   (printed == 'k1 active 1 PreActive to do: Activate\nfinished 0 of 1\n', printed),
                   (told == 'Locate k1: found 1\nGet Attributes k1: 1 is Pre-Active, AES 256, usage encrypt, decrypt\n'
@@ -289,11 +348,11 @@ class Peers:
         self.run(('--connect', f'127.0.0.1:{port}'))
         for lost, count in (((), 2), ((1, 2, 3), 5), ((2, 3, 4), 5), ((1, 3), 4)):
             losing = Losing(port, lost)
-            status, printed, told, _ = self.look_at(listening(losing))
+            status, printed, told, _ = self.look_at(listening(losing), *PATIENT)
             self.look(f'a look at a finished key, with {len(lost)} replies lost', (status == 0, status),
                       (printed == finished, printed), (told == '', told), (losing.count == count, losing.count))
         losing = Losing(port, (2, 3, 4, 5))
-        status, printed, told, _ = self.look_at(listening(losing))
+        status, printed, told, _ = self.look_at(listening(losing), *PATIENT)
         self.look('a look whose second question gets no reply', (status == 1, status),
                   (printed == 'k1 active 1 not told: no reply\nfinished 0 of 1\n', printed), (losing.count == 5, losing.count))
         server.kill()
@@ -301,20 +360,14 @@ class Peers:
 
     def probes(self):
         for behaviour in (silent, dripping, talking_rubbish, closing_in_the_middle):
-            words = [self.program, 'probe', '--name-prefix', 'p', '--timeout', '1']
-            start = time.monotonic()
-            done = subprocess.run([*words, '--connect', f'127.0.0.1:{listening(behaviour)}'],
-                                  capture_output=True, text=True)
-            took = time.monotonic() - start
-            self.look(f'a probe of a peer that is {behaviour.__name__.replace("_", " ")}',
-                      (done.returncode == 1, done.returncode), (done.stdout == UNTOLD, done.stdout),
-                      (took < 3.5, took))
+            words = [self.program, 'probe', '--name-prefix', 'p', '--connect', f'127.0.0.1:{listening(behaviour)}']
+            status, printed, _, took = self.ended([*words, *time_limit(behaviour)])
+            self.look(f'a probe of a peer that is {behaviour.__name__.replace("_", " ")}', (status == 1, status),
+                      (printed == UNTOLD, printed), soon(took))
 
     def probe(self, where, *more):
         """What comes of a probe: the exit status, and what is printed and told."""
-        words = [self.program, 'probe', '--name-prefix', 'p', *where, *more]
-        done = subprocess.run(words, capture_output=True, text=True, timeout=60)
-        return done.returncode, done.stdout, done.stderr
+        return self.ended([self.program, 'probe', '--name-prefix', 'p', *where, *more])[:3]
 
     def unreadable_peers(self):
         """A reply that can't be read is told from none, and its question is not asked again."""
@@ -348,7 +401,7 @@ class Peers:
         for number, lines in ((3, [MAKING]), (9, [MAKING, 'names are unique: yes\n'])):
             server, port = self.serve('--connections', '1000000')
             where = f'127.0.0.1:{listening(Losing(port, hangs_at=number))}'
-            words = [self.program, 'probe', '--name-prefix', 'p', '--timeout', '30', '--connect', where]
+            words = [self.program, 'probe', '--name-prefix', 'p', *PATIENT, '--connect', where]
             with subprocess.Popen(words, stdout=subprocess.PIPE, text=True) as probe:
                 told = [probe.stdout.readline() for _ in lines]
                 is_asking = probe.poll() is None
@@ -379,12 +432,12 @@ class Peers:
 
     def files(self):
         self.forget()
-        words = self.words(('--connect', f'127.0.0.1:{listening(silent)}'), '--limit', '1', '--timeout', '2')
-        with subprocess.Popen(words, stdout=subprocess.DEVNULL, stderr=subprocess.DEVNULL):
-            time.sleep(0.5)
+        with self.held_run() as (first, _):
             status, printed, _ = self.run(('--loopback',))
+            is_at_work = first.poll() is None
         wanted = f'progress in use: {self.progress}\n'
-        self.look('two runs on one progress', (status == 1, status), (printed == wanted, printed))
+        self.look('two runs on one progress', (is_at_work, 'the other has ended'), (status == 1, status),
+                  (printed == wanted, printed))
         for text in ('', ALL_KNOWN[:-1]):
             with open(self.progress, 'w') as progress:
                 progress.write(text)
@@ -403,26 +456,51 @@ class Peers:
         self.look('and that can', (status == 0, status), (printed == FINISHED.format(3), printed),
                   (self.known() == ALL_KNOWN, self.known()))
 
+    @contextlib.contextmanager
+    def held_run(self):
+        """A run that has its progress and waits for a reply, until it is let go by the call that comes with it."""
+        peer = Holding()
+        words = self.words(('--connect', f'127.0.0.1:{listening(peer)}'), '--limit', '1', *HELD)
+        with subprocess.Popen(words, stdout=subprocess.DEVNULL, stderr=subprocess.DEVNULL) as first:
+            try:
+                peer.is_asked.wait(EVER)
+                yield first, peer.is_let_go.set
+            finally:
+                peer.is_let_go.set()
+                until(lambda: first.poll() is not None)
+                first.kill()
+
     def waiting_runs(self):
         """A run that is to wait for the one that has its progress waits so long, or until that one has ended."""
         self.forget()
         waiting, in_use = f'waiting for {self.progress}: another run has it\n', f'progress in use: {self.progress}\n'
         server, port = self.serve('--connections', '1000000')
-        words = self.words(('--connect', f'127.0.0.1:{listening(silent)}'), '--limit', '1', '--timeout', '4')
-        with subprocess.Popen(words, stdout=subprocess.DEVNULL, stderr=subprocess.DEVNULL) as first:
-            time.sleep(0.5)
+        with self.held_run() as (first, let_go):
             status, printed, took = self.run(('--loopback',), '--lock-wait', '0')
             self.look('a run that is not to wait for another', (status == 1, status), (printed == in_use, printed),
-                      (self.told == '', self.told), (took < 0.5, took))
+                      (self.told == '', self.told), soon(took))
             status, printed, took = self.run(('--loopback',), '--lock-wait', '1')
             self.look('a run that waits for another for a second', (status == 1, status), (printed == in_use, printed),
-                      (self.told == waiting, self.told), (1 <= took < 2, took))
-            is_at_work = first.poll() is None
-            status, printed, took = self.run(('--connect', f'127.0.0.1:{port}'), '--lock-wait', '60')
+                      (self.told == waiting, self.told), (1 <= took, took), soon(took))
+            words = self.words(('--connect', f'127.0.0.1:{port}'), '--lock-wait', '3600')
+            with self.written('printed') as printed, self.written('told') as told, subprocess.Popen(
+                    words, stdout=printed, stderr=told) as second:
+                until(lambda: self.read('told') != '' or second.poll() is not None)
+                # A run that does not wait for the other ends meanwhile.
+                time.sleep(0.5)
+                is_at_work, is_waiting = first.poll() is None, second.poll() is None
+                let_go()
+                start = time.monotonic()
+                until(lambda: second.poll() is not None)
+                took = time.monotonic() - start
+                second.kill()
+            until(lambda: first.poll() is not None)
+            printed, told = self.read('printed'), self.read('told')
             self.look('a run that waits for the end of another', (is_at_work, 'the other has ended'),
-                      (status == 0, status), (printed == FINISHED.format(3), printed), (self.told == waiting, self.told),
-                      (0.5 < took < 4, took), (first.wait() == 1, first.returncode))
-        status, printed, _ = self.run(('--connect', f'127.0.0.1:{port}'), '--lock-wait', '60', '--verbose')
+                      (is_waiting, 'it has not waited'), (second.returncode == 0, second.returncode),
+                      (printed == FINISHED.format(3), printed), (told == waiting, told), soon(took),
+                      (first.returncode == 1, first.returncode))
+        status, printed, _ = self.run(('--connect', f'127.0.0.1:{port}'), '--lock-wait', '3600', '--verbose')
         self.look('a run that need not wait', (status == 0, status), (printed == FINISHED.format(0), printed),
                   ('waiting' not in self.told, self.told))
         server.kill()
@@ -430,44 +508,50 @@ class Peers:
 
     def no_client(self):
         words = [self.program, 'serve', '--port', '0', '--connections', '0']
-        done = subprocess.run(words, capture_output=True, text=True, timeout=10)
-        said, _, port = done.stdout.partition(' ')
+        status, printed, _, _ = self.ended(words)
+        said, _, port = printed.partition(' ')
         is_port = port[-1:] == '\n' and port[:-1].isdecimal() and 0 < int(port) < 65536
-        self.look('a server of no connections', (done.returncode == 0, done.returncode),
-                  (said == 'listening' and is_port, done.stdout))
+        self.look('a server of no connections', (status == 0, status), (said == 'listening' and is_port, printed))
 
     def taken_port(self):
         with socket.socket() as taken:
             taken.bind(('127.0.0.1', 0))
             taken.listen()
             words = [self.program, 'serve', '--port', str(taken.getsockname()[1]), '--connections', '1']
-            done = subprocess.run(words, capture_output=True, text=True, timeout=10)
-        self.look('a port where somebody listens already', (done.returncode == 1, done.returncode),
-                  (done.stdout == 'cannot listen\n', done.stdout))
+            status, printed, _, _ = self.ended(words)
+        self.look('a port where somebody listens already', (status == 1, status), (printed == 'cannot listen\n', printed))
 
     def bad_clients(self):
         self.forget()
-        server, port = self.serve('--connections', '1000000', '--timeout', '1')
+        # So much time that a run which the disk holds up between two exchanges is no silent client.
+        server, port = self.serve('--connections', '1000000', '--timeout', '5')
+
+        def files():
+            return len(os.listdir(f'/proc/{server.pid}/fd'))
+
+        def memory():
+            """The kilobytes of its own that it holds; pages of its file, which the system takes and gives, are not."""
+            with open(f'/proc/{server.pid}/smaps_rollup') as said:
+                return sum(int(line.split()[1]) for line in said if line.startswith(('Anonymous:', 'Swap:')))
+
+        at_rest = files()
         with socket.create_connection(('127.0.0.1', port)):
             status, printed, took = self.run(('--connect', f'127.0.0.1:{port}'))
         self.look('a server behind a silent client', (status == 0, status),
-                  (printed == FINISHED.format(3), printed), (took < 3, took))
-
-        def held():
-            with open(f'/proc/{server.pid}/status') as said:
-                memory = next(line for line in said if line.startswith('VmRSS'))
-            return len(os.listdir(f'/proc/{server.pid}/fd')), int(memory.split()[1])
-
-        before = held()
+                  (printed == FINISHED.format(3), printed), soon(took))
+        # The server sees the end of a connection a little later than the run that has ended it.
+        is_settled = until(lambda: files() <= at_rest)
+        before = memory()
         for _ in range(10_000):
             socket.create_connection(('127.0.0.1', port)).close()
         self.forget()
         status, printed, _ = self.run(('--connect', f'127.0.0.1:{port}'))
-        files, memory = held()
-        # The system may take or give a page meanwhile; the least that could leak by connection is 160 KB in all.
+        is_settled = until(lambda: files() <= at_rest) and is_settled
+        after = memory()
+        # The server may touch a page meanwhile; the least that could leak by connection is 160 KB in all.
         self.look('ten thousand connections one after the other', (status == 0, status),
-                  (printed == FINISHED.format(2), printed), (files <= before[0], (before, files)),
-                  (memory - before[1] < 64, (before, memory)))
+                  (printed == FINISHED.format(2), printed), (is_settled, (at_rest, files())),
+                  (after - before < 64, (before, after)))
         server.kill()
         server.wait()
 

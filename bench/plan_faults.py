@@ -235,7 +235,7 @@ class Trial:
 
     def look(self, row, words, printed, told, status=1):
         """Runs the program with these words, and compares what it does with what it has to do."""
-        done = subprocess.run([self.program, *words], stdin=subprocess.DEVNULL, capture_output=True, timeout=60)
+        done = subprocess.run([self.program, *words], stdin=subprocess.DEVNULL, capture_output=True, timeout=150)
         self.rows += 1
         pairs = [('exit status', done.returncode, status), ('standard output', done.stdout, printed.encode()),
                  ('standard error', done.stderr, told.encode())]

@@ -55,7 +55,7 @@ class Trial:
 
     def run(self, *words):
         """The lines that the program prints, and its status."""
-        done = subprocess.run([self.program, *words, '--give-up', '2'] if words[0] != 'probe' else [self.program, *words],
+        done = subprocess.run([self.program, *words, '--give-up', '10'] if words[0] != 'probe' else [self.program, *words],
                               cwd=self.folder, stdin=subprocess.DEVNULL, capture_output=True, text=True, timeout=120)
         return done.stdout.splitlines(), done.returncode
 

@@ -49,8 +49,8 @@ TOGETHER = os.cpu_count() or 1
 BATCH = 8 * TOGETHER
 # More growths than a run can have: a program that is refused for ever fails.
 MOST = 100_000
-# How long a run may take, in seconds.
-LONGEST = 30
+# How long a run may take, in seconds: what takes longer never ends, also on a busy machine.
+LONGEST = 90
 
 NO_MEMORY = "no memory\n"
 NO_MEMORY_DOCUMENT = '{"fault":"no memory"}\n'

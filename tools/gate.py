@@ -5,8 +5,9 @@
 
 It runs at the top of the repository. First comes `rt ci`; where that fails no trial is run. If it passes, a note next
 to the program says which sources it was proved from (tools/proved.sh). Each trial has a line, and what it printed stands in out/gate/NAME.log, and is printed too where it fails. A trial is skipped,
-by its name, where the machine lacks what it needs. The last line counts all: `N passed, N failed`, and how
-many were skipped where some were. The exit status is 0 where nothing failed.
+by its name, where the machine lacks what it needs. At the end the lines of each trial that failed stand once more,
+without the rows that are ok. The last line counts all: `N passed, N failed`, and how many were skipped where some
+were. The exit status is 0 where nothing failed.
 """
 
 import os
@@ -22,6 +23,10 @@ GROWTHS = 'crates/test_memory/out/test_memory'
 LOGS = 'out/gate'
 PROVED = os.path.join(TOP, 'tools/proved.sh')
 COUNTS = re.compile(r'^(\d+) passed, (\d+) failed')
+# How many lines of a trial that failed stand at the end, and how many characters of each: who has only the last 25
+# lines of the gate finds there what was wrong.
+MOST_LINES = 15
+WIDEST = 300
 
 # The name, the command, and the programs that it needs: of each inner list one.
 TRIALS = [
@@ -86,12 +91,31 @@ def succeeds(name, command):
     return not status
 
 
+def wrong_lines(name):
+    """What a trial printed beside rows that are ok; of many lines the first and the last ones."""
+    with open(f'{LOGS}/{name}.log', errors='replace') as log:
+        lines = [line.rstrip() for line in log]
+    lines = [line[:WIDEST] for line in lines if line and not line.endswith(': ok')]
+    if len(lines) <= MOST_LINES:
+        return lines
+    first, last = lines[:MOST_LINES // 2], lines[-(MOST_LINES // 2):]
+    return [*first, f'({len(lines) - len(first) - len(last)} more lines in {LOGS}/{name}.log)', *last]
+
+
+def tell_failed(names):
+    """Prints once more what was wrong in the trials that failed."""
+    for name in names:
+        print(f'{name} FAILED:')
+        for line in wrong_lines(name):
+            print(f'    {line}')
+
+
 def main():
     os.chdir(TOP)
     os.makedirs(LOGS, exist_ok=True)
     before = sum_of_sources()
     passed, failed = prove()
-    skipped = 0
+    skipped, wrong = 0, []
     if not failed and not note_proof(before):
         failed += 1
     if failed:
@@ -104,7 +128,9 @@ def main():
         elif succeeds(name, command):
             passed += 1
         else:
-            failed += 1
+            wrong.append(name)
+    tell_failed(wrong)
+    failed += len(wrong)
     print(f'{passed} passed, {failed} failed' + (f', {skipped} skipped' if skipped else ''))
     return 1 if failed else 0
 

@@ -37,12 +37,13 @@ fn place_of(target: usize, word: &str) -> Option<usize> {
 
 /// The words of a look at the keys of the plan in the folder, over a connection to this port.
 fn words(shared: &Shared, program: &Path, folder: &Path, port: u16) -> Command {
+    let patience = shared.patience();
     let mut look = Command::new(program);
     look.args(["look", "--plan"])
         .arg(folder.join("plan.toml"))
         .args(["--connect", &format!("127.0.0.1:{port}")])
         .args(["--batch", &(1 + shared.below(8)).to_string()])
-        .args(["--timeout", "2", "--give-up", "5"])
+        .args(["--timeout", &patience.to_string(), "--give-up", &(3 * patience).to_string()])
         .stdout(Stdio::piped())
         .stderr(Stdio::null());
     look

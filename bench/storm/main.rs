@@ -35,7 +35,7 @@ use std::sync::Arc;
 /// A server, and the port that it listens at.
 fn serve(program: &Path) -> io::Result<(Child, u16)> {
     let mut server = Command::new(program)
-        .args(["serve", "--port", "0", "--connections", "4294967295", "--timeout", "5"])
+        .args(["serve", "--port", "0", "--connections", "4294967295", "--timeout", "60"])
         .stdout(Stdio::piped())
         .spawn()?;
     let mut line = String::new();

@@ -84,13 +84,22 @@ impl Shared {
         *self.breaker.lock().unwrap() = Breaker::new(breach, prefix);
     }
 
-    /// Waits until no connection is carried, and delivers or drops what was delayed.
-    pub fn end_storm(&self) -> io::Result<()> {
-        thread::sleep(Duration::from_millis(5));
+    /// Waits until no connection is carried, and delivers or drops what was delayed. The proxy listens at this port.
+    pub fn end_storm(&self, proxy: u16) -> io::Result<()> {
+        // Connections are taken in the order in which they came: once this one has ended, those of runs that were
+        // killed are taken, too.
+        let mut last = TcpStream::connect(("127.0.0.1", proxy))?;
+        last.shutdown(Shutdown::Write)?;
+        last.read_to_end(&mut Vec::new())?;
         while self.carried.load(Ordering::SeqCst) > 0 {
             thread::sleep(Duration::from_millis(1));
         }
         self.deliver_delayed(true)
+    }
+
+    /// How many seconds an exchange may take. No reply is lost in a calm, so that a busy machine costs no exchange there.
+    pub fn patience(&self) -> u64 {
+        if self.is_calm.load(Ordering::SeqCst) { 60 } else { 2 }
     }
 
     pub fn below(&self, most: u64) -> u64 {

@@ -31,7 +31,7 @@ fn probe(
         .args(["probe", "--name-prefix", prefix, "--timeout", "2", "--connect"])
         .arg(format!("127.0.0.1:{port}"))
         .output()?;
-    shared.end_storm()?;
+    shared.end_storm(port)?;
     Ok(String::from_utf8_lossy(&output.stdout).into_owned())
 }
 

@@ -84,7 +84,7 @@ fn start(
         .arg("--connect")
         .arg(format!("127.0.0.1:{port}"))
         .args(["--limit", &limit.to_string(), "--batch", &batch.to_string()])
-        .args(["--timeout", "2", "--wait", "1"])
+        .args(["--timeout", &shared.patience().to_string(), "--wait", "1"])
         .stdout(Stdio::piped())
         .stderr(Stdio::null())
         .spawn()
@@ -184,7 +184,7 @@ fn carry_plan(
     }
     looks.end(plan)?;
     // The storm ends: what killed runs have sent comes to its end, and what was delayed.
-    shared.end_storm()?;
+    shared.end_storm(port)?;
     shared.is_calm.store(true, Ordering::SeqCst);
     finish(shared, program, folder, &files, port, plan, tally)?;
     looks.end_in_calm(shared, program, folder, port, plan)

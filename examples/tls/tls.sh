@@ -29,9 +29,9 @@ finish() {
 }
 trap finish EXIT
 
-# Waits until the command succeeds, ten seconds at most.
+# Waits until the command succeeds, a minute at most.
 until_it_does() {
-    for _ in $(seq 100); do
+    for _ in $(seq 600); do
         if "$@" 2> /dev/null; then return; fi
         sleep 0.1
     done
