@@ -7,6 +7,7 @@ use crate::progress_line::ProgressLine;
 use crate::reach::Reach;
 use crate::silence::Silence;
 use crate::story::Story;
+use crate::untaken::Untaken;
 use crate::wire::Wire;
 use kmip_batch_items::Request;
 use kmip_choices::{Peer, RunOptions};
@@ -14,11 +15,10 @@ use kmip_client::Client;
 use kmip_plan::{Key, Plan};
 use kmip_plan_commands::{RunTally, Spent, begin};
 use kmip_protocol::LinkFault;
-use kmip_tally::Standing;
 use kmip_trace::{operation_word, push_answer};
 use kmip_ttlv::{NoMemory, plain_text};
 use std::alloc::Global;
-use std::cell::{Cell, RefCell};
+use std::cell::Cell;
 use std::str::from_utf8;
 use std::time::{Duration, Instant};
 
@@ -39,12 +39,11 @@ pub struct Account<'a> {
     began: Option<Instant>,
     exchange_began: Cell<Option<Instant>>,
     spent: Cell<Spent>,
-    reach: RefCell<Reach>,
-    findings: Findings,
+    untaken: Untaken,
 }
 
 impl<'a> Account<'a> {
-    /// Of a run of this plan that begins now, with the text of this progress.
+    /// Of a run of this plan that begins now.
     ///
     /// # Errors
     /// Where there is no memory.
@@ -52,10 +51,8 @@ impl<'a> Account<'a> {
         rt: &'a HostRuntime,
         options: &'a RunOptions,
         plan: &'a Plan,
-        saved: Option<&str>,
     ) -> Result<Self, NoMemory> {
         let peer = peer_text(rt.alloc(), &options.peer)?;
-        let findings = Findings::new(rt.alloc(), plan, saved)?;
         let now = Instant::now(rt).ok();
         Ok(Account {
             rt,
@@ -72,8 +69,7 @@ impl<'a> Account<'a> {
                 refused: 0,
                 seconds: 0,
             }),
-            reach: RefCell::new(Reach::new()),
-            findings,
+            untaken: Untaken::new(rt.alloc()),
         })
     }
 
@@ -113,53 +109,55 @@ impl<'a> Account<'a> {
 
     /// An exchange was made: the bytes that were sent, and what came of it. What there is no memory for
     /// is not told.
-    pub(crate) fn exchanged(&self, request: &[u8], answered: Result<Option<&[u8]>, LinkFault>) {
+    pub(crate) fn exchanged(
+        &self,
+        request: &[u8],
+        answered: Result<Option<&[u8]>, LinkFault>,
+        reach: &mut Reach,
+    ) {
         let now = Instant::now(self.rt).ok();
         let alloc = self.rt.alloc();
         match Exchange::of(alloc, request, answered, &self.wire) {
             Ok(exchange) => {
                 self.spend(&exchange);
-                let _ = self.findings.take_in(alloc, &exchange);
-                let _ = self.tell_reach(exchange.silence, now);
+                let _ = self.tell_reach(reach, exchange.silence, now);
                 if self.options.is_verbose {
                     let _ = self.tell_exchange(&exchange, now);
                     self.tell_strangers(&exchange, answered.unwrap_or(None));
                 }
+                self.untaken.put(alloc, exchange);
             }
-            Err(NoMemory) => self.findings.fall_short(),
+            Err(NoMemory) => self.untaken.fall_short(),
         }
     }
 
-    /// So much is known after an exchange.
-    pub(crate) fn know(&self, client: &Client<'_>) {
-        self.findings.know(client);
+    /// So much is known after an exchange. The findings take in both.
+    pub(crate) fn know(&self, client: &Client<'_>, findings: &mut Findings) {
+        let alloc = self.rt.alloc();
+        let exchanges = self.untaken.take(alloc);
+        findings.learn(alloc, exchanges.as_slice(), client);
         self.standing.show(client, self.spent.get());
     }
 
-    /// What is counted of the run, which has come so far as the client knows.
-    ///
-    /// # Errors
-    /// Where there is no memory, or there was none to read an exchange.
-    pub fn tally(&self, client: &Client<'_>) -> Result<RunTally, NoMemory> {
-        self.findings.know_all(client);
-        self.tally_so_far()
+    /// The findings take in the exchanges that no `know` followed. A run ends so if memory runs out in
+    /// its last one.
+    pub(crate) fn take_in(&self, findings: &mut Findings) {
+        let alloc = self.rt.alloc();
+        let exchanges = self.untaken.take(alloc);
+        findings.take_in(alloc, exchanges.as_slice());
     }
 
     /// What is counted of the run, by what was known after its last exchange.
     ///
     /// # Errors
-    /// Where there is no memory, or there was none to read an exchange.
-    pub fn tally_so_far(&self) -> Result<RunTally, NoMemory> {
+    /// Where there is no memory, or there was none for an exchange.
+    pub fn tally(&self, findings: &Findings) -> Result<RunTally, NoMemory> {
+        if self.untaken.is_short() {
+            return Err(NoMemory);
+        }
         let milliseconds = millis_of(since(self.began, Instant::now(self.rt).ok()));
         let (alloc, keys) = (self.rt.alloc(), self.plan.keys());
-        self.findings
-            .tally(alloc, keys, self.spent.get(), milliseconds)
-    }
-
-    /// How the keys stand by what is known; none where the progress that the run is to begin with is
-    /// refused.
-    pub fn standing(&self) -> Option<Standing> {
-        self.findings.standing()
+        findings.tally(alloc, keys, self.spent.get(), milliseconds)
     }
 
     /// Ends the line that says how far the run is, where there is one.
@@ -187,10 +185,12 @@ impl<'a> Account<'a> {
 
     /// Tells where the server begins or ceases to answer, and where it does not for another reason than
     /// before.
-    fn tell_reach(&self, silence: Option<Silence>, now: Option<Instant>) -> Result<(), NoMemory> {
-        let Ok(mut reach) = self.reach.try_borrow_mut() else {
-            return Ok(());
-        };
+    fn tell_reach(
+        &self,
+        reach: &mut Reach,
+        silence: Option<Silence>,
+        now: Option<Instant>,
+    ) -> Result<(), NoMemory> {
         match silence {
             Some(Silence::NoMemory) => Ok(()), // the run ends
             None => match reach.answer() {
@@ -284,7 +284,7 @@ impl<'a> Account<'a> {
     ///
     /// # Errors
     /// Where there is no memory.
-    pub fn tell_unfinished(&self) -> Result<(), NoMemory> {
+    pub fn tell_unfinished(&self, findings: &Findings) -> Result<(), NoMemory> {
         let spent = self.spent.get();
         let exchanges = spent.exchanges;
         if exchanges == 0 {
@@ -298,10 +298,7 @@ impl<'a> Account<'a> {
             self.tell(line.as_str());
             return Ok(());
         }
-        match self.findings.stories.try_borrow() {
-            Ok(stories) => self.tell_stories(stories.as_slice()),
-            Err(_) => Ok(()),
-        }
+        self.tell_stories(findings.stories())
     }
 
     /// Tells why the keys of these stories are not finished.

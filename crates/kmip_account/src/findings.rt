@@ -13,19 +13,16 @@ use kmip_plan_commands::{RunTally, Spent};
 use kmip_tally::Standing;
 use kmip_ttlv::NoMemory;
 use std::alloc::Global;
-use std::cell::{Cell, RefCell};
 
-/// What a run finds out of the keys of its plan. Nobody borrows a cell of it for longer than a call.
+/// What a run finds out of the keys of its plan. While the run works, its `Watch` has them alone.
 #[derive(Drop)]
-pub(crate) struct Findings {
+pub struct Findings {
     places: Places,
     /// What was heard of each key, in the order of the plan.
-    pub(crate) stories: RefCell<Vec<Story>>,
-    score: RefCell<Score>,
-    /// Of which keys the last exchange may have told.
-    taught: RefCell<Taught>,
+    stories: Vec<Story>,
+    score: Score,
     /// Whether all that the client knows was taken in once: it may have begun with a saved progress.
-    has_known: Cell<bool>,
+    has_known: bool,
 }
 
 impl Findings {
@@ -33,57 +30,49 @@ impl Findings {
     ///
     /// # Errors
     /// Where there is no memory.
-    pub(crate) fn new(alloc: Global, plan: &Plan, saved: Option<&str>) -> Result<Self, NoMemory> {
+    pub fn new(alloc: Global, plan: &Plan, saved: Option<&str>) -> Result<Self, NoMemory> {
         let places = Places::of(alloc, plan.keys())?;
         let stories = stories_of(alloc, plan.count())?;
         let score = Score::new(alloc, plan, saved)?;
         Ok(Findings {
             places,
-            stories: RefCell::new(stories),
-            score: RefCell::new(score),
-            taught: RefCell::new(Taught::Any),
-            has_known: Cell::new(false),
+            stories,
+            score,
+            has_known: false,
         })
     }
 
-    /// Takes in an exchange: counts it, and notes what was heard of each key that it asked about.
-    ///
-    /// # Errors
-    /// Where there is no memory to note what was heard.
-    pub(crate) fn take_in(&self, alloc: Global, exchange: &Exchange) -> Result<(), NoMemory> {
-        if let Ok(mut score) = self.score.try_borrow_mut() {
-            score.count(&self.places, exchange);
-        }
-        self.note_taught(alloc, exchange);
-        let Ok(mut stories) = self.stories.try_borrow_mut() else {
-            return Ok(());
-        };
-        let stories = stories.as_mut_slice();
-        for request in &exchange.requests {
-            keep_request(alloc, &self.places, stories, exchange, request)?;
-        }
-        Ok(())
+    /// How the keys stand by what is known; none where the progress that the run is to begin with is
+    /// refused.
+    pub fn standing(&self) -> Option<Standing> {
+        self.score.standing()
     }
 
-    /// There was no memory to read an exchange.
-    pub(crate) fn fall_short(&self) {
-        self.set_taught(Taught::Any);
-        if let Ok(mut score) = self.score.try_borrow_mut() {
-            score.fall_short();
+    /// What was heard of each key, in the order of the plan.
+    pub(crate) fn stories(&self) -> &[Story] {
+        self.stories.as_slice()
+    }
+
+    /// Takes in these exchanges. What was heard is left out if there is no memory to note it.
+    pub(crate) fn take_in(&mut self, alloc: Global, exchanges: &[Exchange]) {
+        for exchange in exchanges {
+            self.score.count(&self.places, exchange);
+            let _ = self.hear(alloc, exchange);
         }
     }
 
-    /// So much is known after an exchange.
-    pub(crate) fn know(&self, client: &Client<'_>) {
-        match self.taught.try_borrow() {
-            Ok(taught) if self.has_known.get() => self.know_of(client, &taught),
-            Ok(_) | Err(_) => self.know_all(client),
+    /// Takes in these exchanges, and what the client knows after them.
+    pub(crate) fn learn(&mut self, alloc: Global, exchanges: &[Exchange], client: &Client<'_>) {
+        self.take_in(alloc, exchanges);
+        match self.taught(alloc, exchanges) {
+            Taught::Asked(places) if self.has_known => self.know_of(client, places.as_slice()),
+            Taught::Asked(_) | Taught::Any => self.know_all(client),
         }
-        self.has_known.set(true);
+        self.has_known = true;
     }
 
     /// Takes in what the client knows of each key.
-    pub(crate) fn know_all(&self, client: &Client<'_>) {
+    pub(crate) fn know_all(&mut self, client: &Client<'_>) {
         let count = client.plan().count();
         for place in 0..count {
             self.know_key(client, place);
@@ -93,7 +82,7 @@ impl Findings {
     /// The tally of a run of these keys that has spent so much.
     ///
     /// # Errors
-    /// Where there is no memory, or there was none to read an exchange.
+    /// Where there is no memory.
     pub(crate) fn tally(
         &self,
         alloc: Global,
@@ -101,65 +90,50 @@ impl Findings {
         spent: Spent,
         milliseconds: u64,
     ) -> Result<RunTally, NoMemory> {
-        match self.score.try_borrow() {
-            Ok(score) => score.tally(alloc, keys, spent, milliseconds),
-            Err(_) => Err(NoMemory), // never
-        }
+        self.score.tally(alloc, keys, spent, milliseconds)
     }
 
-    /// How the keys stand by what is known; none where the progress that the run is to begin with is
-    /// refused.
-    pub(crate) fn standing(&self) -> Option<Standing> {
-        match self.score.try_borrow() {
-            Ok(score) => score.standing(),
-            Err(_) => None, // never
+    /// Notes what was heard of each key that an exchange asked about.
+    ///
+    /// # Errors
+    /// Where there is no memory.
+    fn hear(&mut self, alloc: Global, exchange: &Exchange) -> Result<(), NoMemory> {
+        let stories = self.stories.as_mut_slice();
+        for request in &exchange.requests {
+            keep_request(alloc, &self.places, stories, exchange, request)?;
         }
+        Ok(())
     }
 
-    /// Takes in what the client knows of the keys that were told of.
-    fn know_of(&self, client: &Client<'_>, taught: &Taught) {
-        match taught {
-            Taught::Asked(places) => {
-                for place in places {
-                    self.know_key(client, *place);
+    /// Of which keys these exchanges may have told.
+    fn taught(&self, alloc: Global, exchanges: &[Exchange]) -> Taught {
+        match exchanges {
+            [exchange] if exchange.silence.is_none() => {
+                match self.places.places(alloc, exchange.requests.as_slice()) {
+                    Ok(places) => Taught::Asked(places),
+                    Err(NoMemory) => Taught::Any,
                 }
             }
-            Taught::Any => self.know_all(client),
+            _ => Taught::Any,
+        }
+    }
+
+    /// Takes in what the client knows of the keys at these places.
+    fn know_of(&mut self, client: &Client<'_>, places: &[usize]) {
+        for place in places {
+            self.know_key(client, *place);
         }
     }
 
     /// Takes in what the client knows of the key at a place.
-    fn know_key(&self, client: &Client<'_>, place: usize) {
+    fn know_key(&mut self, client: &Client<'_>, place: usize) {
         let Some(stage) = Stage::of(client, place) else {
             return;
         };
-        if let Ok(mut stories) = self.stories.try_borrow_mut() {
-            if place < stories.len() {
-                stories[place].reach(stage);
-            }
+        if place < self.stories.len() {
+            self.stories[place].reach(stage);
         }
-        if let Ok(mut score) = self.score.try_borrow_mut() {
-            score.know(place, stage);
-        }
-    }
-
-    /// Notes of which keys an exchange may have told.
-    fn note_taught(&self, alloc: Global, exchange: &Exchange) {
-        if exchange.silence.is_some() {
-            self.set_taught(Taught::Any);
-            return;
-        }
-        match self.places.places(alloc, exchange.requests.as_slice()) {
-            Ok(places) => self.set_taught(Taught::Asked(places)),
-            Err(NoMemory) => self.set_taught(Taught::Any),
-        }
-    }
-
-    /// Of these keys the last exchange may have told.
-    fn set_taught(&self, taught: Taught) {
-        if let Ok(mut last) = self.taught.try_borrow_mut() {
-            *last = taught;
-        }
+        self.score.know(place, stage);
     }
 }
 

@@ -1,10 +1,11 @@
 //! What `run`, `probe` and `serve` tell on standard error while they work.
 //!
 //! `Account` tells of a run: how far it is, why the server does not answer, and what was heard of each
-//! key that is not finished. `Teller` and `Watch` hand it what happens. `Wire` notes what comes over the
-//! streams of an exchange, and a `Noted` stream is its own otherwise. `tell_exchange` is for `probe` and
-//! `serve`. An account also counts: its tally is a `RunTally`, and `Metrics` is that as a text. Which
-//! steps the run took, and how the keys stand, it knows by kmip_tally.
+//! key that is not finished. `Teller` hands it the exchanges. `Watch` takes them on to `Findings`, with
+//! what is known after each. `Wire` notes what comes over the streams of an exchange, and a `Noted` stream
+//! is its own otherwise. `tell_exchange` is for `probe` and `serve`. An account also counts: its tally is
+//! a `RunTally`, and `Metrics` is that as a text. Which steps the run took, and how the keys stand, is
+//! found out by kmip_tally.
 //!
 //! All is safe and total. None of it has a clause, as std tells a contract nothing of standard error and
 //! of cells. `make troubles`, `make peers` and the stored runs want the lines. test_account wants the
@@ -32,11 +33,13 @@ mod stage;
 mod story;
 mod taught;
 mod teller;
+mod untaken;
 mod watch;
 mod wire;
 
 pub use account::Account;
 pub use exchange_line::tell_exchange;
+pub use findings::Findings;
 pub use metrics::Metrics;
 pub use noted::Noted;
 pub use teller::Teller;

@@ -21,8 +21,6 @@ pub(crate) struct Score {
     verdicts: Option<Verdicts>,
     /// How many exchanges brought a reply that cannot be read.
     unreadable: u64,
-    /// Whether there was no memory to read an exchange, of which nothing is counted then.
-    is_short: bool,
 }
 
 impl Score {
@@ -44,7 +42,6 @@ impl Score {
             courses,
             verdicts,
             unreadable: 0,
-            is_short: false,
         })
     }
 
@@ -65,11 +62,6 @@ impl Score {
         }
     }
 
-    /// There was no memory to read an exchange.
-    pub(crate) fn fall_short(&mut self) {
-        self.is_short = true;
-    }
-
     /// So much is known now of the key at a place.
     pub(crate) fn know(&mut self, place: usize, stage: Stage) {
         if place < self.courses.len() {
@@ -85,7 +77,7 @@ impl Score {
     /// The tally of a run of these keys that has spent so much.
     ///
     /// # Errors
-    /// Where there is no memory, or there was none to read an exchange.
+    /// Where there is no memory.
     pub(crate) fn tally(
         &self,
         alloc: Global,
@@ -93,9 +85,6 @@ impl Score {
         spent: Spent,
         milliseconds: u64,
     ) -> Result<RunTally, NoMemory> {
-        if self.is_short {
-            return Err(NoMemory);
-        }
         let mut steps = Vec::with_capacity(alloc, keys.len())?;
         for (key, course) in keys.iter().zip(&self.courses) {
             steps.push(course.taken(key))?;

@@ -1,10 +1,10 @@
-//! Of which keys an exchange may have told.
+//! Of which keys exchanges may have told.
 
-/// Of which keys an exchange may have told something.
+/// Of which keys exchanges may have told something.
 #[derive(Drop)]
 pub(crate) enum Taught {
-    /// Those that it asked about, by their places in the plan.
+    /// Those that the one exchange asked about, by their places in the plan.
     Asked(Vec<usize>),
-    /// Any: it brought no reply, or there was no memory to read it.
+    /// Any: there is no reply, there was no memory for it, or there was more than one exchange.
     Any,
 }

@@ -1,26 +1,33 @@
 //! What `run` tells of its exchanges while it works.
 
 use crate::account::Account;
+use crate::reach::Reach;
 use kmip_protocol::LinkFault;
 use kmip_runs::Observer;
 
 /// Gives each exchange to the account of a run.
 #[derive(Drop)]
-pub struct Teller<'a>(&'a Account<'a>);
+pub struct Teller<'a> {
+    account: &'a Account<'a>,
+    reach: Reach,
+}
 
 impl<'a> Teller<'a> {
     /// One that tells this account.
     pub fn new(account: &'a Account<'a>) -> Self {
-        Teller(account)
+        Teller {
+            account,
+            reach: Reach::new(),
+        }
     }
 }
 
 impl<'a> Observer for Teller<'a> {
     fn exchanged(&mut self, request: &[u8], answered: Result<Option<&[u8]>, LinkFault>) {
-        self.0.exchanged(request, answered);
+        self.account.exchanged(request, answered, &mut self.reach);
     }
 
     fn ended(&mut self) {
-        self.0.end_line();
+        self.account.end_line();
     }
 }

@@ -37,8 +37,8 @@ pub fn run_look<L: Link, P: Pause, W: Write>(
     requires batch { IsTrue (may_have batch) }
     // The mark has at most 16 bytes.
     requires mark { length mark.now ≤ 16 }
-    ensures { WritesLook (L.seen link.old) plan.now mark.now (L.seen link.new) result
-        (W.contents writer.old) (W.contents writer.new) }
+    ensures { WritesLook (L.seen link.old) plan.now mark.now (L.seen link.new)
+        (P.has_given_up pause.new) result (W.contents writer.old) (W.contents writer.new) }
 {
     let ended = look_to(alloc, plan, link, mark, batch, pause, writer);
     finished(ended, writer)
@@ -62,8 +62,8 @@ pub fn look_bytes<L: Link, P: Pause>(
     requires batch { IsTrue (may_have batch) }
     // The mark has at most 16 bytes.
     requires mark { length mark.now ≤ 16 }
-    ensures { AppendsLook (L.seen link.old) plan.now mark.now (L.seen link.new) result
-        output.old.items output.new.items }
+    ensures { AppendsLook (L.seen link.old) plan.now mark.now (L.seen link.new)
+        (P.has_given_up pause.new) result output.old.items output.new.items }
 {
     let mut printed = Printed {
         text: mem::replace(output, Vec::new(alloc)),
@@ -92,12 +92,13 @@ fn look_to<L: Link, P: Pause, Q: Printer>(
 ) -> Result<bool, CommandFault>
     requires batch { IsTrue (may_have batch) }
     requires mark { length mark.now ≤ 16 }
-    ensures { PrintsLook (L.seen link.old) plan.now mark.now (L.seen link.new) result (record {
-      own_fault = Q.own_fault;
-      IsWhole = Q.IsWhole;
-      old = Q.contents printer.old;
-      new = Q.contents printer.new;
-    }) }
+    ensures { PrintsLook (L.seen link.old) plan.now mark.now (L.seen link.new)
+        (P.has_given_up pause.new) result (record {
+          own_fault = Q.own_fault;
+          IsWhole = Q.IsWhole;
+          old = Q.contents printer.old;
+          new = Q.contents printer.new;
+        }) }
 {
     match look(alloc, plan, link, mark, batch, pause) {
         Ok(lookeds) => print_looked(alloc, plan.keys(), lookeds.as_slice(), printer),

@@ -2,7 +2,7 @@
 ghost use Rattle.std.specs.Prelude.{◌≡◌, IfOk};
 ghost use Rattle.kmip_plan_commands.specs.RunText.{is_end_refused};
 
-use kmip_account::Account;
+use kmip_account::Watch;
 use kmip_json::{push_progress_fault, push_run};
 use kmip_plan_commands::RunEnd;
 use kmip_trouble::{Cannot, push_told};
@@ -10,15 +10,16 @@ use kmip_ttlv::NoMemory;
 use std::alloc::Global;
 use std::io::Error;
 
-/// Appends the documents of the end of a run, whose progress is kept at the path. Says whether something
-/// was refused, not kept or left unfinished.
+/// Appends the documents of the end of a run that was watched, whose progress is kept at the path. Says
+/// whether something was refused, not kept or left unfinished.
 ///
 /// Where the progress could not be kept, it is the document of that, with the word of the system.
 ///
 /// # Errors
 /// Where there is no memory for them.
 pub(crate) fn push_end(
-    account: &Account<'_>,
+    alloc: Global,
+    watch: &mut Watch<'_>,
     path: &str,
     failure: Option<&Error>,
     end: &RunEnd<'_>,
@@ -26,12 +27,11 @@ pub(crate) fn push_end(
 ) -> Result<bool, NoMemory>
     ensures { IfOk result (λ r. r ≡ is_end_refused end.now) }
 {
-    let alloc = account.rt().alloc();
     match end {
         RunEnd::Refused(fault) => push_progress_fault(alloc, *fault, text)?,
         RunEnd::Unwritten => push_unwritten(alloc, path, failure, text)?,
         RunEnd::Stopped { client, stop, .. } => {
-            let tally = account.tally(client)?;
+            let tally = watch.tally(client)?;
             push_run(alloc, client, *stop, &tally, text)?;
         }
     }

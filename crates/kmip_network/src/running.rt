@@ -4,7 +4,7 @@ ghost use Rattle.kmip_messages.specs.Members.{may_have};
 
 use crate::ending::push_end;
 use crate::linking::{loopback, tcp_link, unix_link};
-use kmip_account::{Account, Teller, Watch};
+use kmip_account::{Account, Findings, Teller, Watch};
 use kmip_choices::{Format, Peer, RunOptions};
 use kmip_files::ProgressFile;
 use kmip_message_commands::ExitStatus;
@@ -48,16 +48,17 @@ fn run_on(
         Some(text) => Some(text.as_str()),
         None => None,
     };
-    let account = Account::new(rt, options, &plan.plan, saved)?;
+    let account = Account::new(rt, options, &plan.plan)?;
+    let mut findings = Findings::new(rt.alloc(), &plan.plan, saved)?;
     let metrics = MetricsFile::of(rt, options, plan);
     if let Some(metrics) = &metrics {
-        metrics.begin(&account);
+        metrics.begin(&account, &findings);
     }
     account.show_start(saved);
     let mut keeper = MachineKeeper::of(&progress, &account, saved.is_none());
-    let status = run_with(rt, options, saved, &mut keeper);
+    let status = run_with(rt, options, saved, &mut keeper, &mut findings);
     if let Some(metrics) = &metrics {
-        metrics.end(&account, matches!(status, Ok(ExitStatus::Done)));
+        metrics.end(&account, &findings, matches!(status, Ok(ExitStatus::Done)));
     }
     status
 }
@@ -68,20 +69,21 @@ fn run_with(
     options: &RunOptions,
     saved: Option<&str>,
     keeper: &mut MachineKeeper<'_>,
+    findings: &mut Findings,
 ) -> Result<ExitStatus, Trouble> {
     let limit = Duration::from_secs(options.timeout);
     match &options.peer {
         Peer::Tcp(address) => {
             let link = tcp_link(rt, *address, limit, Some(keeper.account().wire()));
-            run_over(rt, options, saved, keeper, link)
+            run_over(rt, options, saved, keeper, findings, link)
         }
         Peer::Unix(path) => {
             let link = unix_link(rt, path.as_str(), limit, Some(keeper.account().wire()))?;
-            run_over(rt, options, saved, keeper, link)
+            run_over(rt, options, saved, keeper, findings, link)
         }
         Peer::Loopback => {
             let link = loopback(rt, limit)?;
-            run_over(rt, options, saved, keeper, link)
+            run_over(rt, options, saved, keeper, findings, link)
         }
     }
 }
@@ -92,6 +94,7 @@ fn run_over<L: Link + Drop>(
     options: &RunOptions,
     saved: Option<&str>,
     keeper: &mut MachineKeeper<'_>,
+    findings: &mut Findings,
     link: L,
 ) -> Result<ExitStatus, Trouble> {
     let input = RunInput {
@@ -102,13 +105,15 @@ fn run_over<L: Link + Drop>(
     };
     let account = keeper.account();
     let mut link = Observed::new(link, Teller::new(account));
-    let mut watch = Watch::new(account, first_wait(options), options.give_up);
+    let mut watch = Watch::new(account, findings, first_wait(options), options.give_up);
     let status = match options.format {
         Format::Text => run_in_text(&input, saved, &mut link, keeper, &mut watch)?,
         Format::Json => run_in_json(&input, saved, &mut link, keeper, &mut watch),
     };
+    let has_given_up = watch.has_given_up();
+    let findings = watch.findings();
     if keeper.refusals() == 0 && !matches!(status, ExitStatus::Failed(_)) {
-        tell_end(account, watch.has_given_up());
+        tell_end(account, findings, has_given_up);
     }
     Ok(status)
 }
@@ -152,7 +157,14 @@ fn run_in_json<L: Link>(
     let (rt, plan) = (account.rt(), account.plan());
     let mut documents = Vec::new(rt.alloc());
     let made = match run_to_end(rt.alloc(), plan, input, saved, link, keeper, watch) {
-        Ok(end) => { push_end(account, input.path, keeper.failure(), &end, &mut documents) }
+        Ok(end) => push_end(
+            rt.alloc(),
+            watch,
+            input.path,
+            keeper.failure(),
+            &end,
+            &mut documents,
+        ),
         Err(NoMemory) => Err(NoMemory),
     };
     print_documents(rt, made, documents.as_slice())
@@ -160,8 +172,8 @@ fn run_in_json<L: Link>(
 
 /// Tells why keys are not finished, and that the run was given up, where it was. What there is no memory
 /// for is not told.
-fn tell_end(account: &Account<'_>, has_given_up: bool) {
-    let _ = account.tell_unfinished();
+fn tell_end(account: &Account<'_>, findings: &Findings, has_given_up: bool) {
+    let _ = account.tell_unfinished(findings);
     if has_given_up {
         account.tell_given_up();
     }

@@ -2,7 +2,7 @@
 
 use crate::origin::now;
 use crate::plan_file::PlanFile;
-use kmip_account::{Account, Metrics};
+use kmip_account::{Account, Findings, Metrics};
 use kmip_choices::RunOptions;
 use kmip_files::PublicFile;
 use kmip_trouble::{Cannot, tell_cause, tell_why};
@@ -84,13 +84,13 @@ impl<'a> MetricsFile<'a> {
     }
 
     /// Writes that the run begins.
-    pub fn begin(&self, account: &Account<'_>) {
-        self.tell_failure(account, self.write_begin(account));
+    pub fn begin(&self, account: &Account<'_>, findings: &Findings) {
+        self.tell_failure(account, self.write_begin(account, findings));
     }
 
     /// Writes that the run has ended, with all keys finished or not.
-    pub fn end(&self, account: &Account<'_>, is_finished: bool) {
-        self.tell_failure(account, self.write_end(account, is_finished));
+    pub fn end(&self, account: &Account<'_>, findings: &Findings, is_finished: bool) {
+        self.tell_failure(account, self.write_end(account, findings, is_finished));
     }
 
     /// Tells why the file could not be written, unless that was told before.
@@ -105,18 +105,23 @@ impl<'a> MetricsFile<'a> {
     }
 
     /// Writes that the run begins.
-    fn write_begin(&self, account: &Account<'_>) -> io::Result<()> {
-        self.write(account, true, self.last_finish)
+    fn write_begin(&self, account: &Account<'_>, findings: &Findings) -> io::Result<()> {
+        self.write(account, findings, true, self.last_finish)
     }
 
     /// Writes that the run has ended. Where not all keys are finished, the time of before stays.
-    fn write_end(&self, account: &Account<'_>, is_finished: bool) -> io::Result<()> {
+    fn write_end(
+        &self,
+        account: &Account<'_>,
+        findings: &Findings,
+        is_finished: bool,
+    ) -> io::Result<()> {
         let last_finish = if is_finished {
             Some(now(self.rt)?)
         } else {
             self.last_finish
         };
-        self.write(account, false, last_finish)
+        self.write(account, findings, false, last_finish)
     }
 
     /// Writes the metrics of the run, unless it refuses its progress: then it is not known how the keys
@@ -124,13 +129,14 @@ impl<'a> MetricsFile<'a> {
     fn write(
         &self,
         account: &Account<'_>,
+        findings: &Findings,
         is_in_progress: bool,
         last_finish: Option<u64>,
     ) -> io::Result<()> {
-        let Some(standing) = account.standing() else {
+        let Some(standing) = findings.standing() else {
             return Ok(());
         };
-        let tally = match account.tally_so_far() {
+        let tally = match account.tally(findings) {
             Ok(tally) => tally,
             Err(NoMemory) => return Err(Error::from(ErrorKind::OutOfMemory)),
         };

@@ -17,6 +17,7 @@ returns g c =
     record {
       looked = c.look_to-ended.ensures.looked;
       looks = c.look_to-ended.ensures.looks;
+      tried = c.look_to-ended.ensures.tried;
       whole = finished_whole c.look_to-ended.result c.finished.result mid new (TellsLooked c.args.plan.now c.look_to-ended.ensures.looked old) c.finished.ensures c.look_to-ended.ensures.whole;
       broken = finished_broken c.look_to-ended.result c.finished.result mid new (λ fault. Appends old mid []) (λ fault. Appends old new (fault_line fault)) c.finished.ensures
           (λ fault none more. Appends-trans old mid new [] (fault_line fault) none more)
