@@ -37,8 +37,9 @@ impl MemoryDisk {
         ensures beside { (memory_view result).beside ≡ None }
         // A crash leaves no file.
         ensures crash { (c : Content) → (memory_view result).may_leave c → c ≡ None }
-        // It stops after so many calls, and all of them are left.
+        // It stops after so many calls.
         ensures limit { result.turns.limit ≡ calls }
+        // All of them are left.
         ensures left { result.turns.left ≡ calls }
     {
         MemoryDisk {
@@ -58,8 +59,9 @@ impl MemoryDisk {
         ensures alone { LeavesFile (memory_view self.old) (memory_view self.new) }
         // So does the file beside.
         ensures beside { (memory_view self.new).beside ≡ (memory_view self.old).beside }
-        // It stops after so many calls, and all of them are left.
+        // It stops after so many calls.
         ensures limit { self.new.turns.limit ≡ calls }
+        // All of them are left.
         ensures left { self.new.turns.left ≡ calls }
     {
         self.turns.limit = calls;
@@ -83,9 +85,11 @@ impl MemoryDisk {
         // It is the one of this number.
         ensures which { IfOk result (λ disk.
             (memory_view disk).file ≡ bytes_left_of (outcome_at self.now which)) }
-        // It stops after so many calls, and all of them are left.
+        // It stops after so many calls.
         ensures limit { IfOk result (λ disk. disk.turns.limit ≡ calls) }
+        // All of them are left.
         ensures calls { IfOk result (λ disk. disk.turns.left ≡ calls) }
+        // It fails only if memory ran out.
         ensures refused { IfErr result (λ fault. fault ≡ MemoryFault.NoMemory) }
         // It is one of those that a crash may leave.
         ensures left { IfOk result (λ disk.

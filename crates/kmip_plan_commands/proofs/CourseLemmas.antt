@@ -57,7 +57,7 @@ abbrev state_at : Stage → RunState
 state_at s = run_state s.link s.keeper s.is_tired s.asked
 
 -- what carrying out a plan promises, where memory did not run out
-came : (limit : ℕ) (old new : Stage) (r : Result Stop SaveFault) (made : ℕ) → IsInMemory r → CarriesOut limit old r made new
+came : {follows : Type 0} (limit : ℕ) (old new : Stage) (r : Result Stop SaveFault) (made : ℕ) → IsInMemory r → CarriesOut limit old r made new follows
     → Came limit (λ keys. IsGood old.client old.link) (state_at old) (state_at new) old.client (outcome new.client.knowns r made)
 came limit old new r made whole carries = record {
   forgets_nothing = carries.forgets_nothing.kept;
@@ -78,7 +78,7 @@ came limit old new r made whole carries = record {
 }
 
 -- where it stopped so
-pub came_stop : (limit : ℕ) (old new : Stage) (r : Result Stop SaveFault) (stop : Stop) (made : ℕ) → r ≡ Ok stop → stop ≢ stops.NoMemory → CarriesOut limit old r made new
+pub came_stop : {follows : Type 0} (limit : ℕ) (old new : Stage) (r : Result Stop SaveFault) (stop : Stop) (made : ℕ) → r ≡ Ok stop → stop ≢ stops.NoMemory → CarriesOut limit old r made new follows
     → Came limit (λ keys. IsGood old.client old.link) (state_at old) (state_at new) old.client (outcome new.client.knowns (Ok stop) made)
 came_stop limit old new r stop made is other carries =
     let P : Result Stop SaveFault → Type 0 = λ r. Came limit (λ keys. IsGood old.client old.link) (state_at old) (state_at new) old.client (outcome new.client.knowns r made) in
@@ -86,14 +86,14 @@ came_stop limit old new r stop made is other carries =
     subst P is (came limit old new r made whole carries)
 
 -- where the last text was not saved
-pub came_unsaved : (limit : ℕ) (old new : Stage) (r : Result Stop SaveFault) (fault same : SaveFault) (made : ℕ) → r ≡ Err fault → fault ≡ same → CarriesOut limit old r made new
+pub came_unsaved : {follows : Type 0} (limit : ℕ) (old new : Stage) (r : Result Stop SaveFault) (fault same : SaveFault) (made : ℕ) → r ≡ Err fault → fault ≡ same → CarriesOut limit old r made new follows
     → Came limit (λ keys. IsGood old.client old.link) (state_at old) (state_at new) old.client (outcome new.client.knowns (Err same) made)
 came_unsaved limit old new r fault same made is alike carries =
     let P : Result Stop SaveFault → Type 0 = λ r. Came limit (λ keys. IsGood old.client old.link) (state_at old) (state_at new) old.client (outcome new.client.knowns r made) in
     let whole : IsInMemory r = λ e. no_stop fault stops.NoMemory (sym is ∙ e) in
     subst (λ f. P (Err f)) alike (subst P is (came limit old new r made whole carries))
 
-keeps_safe : (limit : ℕ) (old new : Stage) (r : Result Stop SaveFault) (made : ℕ) → IsGood old.client old.link → CarriesOut limit old r made new → KeepsSafe old.client.keys old.link new.link
+keeps_safe : {follows : Type 0} (limit : ℕ) (old new : Stage) (r : Result Stop SaveFault) (made : ℕ) → IsGood old.client old.link → CarriesOut limit old r made new follows → KeepsSafe old.client.keys old.link new.link
 keeps_safe limit old new r made good carries =
     let well = carries.well good in
     let link : GoodLink new.client.keys new.link = record { amid_for = well.good.amid_for; sound = well.good.sound } in
@@ -107,7 +107,7 @@ keeps_safe limit old new r made good carries =
     }
 
 -- what carrying out a plan promises of its link and its file, where memory did not run out
-over : (limit : ℕ) (old new : Stage) (r : Result Stop SaveFault) (made : ℕ) → IsInMemory r → CarriesOut limit old r made new
+over : {follows : Type 0} (limit : ℕ) (old new : Stage) (r : Result Stop SaveFault) (made : ℕ) → IsInMemory r → CarriesOut limit old r made new follows
     → RunsOver (IsGood old.client old.link) old.client.keys old.client.batch (state_at old) (state_at new) (λ P. P)
 over limit old new r made whole carries = record {
   safe = λ good. keeps_safe limit old new r made good carries;
@@ -118,17 +118,17 @@ over limit old new r made whole carries = record {
 }
 
 -- where it stopped so
-pub over_stop : (limit : ℕ) (old new : Stage) (r : Result Stop SaveFault) (stop : Stop) (made : ℕ) → r ≡ Ok stop → stop ≢ stops.NoMemory → CarriesOut limit old r made new
+pub over_stop : {follows : Type 0} (limit : ℕ) (old new : Stage) (r : Result Stop SaveFault) (stop : Stop) (made : ℕ) → r ≡ Ok stop → stop ≢ stops.NoMemory → CarriesOut limit old r made new follows
     → RunsOver (IsGood old.client old.link) old.client.keys old.client.batch (state_at old) (state_at new) (λ P. P)
 over_stop limit old new r stop made is other carries = over limit old new r made (λ e. other (same_stop stop stops.NoMemory (sym is ∙ e))) carries
 
 -- where the last text was not saved
-pub over_unsaved : (limit : ℕ) (old new : Stage) (r : Result Stop SaveFault) (fault : SaveFault) (made : ℕ) → r ≡ Err fault → CarriesOut limit old r made new
+pub over_unsaved : {follows : Type 0} (limit : ℕ) (old new : Stage) (r : Result Stop SaveFault) (fault : SaveFault) (made : ℕ) → r ≡ Err fault → CarriesOut limit old r made new follows
     → RunsOver (IsGood old.client old.link) old.client.keys old.client.batch (state_at old) (state_at new) (λ P. P)
 over_unsaved limit old new r fault made is carries = over limit old new r made (λ e. no_stop fault stops.NoMemory (sym is ∙ e)) carries
 
 -- where memory ran out
-pub over_broken : (limit : ℕ) (old new : Stage) (r : Result Stop SaveFault) (made : ℕ) → CarriesOut limit old r made new
+pub over_broken : {follows : Type 0} (limit : ℕ) (old new : Stage) (r : Result Stop SaveFault) (made : ℕ) → CarriesOut limit old r made new follows
     → RunsOver (IsGood old.client old.link) old.client.keys old.client.batch (state_at old) (state_at new) (λ P. ⊤)
 over_broken limit old new r made carries = record {
   safe = λ good. keeps_safe limit old new r made good carries;

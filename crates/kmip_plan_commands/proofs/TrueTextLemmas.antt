@@ -104,7 +104,7 @@ one_of_either [] second c one = inr one
 one_of_either (text ∷ first) second c (inl is) = inl (inl is)
 one_of_either (text ∷ first) second c (inr one) = ⊎_elim (λ early. inl (inr early)) (λ late. inr late) (one_of_either first second c one)
 
-pub leaves_true : (limit : ℕ) (old new : Stage) (r : Result Stop SaveFault) (made : ℕ) → IsGood old.client old.link → CarriesOut limit old r made new
+pub leaves_true : {follows : Type 0} (limit : ℕ) (old new : Stage) (r : Result Stop SaveFault) (made : ℕ) → IsGood old.client old.link → CarriesOut limit old r made new follows
     → LeavesTrue new.link.past.objects old.client.keys old.keeper.disk new.keeper.disk
 leaves_true limit old new r made good carries = λ rules.
     let keys = old.client.keys in

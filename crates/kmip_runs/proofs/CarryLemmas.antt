@@ -26,7 +26,7 @@ use Rattle.kmip_runs.specs.Keeping.{Kept, MakesLast}
 use Rattle.kmip_runs.specs.Lasting.{IsTried, KeepsMoments}
 use Rattle.kmip_runs.specs.PrivateCarried.{Carried, CarryingLaws, SavesProgress, Went}
 use Rattle.kmip_runs.specs.PrivateTurns.{MakesTurn}
-use Rattle.kmip_runs.specs.Saved.{AreUnsaved, Grounds, IsInMemory, IsLeft, IsWhole, Situation, grounds_in, moment, text_at}
+use Rattle.kmip_runs.specs.Saved.{AreUnsaved, Grounds, HasMemory, IsInMemory, IsLeft, IsWhole, Situation, grounds_in, moment, text_at}
 use Rattle.kmip_runs.specs.declared.save_fault.SaveFault.{SaveFault}
 use Rattle.kmip_runs.specs.declared.save_fault.SaveFault.TheVariants as faults
 use Rattle.kmip_runs.specs.declared.turn_fault.TurnFault.{TurnFault}
@@ -63,6 +63,13 @@ pub memory_before : {V E : Type 0} (closed : Result V E) (result last : Result S
 memory_before (Ok v) result last same stop fault memory = λ is. memory (same ∙ is)
 memory_before (Err e) (Ok s) last same stop fault memory = absurd (memory stop)
 memory_before (Err e) (Err f) last same stop fault memory = λ is. absurd cc
+
+-- where memory sufficed to the end, it did before it
+pub told_before : {V E P : Type 0} (closed : Result V E) (result last : Result Stop SaveFault) → OnOk closed (last ≡ result) → OnErr closed (OnOk result (last ≡ Ok stops.NoMemory))
+    → OnErr closed (OnErr result (last ≡ Err faults.NoMemory)) → HasMemory last → HasMemory result × (OnOk closed P → P)
+told_before (Ok v) result last same stop fault memory = (subst HasMemory same memory, λ p. p)
+told_before (Err e) (Ok s) last same stop fault memory = absurd (memory.0 stop)
+told_before (Err e) (Err f) last same stop fault memory = absurd (memory.1 fault)
 
 -- where memory ran out at the end, it did before, or only there
 pub cut_before : {V E : Type 0} (closed : Result V E) (result last : Result Stop SaveFault) → OnOk closed (last ≡ result) → OnErr closed (OnOk result (last ≡ Ok stops.NoMemory))

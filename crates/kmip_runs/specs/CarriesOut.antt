@@ -16,7 +16,7 @@ use Rattle.kmip_disk.specs.Whole.{IsWritten}
 use Rattle.kmip_runs.specs.Lasting.{KeepsBetween, LeavesTheFile}
 use Rattle.kmip_runs.specs.Losing.{ArePaid, IsEnough, left_for}
 use Rattle.kmip_runs.specs.Refusals.{HasRisen}
-use Rattle.kmip_runs.specs.Saved.{IsInMemory, IsLeft, IsWhole, Situation}
+use Rattle.kmip_runs.specs.Saved.{HasMemory, IsInMemory, IsLeft, IsWhole, Situation}
 use Rattle.kmip_runs.specs.Turning.{IsTurnedUntil, stop_in}
 use Rattle.kmip_runs.specs.declared.save_fault.SaveFault.{SaveFault}
 use Rattle.kmip_runs.specs.declared.stop.Stop.{Stop}
@@ -112,8 +112,9 @@ pub record CarriesOutCalmly (most : ℕ) (old : Stage) (stopped : Result Stop Sa
       × (AsksOne old.client → made ≡ need old.client old.link.past) × (made ≤ bound old.client.keys)
 
 -- A plan is carried out over a link, in `most` exchanges at most, and saved after each: what that makes of
--- link, client, keeper and patience, why it stopped, and how many exchanges were made.
-pub record CarriesOut (most : ℕ) (old : Stage) (stopped : Result Stop SaveFault) (made : ℕ) (new : Stage) : Type 0 where
+-- link, client, keeper and patience, why it stopped, and how many exchanges were made. `follows` is that the link
+-- after it is what calls made of the link before.
+pub record CarriesOut (most : ℕ) (old : Stage) (stopped : Result Stop SaveFault) (made : ℕ) (new : Stage) (follows : Type 0) : Type 0 where
   -- Where all was good before, all of this holds.
   pub well : IsGood old.client old.link → CarriesOutWell most old stopped made new
   -- Over a link that was honest for the names of the plan, all of this holds.
@@ -152,5 +153,7 @@ pub record CarriesOut (most : ℕ) (old : Stage) (stopped : Result Stop SaveFaul
   -- and the end of the run followed.
   pub turned : IsTurnedUntil (old.link.honest (is_planned old.client.keys)) (stop_in stopped) made old.client
       new.client old.link.past new.link.past
+  -- Unless memory ran out, the link after it is what calls made of the link before, as the link itself tells it.
+  pub followed : HasMemory stopped → follows
   -- Over a calm link, where the client was ready to settle, both of this hold.
   pub calmly : IsSettling old.client old.link → CarriesOutCalmly most old stopped made new

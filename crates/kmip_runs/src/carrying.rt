@@ -60,15 +60,13 @@ pub fn carry_out<L: Link, K: Keeper, P: Patience>(
     patience: &mut P,
     limit: usize,
 ) -> (Result<Stop, SaveFault>, usize)
-    ensures carries { CarriesOut limit
+    ensures { CarriesOut limit
         (stage (L.seen link.old) client.old (K.kept keeper.old) (P.has_given_up patience.old)
         (P.asked patience.old))
         result.0 result.1
         (stage (L.seen link.new) client.new (K.kept keeper.new) (P.has_given_up patience.new)
-        (P.asked patience.new)) }
-    // Unless memory ran out, the link after it is what calls made of the link before, as the link itself
-    // tells it.
-    ensures followed { HasMemory result.0 → L.follows link.old link.new }
+        (P.asked patience.new))
+        (L.follows link.old link.new) }
 {
     laws_below();
     laws_of_runs();

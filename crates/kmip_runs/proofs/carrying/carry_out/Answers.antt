@@ -7,7 +7,7 @@ use Rattle.kmip_protocol.specs.Sound.{Sound}
 use Rattle.kmip_runs.specs.Losing.{ArePaid, left_for}
 use Rattle.kmip_runs.specs.Saved.{IsInMemory, Situation}
 use Rattle.kmip_runs.proofs.CampaignLemmas.{known_is_safe}
-use Rattle.kmip_runs.proofs.CarryLemmas.{carried_closed, carried_kept, good_end, left_last, limit_last, memory_before, settled_end, stands_last, unless_given_up}
+use Rattle.kmip_runs.proofs.CarryLemmas.{carried_closed, carried_kept, good_end, left_last, limit_last, memory_before, settled_end, stands_last, told_before, unless_given_up}
 use Rattle.kmip_runs.proofs.CarryEndingLemmas.{ended_once, ended_whole, one_of_both}
 use Rattle.kmip_runs.proofs.CarryLosingLemmas.{outlasted, paid_closed}
 use Rattle.kmip_runs.proofs.LastingLemmas.{file_lasts}
@@ -15,8 +15,8 @@ use Rattle.kmip_runs.proofs.RefusalLemmas.{output_before, risen_at_fault, risen_
 use Rattle.kmip_runs.proofs.TurnedLemmas.{turned_last}
 use Rattle.kmip_runs.proofs.carrying.carry_out.Goals as goal
 
-pub returns-clause-carries : goal.returns-clause-carries
-returns-clause-carries g c =
+pub returns : goal.returns
+returns g c =
     let laws = c.laws_below.ensures in
     let lawful = c.plan-plan.ensures.lawful in
     let done = c.exchange_in_turn-carried in
@@ -103,6 +103,9 @@ returns-clause-carries g c =
         turned = turned_last (old.honest names) close.result done.result.0 last done.result.1 client next old.past mid.past end.whole end.stop end.fault made.turned;
         closed = λ honest. (close.ensures.honestly names (first.went.learns honest).0).honest.1;
       };
+      followed = λ memory.
+          let told = told_before close.result done.result.0 last end.whole end.stop end.fault memory in
+          g.met.L.Link.twice c.args.link.now done.new.link close.new.link (done.ensures.followed told.0) (told.1 close.ensures.followed);
       calmly = λ settling. record {
         calm = carried.went.near settling;
         settles = λ enough patient whole.

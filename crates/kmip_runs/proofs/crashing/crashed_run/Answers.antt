@@ -77,7 +77,7 @@ returns-in_err-in_memory g c =
     (subst (λ ps. All (TrueProgress old.link.past.objects keys) ps) (sym c.as_slice-2.ensures.value) saved) in
     let carried = c.carry_out-carried in
     let client = carried.new.client in
-    let carries = carried.ensures.carries in
+    let carries = carried.ensures in
     let client_keys = carries.forgets_nothing.keys_stay ∙ c.begin.ensures.keys in
     let honest = λ (holds : old.link.honest (is_planned keys)).
     subst (λ ks. (g.L.Link.seen carried.new.link).honest (is_planned ks)) c.begin.ensures.keys
@@ -104,7 +104,7 @@ returns-in_err-left g c =
     (subst (λ ps. All (TrueProgress old.link.past.objects keys) ps) (sym c.as_slice-2.ensures.value) saved) in
     let carried = c.carry_out-carried in
     let client = carried.new.client in
-    let carries = carried.ensures.carries in
+    let carries = carried.ensures in
     let client_keys = carries.forgets_nothing.keys_stay ∙ c.begin.ensures.keys in
     let honest = λ (holds : old.link.honest (is_planned keys)).
     subst (λ ks. (g.L.Link.seen carried.new.link).honest (is_planned ks)) c.begin.ensures.keys
@@ -128,7 +128,7 @@ returns-in_err-left g c =
     crashed_off l keys crashing old new begun result fault.0 _ lawful c.requires.keys c.begin.ensures.keys client_keys c.requires.suits
     begins (λ good. (carries.well good).good) (λ good. (carries.well good).onward) honest (record { same_runs = refl; same_saved = refl; same_left = refl }) refl fault.1
     (λ so. refused_come keys c.args.run c.args.crash begun client old (g.L.Link.seen carried.new.link) carried.result.1 carried.new.keeper.file.disk begun_is on (cannot so))
-    (λ memory. carried.ensures.followed c.in_ok-in_memory.ensures)
+    (λ memory. carries.followed c.in_ok-in_memory.ensures)
 
 -- there was no memory for the end of the run
 pub returns-in_err-ending : goal.returns-in_err-ending
@@ -145,7 +145,7 @@ returns-in_err-ending g c =
     (subst (λ ps. All (TrueProgress old.link.past.objects keys) ps) (sym c.as_slice-2.ensures.value) saved) in
     let carried = c.carry_out-carried in
     let client = carried.new.client in
-    let carries = carried.ensures.carries in
+    let carries = carried.ensures in
     let client_keys = carries.forgets_nothing.keys_stay ∙ c.begin.ensures.keys in
     let honest = λ (holds : old.link.honest (is_planned keys)).
     subst (λ ks. (g.L.Link.seen carried.new.link).honest (is_planned ks)) c.begin.ensures.keys
@@ -172,7 +172,7 @@ returns-in_err-next g c =
     (subst (λ ps. All (TrueProgress old.link.past.objects keys) ps) (sym c.as_slice-2.ensures.value) saved) in
     let carried = c.carry_out-carried in
     let client = carried.new.client in
-    let carries = carried.ensures.carries in
+    let carries = carried.ensures in
     let client_keys = carries.forgets_nothing.keys_stay ∙ c.begin.ensures.keys in
     let honest = λ (holds : old.link.honest (is_planned keys)).
     subst (λ ks. (g.L.Link.seen carried.new.link).honest (is_planned ks)) c.begin.ensures.keys
@@ -199,7 +199,7 @@ returns-in_err-push g c =
     (subst (λ ps. All (TrueProgress old.link.past.objects keys) ps) (sym c.as_slice-2.ensures.value) saved) in
     let carried = c.carry_out-carried in
     let client = carried.new.client in
-    let carries = carried.ensures.carries in
+    let carries = carried.ensures in
     let client_keys = carries.forgets_nothing.keys_stay ∙ c.begin.ensures.keys in
     let honest = λ (holds : old.link.honest (is_planned keys)).
     subst (λ ks. (g.L.Link.seen carried.new.link).honest (is_planned ks)) c.begin.ensures.keys
@@ -226,7 +226,7 @@ returns g c =
     (subst (λ ps. All (TrueProgress old.link.past.objects keys) ps) (sym c.as_slice-2.ensures.value) saved) in
     let carried = c.carry_out-carried in
     let client = carried.new.client in
-    let carries = carried.ensures.carries in
+    let carries = carried.ensures in
     let client_keys = carries.forgets_nothing.keys_stay ∙ c.begin.ensures.keys in
     let honest = λ (holds : old.link.honest (is_planned keys)).
     subst (λ ks. (g.L.Link.seen carried.new.link).honest (is_planned ks)) c.begin.ensures.keys
@@ -287,5 +287,5 @@ returns g c =
       same = tt;
       refused = λ so. absurd cc;
       refused_so = λ so. absurd cc;
-      followed = λ memory. carried.ensures.followed c.in_ok-in_memory.ensures;
+      followed = λ memory. carries.followed c.in_ok-in_memory.ensures;
     }
