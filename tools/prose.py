@@ -23,7 +23,7 @@ SIZES = {
     'README.md': (10_000, 170),
     'CHANGELOG.md': (4_000, None),
     'CONTRIBUTING.md': (13_200, None),
-    'SECURITY.md': (1_000, None),
+    'SECURITY.md': (3_400, None),
     'docs/ARCHITECTURE.md': (10_200, None),
     'docs/AUTOMATION.md': (6_000, None),
     'docs/DECISIONS.md': (16_000, None),
