@@ -43,6 +43,7 @@ CIRCLE = 'Too many levels of symbolic links (os error 40)'
 TAKEN = 'Address already in use (os error 98)'
 NO_FILE_LEFT = 'Too many open files (os error 24)'
 UNKNOWN_EFFECT = 'what was asked last may have taken effect'
+RESTORE = 'restore the file from a backup, or run with --afresh to look up each key by its name'
 
 # The environment without the variables that stand for options.
 AROUND = {name: value for name, value in os.environb.items() if not name.startswith(b'KMIPCTL_')}
@@ -52,6 +53,7 @@ CHECK_AFTER = (*CHECK, '--after', 'plan.toml')
 SIM = ('sim', '--plan', 'plan.toml', '--script', 'empty.script')
 SIM_THEN = (*SIM, '--then', 'plan.toml')
 RUN = ('run', '--plan', 'plan.toml', '--loopback')
+LIST = ('list', '--plan', 'plan.toml')
 PROBE = ('probe', '--name-prefix', 'p', '--loopback')
 SERVE = ('serve', '--port', '0', '--connections', '0')
 
@@ -157,10 +159,26 @@ class Causes:
         os.symlink('plan.progress', self.path('plan.progress'))
         self.progress('a progress whose link leads to itself', unread, f': {CIRCLE}')
 
+    def refused_progress(self):
+        for what, text, fault, told in (
+                ('cut off', 'kmip-progress 2\nk1 active', '2 Cut',
+                 ': cut off: the line "end" with the number of keys is missing after 25 bytes'),
+                ('another first line', 'progress 2\nend 0\n', '1 BadText',
+                 ':1: "progress 2" is not the first line of a progress file'),
+                ('a bad line', 'kmip-progress 2\nk1 active - 0 31\nk2 active - many 31\nend 2\n', '1 BadText',
+                 ':3: "k2 active - many 31" is not a line of a progress file'),
+                ('another count', 'kmip-progress 2\nend 3\n', '1 BadText',
+                 ': the last line counts another number of keys')):
+            self.start()
+            self.put('plan.progress', text.encode())
+            for words in (RUN, LIST):
+                self.case(f'a progress with {what}, {words[0]}', (*words, '--progress', 'plan.progress'),
+                          f'progress refused: {fault}\n', [f'plan.progress{told}; {RESTORE}'])
+
     def unwritten_progress(self):
         self.start()
         self.progress('a progress whose folder is missing', 'cannot write missing/plan.progress\n',
-                      f'.lock: {MISSING}; see whether its folder is there and run again', 'missing/plan.progress')
+                      f'.lock: {MISSING}; check that its folder exists and run again', 'missing/plan.progress')
         os.mkdir(self.path('plan.progress.lock'))
         self.progress('a folder for a lock', 'cannot write plan.progress\n', f'.lock: {FOLDER}')
         self.start()
@@ -210,13 +228,13 @@ class Causes:
 
     def disks(self):
         self.on_disk('a full disk, where nothing is asked', 'size=16k', 0, 'cannot write disk/plan.progress\n',
-                     f'.origin: {FULL}; make room and run again')
+                     f'.origin: {FULL}; free some space and run again')
         self.on_disk('a progress on a disk with room for its origin alone', 'size=16k', 4096,
-                     'cannot write disk/plan.progress\n', f': {FULL}; {UNKNOWN_EFFECT}: make room and run again')
+                     'cannot write disk/plan.progress\n', f': {FULL}; {UNKNOWN_EFFECT}: free some space and run again')
         self.on_disk('a lock on a disk with no file left', 'nr_inodes=1', None,
-                     'cannot write disk/plan.progress\n', f'.lock: {FULL}; make room and run again')
+                     'cannot write disk/plan.progress\n', f'.lock: {FULL}; free some space and run again')
         self.on_disk('a lock on a disk that is not to be written', 'ro', None,
-                     'cannot write disk/plan.progress\n', f'.lock: {READ_ONLY}; mend the rights and run again')
+                     'cannot write disk/plan.progress\n', f'.lock: {READ_ONLY}; mount the file system for writing and run again')
 
     def sockets(self):
         path = 's' * 108
@@ -431,6 +449,7 @@ def main():
     causes.start()
     causes.unread_plans()
     causes.unread_progress()
+    causes.refused_progress()
     causes.unwritten_progress()
     causes.unsynced_folder()
     causes.disks()

@@ -369,7 +369,7 @@ class Origins:
         """Metrics that cannot be written change nothing else."""
         self.begin()
         os.mkdir(os.path.join(self.folder, 'folder'))
-        for name, why, remedy in (('none/run.prom', 'No such file or directory (os error 2)', 'see whether its folder is there'),
+        for name, why, remedy in (('none/run.prom', 'No such file or directory (os error 2)', 'check that its folder exists'),
                                   ('folder', 'Is a directory (os error 21)', 'see what stands there')):
             path = os.path.join(self.folder, name)
             self.look(f'metrics to {name}', self.run('--loopback', '--afresh', '--metrics', path),

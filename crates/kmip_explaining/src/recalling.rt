@@ -1,13 +1,13 @@
 //! Why a progress is of another plan, in one line.
 
 use crate::placing::{Sought, line_of};
+use crate::refused_progress::RefusedProgress;
 use crate::valuing::{KEEPS_ITS_PLACE, push_key, push_place, push_quoted};
 use kmip_objects::standard::{
     REVOCATION_AFFILIATION_CHANGED, REVOCATION_CESSATION_OF_OPERATION,
     REVOCATION_PRIVILEGE_WITHDRAWN, REVOCATION_SUPERSEDED, REVOCATION_UNSPECIFIED,
 };
-use kmip_plan::{Key, Plan, Target, read_plan};
-use kmip_progress::{Progress, ProgressFault};
+use kmip_plan::{Key, Plan, Target};
 use kmip_ttlv::NoMemory;
 use std::alloc::Global;
 
@@ -71,44 +71,20 @@ impl<'a> Noted<'a> {
     }
 }
 
-/// Tells on standard error, in one line, at which key the progress of the second file is of another
-/// plan than that of the first. Tells nothing where it is not, or where there is no memory. It has no
-/// clause.
-pub fn tell_other_plan(
-    rt: &HostRuntime,
-    path: &str,
-    plan: &str,
-    progress_path: &str,
-    progress: &str,
-) {
-    if let Ok(Some(line)) = other_plan_line(rt.alloc(), path, plan, progress_path, progress) {
-        let _ = rt.eprintln(line.as_str());
-    }
-}
-
-/// The line that says at which key a progress is of another plan; none where it is not.
-fn other_plan_line(
+/// Appends at which key a progress file is of another plan; nothing if no line of it shows that.
+pub(crate) fn push_other_plan(
     alloc: Global,
-    path: &str,
-    text: &str,
-    progress_path: &str,
-    saved: &str,
-) -> Result<Option<String>, NoMemory> {
-    let Ok(plan) = read_plan(alloc, text) else {
-        return Ok(None);
-    };
-    let Err(ProgressFault::OtherPlan) = Progress::read_text(alloc, &plan, saved) else {
-        return Ok(None);
-    };
+    plan: &Plan,
+    refused: RefusedProgress<'_>,
+    out: &mut String,
+) -> Result<(), NoMemory> {
     let recalled = Recalled {
-        path,
-        text,
-        plan: &plan,
-        progress_path,
+        path: refused.plan_path,
+        text: refused.plan,
+        plan,
+        progress_path: refused.path,
     };
-    let mut line = String::new(alloc);
-    recalled.push_line(alloc, saved, &mut line)?;
-    Ok(if line.is_empty() { None } else { Some(line) })
+    recalled.push_line(alloc, refused.text, out)
 }
 
 /// The word of a plan for a Revocation Reason Code.

@@ -5,7 +5,7 @@ use crate::origin::{Origin, server_text};
 use crate::recalling::{judge_attributes, origin_of};
 use kmip_choices::{RunOptions, Trust};
 use kmip_client::Client;
-use kmip_explaining::tell_other_plan;
+use kmip_explaining::RefusedProgress;
 use kmip_files::{MOST_PROGRESS_BYTES, ProgressFile};
 use kmip_plan::Plan;
 use kmip_plan_commands::begin;
@@ -54,7 +54,7 @@ impl<'a> Kept<'a> {
             Ok(client) => client,
             Err(ProgressFault::NoMemory) => return Err(Trouble::from(NoMemory)),
             Err(_) => {
-                self.tell_other_plan(text.as_str());
+                self.explain(text.as_str());
                 return Ok(saved); // the run refuses it
             }
         };
@@ -70,11 +70,15 @@ impl<'a> Kept<'a> {
         }
     }
 
-    /// Tells at which key the file is of another plan, if that is why it is refused.
-    fn tell_other_plan(&self, saved: &str) {
-        let options = self.options;
-        let (path, progress_path) = (plan_name(options.plan.as_str()), options.progress.as_str());
-        tell_other_plan(self.rt, path, self.text, progress_path, saved);
+    /// Prints on standard error why the file is refused.
+    fn explain(&self, saved: &str) {
+        let refused = RefusedProgress {
+            plan_path: plan_name(self.options.plan.as_str()),
+            plan: self.text,
+            path: self.options.progress.as_str(),
+            text: saved,
+        };
+        refused.explain(self.rt);
     }
 
     /// Whether the file was kept against this server, unless it knows nothing, and for these attributes.

@@ -5,7 +5,7 @@ use crate::plan_file::PlanFile;
 use crate::reading::{plan_at, text_within};
 use crate::recalling::{judge_attributes, progress_file_at};
 use kmip_choices::{Format, ListOptions};
-use kmip_explaining::tell_other_plan;
+use kmip_explaining::RefusedProgress;
 use kmip_files::{MOST_PROGRESS_BYTES, ProgressFile};
 use kmip_json::push_listing;
 use kmip_message_commands::ExitStatus;
@@ -40,8 +40,13 @@ pub fn list_progress(rt: &HostRuntime, options: &ListOptions) -> Result<ExitStat
         }
     };
     if status == ExitStatus::Refused {
-        let plan_path = plan_name(options.plan.as_str());
-        tell_other_plan(rt, plan_path, plan.text.as_str(), path, saved.as_str());
+        let refused = RefusedProgress {
+            plan_path: plan_name(options.plan.as_str()),
+            plan: plan.text.as_str(),
+            path,
+            text: saved.as_str(),
+        };
+        refused.explain(rt);
     }
     if status == ExitStatus::Done {
         let _ = rt.eprintln(line.as_str());

@@ -6,8 +6,9 @@ use std::io::ErrorKind;
 #[derive(Clone, Copy)]
 pub(crate) enum Remedy {
     Folder,
-    Rights,
-    Room,
+    Permissions,
+    Mount,
+    Space,
 }
 
 impl Remedy {
@@ -15,8 +16,9 @@ impl Remedy {
     pub(crate) fn of(kind: ErrorKind) -> Option<Remedy> {
         match kind {
             ErrorKind::NotFound => Some(Remedy::Folder),
-            ErrorKind::PermissionDenied | ErrorKind::ReadOnlyFilesystem => Some(Remedy::Rights),
-            ErrorKind::StorageFull | ErrorKind::QuotaExceeded => Some(Remedy::Room),
+            ErrorKind::PermissionDenied => Some(Remedy::Permissions),
+            ErrorKind::ReadOnlyFilesystem => Some(Remedy::Mount),
+            ErrorKind::StorageFull | ErrorKind::QuotaExceeded => Some(Remedy::Space),
             _ => None,
         }
     }
@@ -25,9 +27,10 @@ impl Remedy {
 impl Display for Remedy {
     fn fmt<W: fmt::Write>(&self, f: &mut Formatter<W>) -> fmt::Result {
         f.write_str(match self {
-            Remedy::Folder => "see whether its folder is there",
-            Remedy::Rights => "mend the rights",
-            Remedy::Room => "make room",
+            Remedy::Folder => "check that its folder exists",
+            Remedy::Permissions => "fix the permissions",
+            Remedy::Mount => "mount the file system for writing",
+            Remedy::Space => "free some space",
         })
     }
 }
