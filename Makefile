@@ -16,7 +16,8 @@
 # make peers      runs it against peers that answer nothing, rubbish or too late (needs python3)
 # make turns      lets several clients at once talk to it, some of which stall, close or read nothing (needs python3)
 # make troubles   runs it against servers that give trouble, and compares what it tells of that (needs python3)
-# make origin     runs it on progress files that were kept against other servers, or for other keys (needs python3)
+# make origin     runs it on progress files that were saved against other servers, or for other keys (needs python3)
+# make refreshed  runs it with --refresh against servers that have lost keys, or were exchanged (needs python3)
 # make causes     runs it where files, sockets and standard streams fail, and compares what it tells (needs python3)
 # make reports    reads what each command prints with --json by another reader (needs python3)
 # make completions  lets bash, zsh and fish complete command lines by its scripts (needs python3; zsh, fish if there)
@@ -42,7 +43,7 @@ prove = { echo 'Proving and building kmipctl: from a clean clone this takes some
 	{ tools/proved.sh note $(program) "$$sum" || { touch -d @0 $(program); false; }; }; }
 sources := crates.txt $(shell find crates -name out -prune -o \( -name '*.rt' -o -name '*.antt' \) -print)
 
-.PHONY: all install uninstall dist deb demo check fmt test rows bench refuse faults hostile storm peers turns troubles origin causes reports completions installed tls pykmip reading reference man layers examples documents tools help
+.PHONY: all install uninstall dist deb demo check fmt test rows bench refuse faults hostile storm peers turns troubles origin refreshed causes reports completions installed tls pykmip reading reference man layers examples documents tools help
 
 all: $(program)
 	@tools/proved.sh check $(program) || $(prove)
@@ -107,6 +108,9 @@ troubles: $(program)
 
 origin: $(program)
 	@python3 bench/origin.py $(program) out/origin
+
+refreshed: $(program)
+	@python3 bench/refreshed.py $(program) out/refreshed
 
 causes: $(program)
 	@python3 bench/causes.py $(program) out/causes

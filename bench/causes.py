@@ -42,8 +42,9 @@ NO_READER = 'Broken pipe (os error 32)'
 CIRCLE = 'Too many levels of symbolic links (os error 40)'
 TAKEN = 'Address already in use (os error 98)'
 NO_FILE_LEFT = 'Too many open files (os error 24)'
-UNKNOWN_EFFECT = 'what was asked last may have taken effect'
-RESTORE = 'restore the file from a backup, or run with --afresh to look up each key by its name'
+UNKNOWN_EFFECT = 'the last request may have taken effect'
+RESTORE = ('restore the file from a backup, or run with --afresh, which searches for each key and creates those that are '
+           'missing')
 
 # The environment without the variables that stand for options.
 AROUND = {name: value for name, value in os.environb.items() if not name.startswith(b'KMIPCTL_')}
@@ -58,8 +59,8 @@ PROBE = ('probe', '--name-prefix', 'p', '--loopback')
 SERVE = ('serve', '--port', '0', '--connections', '0')
 
 WANTED = '--connect wants an IPv4 address and a port, as 192.0.2.7:5696; '
-NO_ADDRESS_AND_PORT = "error: the value of '--connect <ADDRESS>' is no IPv4 address and port, as 127.0.0.1:5696\n"
-NO_ADDRESS_IN_VARIABLE = 'error: the value of KMIPCTL_CONNECT is no IPv4 address and port, as 127.0.0.1:5696\n'
+NO_ADDRESS_AND_PORT = "error: the value of '--connect <ADDRESS>' is not an IPv4 address and a port, such as 127.0.0.1:5696\n"
+NO_ADDRESS_IN_VARIABLE = 'error: the value of KMIPCTL_CONNECT is not an IPv4 address and a port, such as 127.0.0.1:5696\n'
 TWO_SERVERS = ('error: KMIPCTL_CONNECT and KMIPCTL_SOCKET are both set: unset one, '
                'or give --connect, --socket or --loopback\n')
 SERVERS = '<--connect <ADDRESS>|--socket <PATH>|--loopback>'
@@ -126,10 +127,10 @@ class Causes:
         self.case('a folder for a plan', CHECK, 'cannot read plan.toml\n', [f'plan.toml: {FOLDER}'])
         self.start()
         self.put('plan.toml', b'# \xff\n')
-        self.case('a plan that is no text', CHECK, 'cannot read plan.toml\n', ['plan.toml: it is no UTF-8 text'])
+        self.case('a plan that is no text', CHECK, 'cannot read plan.toml\n', ['plan.toml: it is not UTF-8 text'])
         os.truncate(self.path('plan.toml'), 16_777_217)
         self.case('a plan that is too long', CHECK, 'longer than 16777216 bytes: plan.toml\n',
-                  ['plan.toml: it has more than 16777216 bytes; see what stands there'])
+                  ['plan.toml: it has more than 16777216 bytes; check that it is the right file'])
         self.start()
         words = (*CHECK, '--after', 'earlier.toml')
         self.case('an earlier plan that is missing', words, 'cannot read earlier.toml\n', [f'earlier.toml: {MISSING}'])
@@ -148,13 +149,19 @@ class Causes:
     def unread_progress(self):
         unread = 'cannot read plan.progress\n'
         self.put('plan.progress', b'\xff')
-        self.progress('a progress that is no text', unread, ': it is no UTF-8 text')
+        self.progress('a progress that is no text', unread, ': it is not UTF-8 text')
         os.truncate(self.path('plan.progress'), 1_048_577)
         self.progress('a progress that is too long', 'longer than 1048576 bytes: plan.progress\n',
-                      ': it has more than 1048576 bytes; see what stands there')
+                      ': it has more than 1048576 bytes; check that it is the right file')
         self.start()
         os.mkdir(self.path('plan.progress'))
         self.progress('a folder for a progress', unread, f': {FOLDER}')
+        self.look('no lock is left next to it', (os.path.exists(self.path('plan.progress.lock')), False))
+        self.start()
+        self.put('plan.progress', PLAN)
+        self.case('the plan as a progress', (*RUN, '--progress', 'plan.progress'), 'progress refused: 2 Cut\n',
+                  [f'plan.progress: cut off: the line "end" with the number of keys is missing after {len(PLAN)} bytes; {RESTORE}'])
+        self.look('no lock is left next to that', (os.path.exists(self.path('plan.progress.lock')), False))
         self.start()
         os.symlink('plan.progress', self.path('plan.progress'))
         self.progress('a progress whose link leads to itself', unread, f': {CIRCLE}')
@@ -184,12 +191,12 @@ class Causes:
         self.start()
         os.mkdir(self.path('plan.progress.new'))
         self.progress('a folder in the way of a progress', 'cannot write plan.progress\n',
-                      f': {FOLDER}; {UNKNOWN_EFFECT}: run again')
+                      f'.new: {FOLDER}; {UNKNOWN_EFFECT}: run again')
         self.start()
         os.symlink('there', self.path('plan.progress'))
         os.mkdir(self.path('there.new'))
-        self.progress('a folder in the way of a progress behind a link', 'cannot write plan.progress\n',
-                      f': {FOLDER}; {UNKNOWN_EFFECT}: run again')
+        self.case('a folder in the way of a progress behind a link', (*RUN, '--progress', 'plan.progress'),
+                  'cannot write plan.progress\n', [f'./there.new: {FOLDER}; {UNKNOWN_EFFECT}: run again'])
         self.start()
 
     def unsynced_folder(self):
@@ -205,7 +212,7 @@ class Causes:
         done = subprocess.run([*failing, self.program, *RUN, '--progress', 'p'], cwd=self.folder, text=True, timeout=EVER,
                               env=AROUND, stdin=subprocess.DEVNULL, capture_output=True)
         self.look(what, (done.returncode, 0), (done.stdout, FINISHED), (self.text('p'), ALL_KNOWN),
-                  (done.stderr, f'p: {NO_DISK}; all is written, but a power cut may bring an older text back, which is true too\n'))
+                  (done.stderr, f'p: {NO_DISK}; saved, but a power failure may restore the previous version, which is also correct\n'))
         self.start()
 
     def on_disk(self, what, options, left, printed, told):
@@ -258,7 +265,7 @@ class Causes:
         listening, _, rest = done.stdout.partition('\n')
         port = listening.removeprefix('listening ')
         self.look('a server that can open no connection', (done.returncode, 1),
-                  (rest, f'cannot accept a connection on port {port}: 100 failures in turn\n'),
+                  (rest, f'cannot accept a connection on port {port}: 100 failures in a row\n'),
                   (done.stderr, f'127.0.0.1:{port}: {NO_FILE_LEFT}\n'))
 
     def outputs(self):
@@ -302,6 +309,7 @@ class Causes:
         rows = [
             (('check', '--plan', '-'), CHECKED, [], 0),
             (('check', '--plan', '-', '--after', 'plan.toml'), f'{CHECKED}prolongs\n', [], 0),
+            ((*CHECK, '--after', '-'), f'{CHECKED}prolongs\n', [], 0),
             (('sim', '--plan', '-', '--script', 'empty.script'), SIMULATED, [], 0),
             (('run', '--plan', '-', '--progress', 'p', '--loopback'), FINISHED, [], 0),
             (('look', '--plan', '-', '--loopback'), 'k1 active - none to do: Create Activate\nfinished 0 of 1\n', [], 1),
@@ -323,12 +331,12 @@ class Causes:
         os.close(folder)
         self.put('input', b'# \xff\n')
         with open(self.path('input')) as given:
-            self.case('input that is no text', words, unread, ['standard input: it is no UTF-8 text'], stdin=given)
+            self.case('input that is no text', words, unread, ['standard input: it is not UTF-8 text'], stdin=given)
         os.truncate(self.path('input'), 16_777_217)
         for more in (words, ('run', '--plan', '-', '--progress', 'p', '--loopback')):
             with open(self.path('input')) as given:
                 self.case(f'{" ".join(more)} of too much', more, 'longer than 16777216 bytes: standard input\n',
-                          ['standard input: it has more than 16777216 bytes; see what stands there'], stdin=given)
+                          ['standard input: it has more than 16777216 bytes; check that it is the right file'], stdin=given)
         self.put('input', '[[key]]\n')
         missing = 'standard input:1: key 1: there is no name: a key needs name, algorithm, length, usage and target'
         for more in (words, (*words, '--after', 'plan.toml'), ('sim', '--plan', '-', '--script', 'empty.script'),
@@ -347,7 +355,7 @@ class Causes:
         """A file that is called as standard input is read by another path, and by this one where it is no plan's."""
         self.put('-', PLAN)
         self.case('check --plan ./-', ('check', '--plan', './-'), CHECKED, [], status=0)
-        self.case('check --after -', (*CHECK, '--after', '-'), f'{CHECKED}prolongs\n', [], status=0)
+        self.case('check --after ./-', (*CHECK, '--after', './-'), f'{CHECKED}prolongs\n', [], status=0)
         self.put('-', '')
         self.case('sim --script -', ('sim', '--plan', 'plan.toml', '--script', '-'), SIMULATED, [], status=0)
         os.remove(self.path('-'))
@@ -397,6 +405,7 @@ class Causes:
             ('[2001:db8::7]:5696', "is of IPv6: give the server's IPv4 address, or name a tunnel's --socket"),
             ('2001:db8::7', "is of IPv6: give the server's IPv4 address, or name a tunnel's --socket"),
             ('192.0.2.7', 'has no port: add one, as :5696'),
+            ('192.0.2.7:0', "has the port 0: give the server's port, as 5696"),
             ('192.0.2.7:99999', 'is no such address'),
             ('', 'is no such address'),
         ]
@@ -405,6 +414,10 @@ class Causes:
             for words in ((*run, '--connect', value), (*run, f'--connect={value}')):
                 self.case(' '.join(words), words, NO_ADDRESS_AND_PORT + RUN_USAGE,
                           [f'{WANTED}"{value}" {why}'], status=2)
+        words = (*run, '--loopback', '--identifiers', '--json')
+        usage = f'\nUsage: kmipctl run --plan <PATH> --progress <PATH> --identifiers {SERVERS}\n{HELP}'
+        self.case(' '.join(words), words, f"error: the argument '--identifiers' cannot be used with '--json'\n{usage}",
+                  ['--json prints the identifiers too: leave out --identifiers'], status=2)
         value, why = rows[0]
         words = ('probe', '--name-prefix', 'p', '--connect', value)
         self.case(' '.join(words), words, NO_ADDRESS_AND_PORT + PROBE_USAGE, [f'{WANTED}"{value}" {why}'], status=2)

@@ -134,11 +134,24 @@ look_at_units() {
     else
         skip 'the user is made' systemd-sysusers
     fi
+    look 'tmpfiles.d makes the folders that the units write to' \
+        "$(sed -n 's/^d \([^ ]*\) .*/\1/p' "$other/usr/lib/tmpfiles.d/kmipctl.conf" | sort)" \
+        "$(sed -n 's#^StateDirectory=#/var/lib/#p; s/^ReadWritePaths=//p' "$other"/usr/lib/systemd/system/kmipctl-*.service | sort -u)"
+    if command -v systemd-tmpfiles > /dev/null; then
+        mkdir -p "$other/etc"
+        printf 'kmipctl:x:%s:%s::/:\n' "$(id -u)" "$(id -g)" > "$other/etc/passwd"
+        printf 'kmipctl:x:%s:\n' "$(id -g)" > "$other/etc/group"
+        look 'the folders are made' \
+            "$(systemd-tmpfiles --root="$other" --create "$other/usr/lib/tmpfiles.d/kmipctl.conf" 2>&1
+                cd "$other/var/lib" && stat -c '%a %n' ./*)" "$(printf '700 ./kmipctl\n755 ./kmipctl-metrics')"
+    else
+        skip 'the folders are made' systemd-tmpfiles
+    fi
 }
 
 # Starts the server, and what hands the bytes of the Unix socket on to it.
 start_server() {
-    mkdir -p "$root/etc/kmipctl" "$root/var/lib/kmipctl/metrics" "$root/run/kmipctl"
+    mkdir -p "$root/etc/kmipctl" "$root/var/lib/kmipctl" "$root/var/lib/kmipctl-metrics" "$root/run/kmipctl"
     cp "$place/share/doc/kmipctl/examples/plan.toml" "$root/etc/kmipctl/plan.toml"
     "$place/bin/kmipctl" serve --port 0 --connections 1000 --verbose > "$work/serve.out" 2> "$work/serve.log" &
     started+=($!)
@@ -165,7 +178,8 @@ PYTHON
 }
 
 timers_day() {
-    local look run metrics=var/lib/kmipctl/metrics/kmipctl.prom progress=var/lib/kmipctl/plan.progress asked names
+    local look run progress=var/lib/kmipctl/plan.progress asked names
+    local metrics=var/lib/kmipctl-metrics/kmipctl.prom looked=var/lib/kmipctl-metrics/kmipctl-look.prom
     cd "$root" || exit 1
     read -ra look <<< "$(words_of kmipctl-look.service)"
     read -ra run <<< "$(words_of kmipctl-run.service)"
@@ -179,20 +193,23 @@ timers_day() {
         printf 'finished 7 of\nstop AllFinished\nstatus'
     )"
     asked=$(wc -l < "$work/serve.log")
-    look 'a run an hour later asks nothing' "$("${run[@]}" 2> /dev/null | tail -1)" 'stop AllFinished 0'
-    look 'and the server heard nothing' "$(wc -l < "$work/serve.log")" "$asked"
+    look 'a run an hour later' "$("${run[@]}" 2> /dev/null | tail -1)" 'stop AllFinished 0'
+    look 'it looks at each key, and changes none' "$(tail -n "+$((asked + 1))" "$work/serve.log" | cut -d' ' -f1 | sort | uniq -c)" \
+        "$(printf '      7 GetAttributes\n      7 Locate')"
     look 'what Ansible reads of it' "$("${run[@]}" --json 2> /dev/null | tail -1 | grep -o '"steps":[0-9]*')" '"steps":0'
     look 'a list' "$("${run[0]}" list --plan etc/kmipctl/plan.toml --progress "$progress" 2> /dev/null | tail -1)" \
         'finished 7 of 7'
     look 'the metrics' "$(grep '^kmipctl_keys\|^kmipctl_run_in' "$metrics")" "$(
-        printf 'kmipctl_keys{verdict="%s"} %s\n' finished 7 working 0 conflict 0
-        echo 'kmipctl_run_in_progress 0'
+        printf 'kmipctl_keys{plan="etc/kmipctl/plan.toml",verdict="%s"} %s\n' finished 7 working 0 conflict 0
+        echo 'kmipctl_run_in_progress{plan="etc/kmipctl/plan.toml"} 0'
     )"
+    look 'a look in the next night' "$(said "${look[@]}" | tail -2)" "$(printf 'finished 7 of 7\nstatus 0')"
+    look 'the metrics of a look' "$(grep '^kmipctl_look_keys' "$looked")" \
+        "$(printf 'kmipctl_look_keys{plan="etc/kmipctl/plan.toml",verdict="%s"} %s\n' finished 7 working 0 conflict 0 not_told 0)"
     names=$(grep -oE 'kmipctl_[a-z_]+' "$place/share/doc/kmipctl/examples/prometheus/alerts.yml" | sort -u)
     look 'the alerts are on these metrics' \
-        "$(for name in $names; do grep -q "^${name}[ {]" "$metrics" || echo "$name"; done)" ''
-    look 'who may read them' "$(stat -c '%a' "$metrics" "$progress")" "$(printf '644\n600')"
-    look 'a look in the next night' "$(said "${look[@]}" | tail -2)" "$(printf 'finished 7 of 7\nstatus 0')"
+        "$(for name in $names; do grep -q "^${name}[ {]" "$metrics" "$looked" || echo "$name"; done)" ''
+    look 'who may read them' "$(stat -c '%a' "$metrics" "$looked" "$progress")" "$(printf '644\n644\n600')"
     cd "$top" || exit 1
 }
 
@@ -206,7 +223,7 @@ look_at_packages() {
     look 'each file of it has a sum' \
         "$(differing "${made[0]}" <(sed 's/^[0-9a-f]*  //' "${made[0]}/SHA256SUMS"; echo SHA256SUMS))" ''
     look 'it has what is installed' \
-        "$(differing "${made[0]}" <(printf 'MADE-OF\nSHA256SUMS\n'; grep -v INSTALLED "$place/share/doc/kmipctl/INSTALLED"))" ''
+        "$(differing "${made[0]}" <(printf 'MADE-OF\nSHA256SUMS\n'; cat "$place/share/doc/kmipctl/INSTALLED"))" ''
     if ! command -v dpkg-deb > /dev/null; then
         skip 'the package' dpkg-deb
         return
@@ -227,7 +244,7 @@ uninstall_and_look() {
         "$(printf 'uninstalled what was below %s\nstatus 0' "$place")"
     look 'no file is left, but what is of others' "$(cd "$root/usr" && find . -type f)" './local/share/man/man1/other.1'
     look 'no folder of its own is left' "$(find "$root/usr" -name '*kmipctl*')" ''
-    look 'what was kept is still there' "$(find "$root/etc" "$root/var" -type f | wc -l)" 5
+    look 'what was kept is still there' "$(find "$root/etc" "$root/var" -type f | wc -l)" 6
     look 'uninstalling again' "$(said tools/install.sh uninstall /usr/local "$root")" \
         "install.sh: nothing is installed below $place: there is no $place/share/doc/kmipctl/INSTALLED
 status 1"

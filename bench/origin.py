@@ -27,7 +27,7 @@ target = "{}"
 '''
 PLAN = KEY.format('k1', 'AES', 256, '"encrypt", "decrypt"', 'active')
 FINISHED = 'k1 active 2/2 finished\nfinished 1 of 1\nstop AllFinished {}\n'
-ALONE = '1 of 1 finished by {} alone, kept {} against {}; --afresh looks\n'
+ALONE = 'the server was not asked: {0} ({2}, {1}) says that the key is finished; kmipctl look asks the server\n'
 GONE = 'a server in the process of its run (--loopback)'
 # What the metrics of each run have, beside how long it took and when a run last finished.
 COUNTED = ['keys{verdict="finished"}', 'keys{verdict="working"}', 'keys{verdict="conflict"}',
@@ -37,8 +37,9 @@ TIME = 'last_finish_timestamp_seconds'
 UNWRITTEN = '{}: {}; the metrics are not written, and nothing else changes; {}\n'
 # A whole Response Message with nothing in it.
 NO_REPLY = bytes.fromhex('42007b0100000000')
-WAYS = ('--believe: that is the same server under another name; '
-        '--afresh: begin from nothing, and keep {0} as {0}.before\n')
+BELIEVE = '--believe: use {}, if {} agrees with what it says about each key\n'
+REHEARSAL = 'it is of a rehearsal, whose server is gone: give another --progress\n'
+AFRESH = '--afresh: start over, create each key that this server does not have, and keep {0} as {0}.before\n'
 
 
 class Origins:
@@ -67,7 +68,7 @@ class Origins:
     def run(self, *more, plan=None):
         words = [self.program, 'run', '--plan', plan or self.plan, '--progress', self.progress, '--wait', '0', *more]
         done = subprocess.run(words, capture_output=True, text=True)
-        return done.returncode, done.stdout, re.sub(r'kept \d+ seconds? ago', 'kept a moment ago', done.stderr)
+        return done.returncode, done.stdout, re.sub(r', \d+ seconds? ago\)', ', a moment ago)', done.stderr)
 
     def list(self, plan=None):
         words = [self.program, 'list', '--plan', plan or self.plan, '--progress', self.progress]
@@ -90,8 +91,15 @@ class Origins:
 
     def refused(self, before, now, more=''):
         """What a run prints at another server."""
-        told = f'{self.progress} was kept against {before}; this run is to ask {now}\n' + WAYS.format(self.progress) + more
-        return 1, f'progress of another server: {self.progress}\n', told
+        told = f'{self.progress} was saved against {before}; this run is to use {now}\n'
+        told += REHEARSAL if before == GONE else BELIEVE.format(self.progress, now)
+        return 1, f'progress of another server: {self.progress}\n', told + AFRESH.format(self.progress) + more
+
+    def contradicted(self, server, *lines):
+        """What a run prints if the server contradicts its progress, with these lines about keys."""
+        told = ''.join(line.format(self.progress, server) + '\n' for line in lines)
+        told += f'{self.progress} does not match {server}, and nothing was changed there: check the address, or the progress file\n'
+        return 1, f'progress of another server: {self.progress}\n', told + AFRESH.format(self.progress)
 
     def rehearsal(self):
         self.begin()
@@ -101,6 +109,7 @@ class Origins:
         where = ('--connect', f'127.0.0.1:{port}')
         self.look('its file at a server', self.run(*where), self.refused(GONE, f'127.0.0.1:{port}'))
         self.look('its file at one more rehearsal', self.run('--loopback'), self.refused(GONE, GONE))
+        self.look('nor is it believed', self.run(*where, '--believe'), self.refused(GONE, f'127.0.0.1:{port}'))
         self.look('nothing was changed', (self.read('progress'), self.read('progress.before')), (known, None))
         self.look('from nothing', self.run(*where, '--afresh'), (0, FINISHED.format(3), ''))
         self.look('the file of before is kept', self.read('progress.before'), known)
@@ -111,6 +120,7 @@ class Origins:
             self.write('progress.origin', re.sub(r'kept \d+', f'kept {int(time.time()) - seconds}', origin))
             self.look(age, self.run(*where), (0, FINISHED.format(0), ALONE.format(self.progress, age, f'127.0.0.1:{port}')))
         self.look('and looked at once more', self.run(*where, '--afresh'), (0, FINISHED.format(2), ''))
+        self.look('the older file of before is kept too', self.read('progress.before.1'), known)
 
     def other_port(self):
         self.begin()
@@ -119,26 +129,34 @@ class Origins:
         where = ('--connect', f'127.0.0.1:{second}')
         self.look('its file at another port', self.run(*where),
                   self.refused(f'127.0.0.1:{first}', f'127.0.0.1:{second}'))
-        self.look('believed there', self.run(*where, '--believe'),
-                  (0, FINISHED.format(0), ALONE.format(self.progress, 'a moment ago', f'127.0.0.1:{first}')))
-        self.look('and from then on', self.run(*where),
-                  (0, FINISHED.format(0), ALONE.format(self.progress, 'a moment ago', f'127.0.0.1:{second}')))
-        self.look('but not where it was before', self.run('--connect', f'127.0.0.1:{first}'),
-                  self.refused(f'127.0.0.1:{second}', f'127.0.0.1:{first}'))
+        known, origin = self.read('progress'), self.read('progress.origin')
+        self.look('nor is it believed there, as the server has no such key', self.run(*where, '--believe'),
+                  self.contradicted(f'127.0.0.1:{second}', 'k1: {} has object 1 after 2 of 2 steps; {} has no object of this name'))
+        self.look('both files stay', (self.read('progress'), self.read('progress.origin')), (known, origin))
+        # The same server under another address.
+        with Peer(lambda number, request: asked(first, request)) as peer:
+            self.look('its file at the same server by another address', self.run('--connect', peer.address),
+                      self.refused(f'127.0.0.1:{first}', peer.address))
+            self.look('is believed, as the server agrees', self.run('--connect', peer.address, '--believe'),
+                      (0, FINISHED.format(0), ''))
+            self.look('and from then on', self.run('--connect', peer.address),
+                      (0, FINISHED.format(0), ALONE.format(self.progress, 'a moment ago', peer.address)))
+            self.look('but not where it was before', self.run('--connect', f'127.0.0.1:{first}'),
+                      self.refused(peer.address, f'127.0.0.1:{first}'))
 
     def other_attributes(self):
         self.begin()
         where = ('--connect', f'127.0.0.1:{self.serve()}')
         self.look('a run of a plan', self.run(*where, '--limit', '2'),
                   (1, 'k1 active 1/2 working\nfinished 0 of 1\nstop Limit 2\n',
-                   'k1: Create was answered last: created as 1\n'))
+                   'k1: last reply to Create: created as 1\n'))
         for field, now, was, key in [
                 ('length', '128', '256', KEY.format('k1', 'AES', 128, '"encrypt", "decrypt"', 'active')),
-                ('usage', '00000004', '0000000c', KEY.format('k1', 'AES', 256, '"encrypt"', 'active')),
+                ('usage', 'encrypt', 'encrypt decrypt', KEY.format('k1', 'AES', 256, '"encrypt"', 'active')),
                 ('algorithm', 'HMAC-SHA256', 'AES', KEY.format('k1', 'HMAC-SHA256', 256, '"mac-generate"', 'active'))]:
             self.write('other.toml', key)
-            told = (f'{self.progress} was kept for another plan: key "k1": the {field} is {now}, and was {was}; '
-                    'an object keeps what it was made with: give the key its old attributes, or another name\n')
+            told = (f'{self.progress} was saved for other attributes: key "k1": the {field} is {now}, and was {was}; '
+                    'the attributes of an object do not change: restore them in the plan, or give the key another name\n')
             for more in ((), ('--believe',)):
                 self.look(f'another {field} {" ".join(more)}'.strip(),
                           self.run(*where, *more, plan=os.path.join(self.folder, 'other.toml')),
@@ -152,7 +170,7 @@ class Origins:
         finished = 'k1 discarded 2/2 finished\nfinished 1 of 1\nstop AllFinished {}\n'
         first, second = self.serve(), self.serve()
         self.look('a key is made and destroyed', self.run('--connect', f'127.0.0.1:{first}'), (0, finished.format(3), ''))
-        more = 'k1 is known to be destroyed: with --afresh a server that forgets destroyed objects would make it again\n'
+        more = 'k1 is known to be destroyed: with --afresh a server that forgets destroyed objects would create it again\n'
         self.look('at another server it would be made again', self.run('--connect', f'127.0.0.1:{second}'),
                   self.refused(f'127.0.0.1:{first}', f'127.0.0.1:{second}', more))
 
@@ -179,12 +197,127 @@ class Origins:
         self.look('and where it is kept is told', (lines[0:2], lines[3:]),
                   (['kmipctl origin 1', f'server tcp {where[1]}'], ['key k1 AES 256 0000000c']))
         os.remove(os.path.join(self.folder, 'progress.origin'))
-        self.look('all done, by a file of which nothing is told', self.run(*where),
-                  (0, FINISHED.format(0), f'1 of 1 finished by {self.progress} alone; --afresh looks\n'))
+        self.look('all done, by a file of which nothing is told, as the server agrees', self.run(*where),
+                  (0, FINISHED.format(0), ''))
+        self.look('and where it is kept is told again', (self.read('progress.origin') or '').splitlines()[1],
+                  f'server tcp {where[1]}')
+        os.remove(os.path.join(self.folder, 'progress.origin'))
+        other = f'127.0.0.1:{self.serve()}'
+        self.look('but not at a server that has no such key', self.run('--connect', other),
+                  self.contradicted(other, 'k1: {} has object 1 after 2 of 2 steps; {} has no object of this name'))
+        self.look('where it is kept is not told then', self.read('progress.origin'), None)
+        self.look('with no exchange it is listed', self.run('--connect', other, '--limit', '0')[:2], (0, FINISHED.format(0)))
         self.write('progress.origin', 'something else\n')
         status, printed, _ = self.run(*where)
         self.look('an origin that is none', (status, printed), (1, f'cannot read {self.progress}\n'))
         self.look('believed all the same', self.run(*where, '--believe')[:2], (0, FINISHED.format(0)))
+
+    def refreshed(self):
+        """Runs that first ask the server about what the file knows."""
+        self.begin(PLAN + KEY.format('k2', 'HMAC-SHA256', 256, '"mac-generate"', 'revoked'))
+        report = 'k1 active {} {}\nk2 revoked {} {}\nfinished {} of 2\nstop {}\n'
+        done = ('2/2', 'finished', '3/3', 'finished', 2)
+        port = self.serve()
+        where = ('--connect', f'127.0.0.1:{port}', '--refresh')
+        self.look('a first run looks at nothing', self.run(*where), (0, report.format(*done, 'AllFinished 7'), ''))
+        origin = self.read('progress.origin')
+        self.look('a finished file is looked up', self.run(*where), (0, report.format(*done, 'AllFinished 0'), ''))
+        self.look('with several keys in a message', self.run(*where, '--batch', '8'),
+                  (0, report.format(*done, 'AllFinished 0'), ''))
+        status, printed, _ = self.run(*where, '--limit', '0')
+        self.look('not without an exchange', (status, printed.splitlines()[0]),
+                  (2, "error: '--limit 0' cannot be used with '--refresh' or '--believe', which ask the server first"))
+        finished = self.read('progress')
+        self.run('--connect', where[1], '--afresh', '--limit', '3')
+        self.look('what the file does not know is done, and counted alone', self.run(*where, '--limit', '9')[:2],
+                  (0, report.format(*done, 'AllFinished 1')))
+        other = f'127.0.0.1:{self.serve()}'
+        self.write('progress', finished)
+        self.write('progress.origin', origin.replace(f'127.0.0.1:{port}', other))
+        lines = ['k1: {} has object 1 after 2 of 2 steps; {} has no object of this name',
+                 'k2: {} has object 2 after 3 of 3 steps; {} has no object of this name']
+        self.look('a server that was exchanged contradicts', self.run('--connect', other, '--refresh'),
+                  self.contradicted(other, *lines))
+        self.write('half.toml', PLAN)
+        subprocess.run([self.program, 'run', '--plan', os.path.join(self.folder, 'half.toml'), '--progress',
+                        os.path.join(self.folder, 'half'), '--connect', other], capture_output=True)
+        self.look('so does one that has lost the last key', self.run('--connect', other, '--refresh'),
+                  self.contradicted(other, lines[1]))
+        status, printed, _ = self.run('--connect', other, '--refresh', '--json')
+        self.look('in JSON the keys are named', (status, printed),
+                  (1, f'{{"fault":"progress of another server","at":"{self.progress}",'
+                      f'"why":"{other} contradicts what it says","keys":["k2"]}}\n'))
+        self.write('gone.toml', PLAN.replace('"active"', '"revoked"'))
+        subprocess.run([self.program, 'run', '--plan', os.path.join(self.folder, 'gone.toml'), '--progress',
+                        os.path.join(self.folder, 'gone'), '--connect', where[1]], capture_output=True)
+        self.write('progress.origin', origin)
+        self.look('a key that others revoked contradicts', self.run(*where),
+                  self.contradicted(where[1], 'k1: {} has object 1 after 2 of 2 steps; '
+                                    '{} has object 1 in the state Deactivated, which does not lead to active'))
+        fourth = f'127.0.0.1:{self.serve()}'
+        self.write('progress', finished.replace(' 2 31', ' 1 31'))
+        self.write('progress.origin', origin.replace(f'127.0.0.1:{port}', fourth))
+        self.look('without a look, an object that is not there is told at once and at the end',
+                  self.run('--connect', fourth, '--limit', '2'),
+                  (1, report.format('1/2', 'working', '3/3', 'finished', 1, 'Limit 2'),
+                   f'k1: {fourth} does not have the object that {self.progress} has; --refresh checks the file\n'
+                   'k1: GetAttributes refused 2 times, last reason 1 (Item Not Found)\n'
+                   f'{fourth} is not as {self.progress} says: check the address, and run with --refresh\n'))
+        # A server that was set back: it has the object, but before its second step.
+        self.write('half.toml', KEY.format('k1', 'AES', 256, '"encrypt", "decrypt"', 'created'))
+        fifth = f'127.0.0.1:{self.serve()}'
+        subprocess.run([self.program, 'run', '--plan', os.path.join(self.folder, 'half.toml'), '--progress',
+                        os.path.join(self.folder, 'set-back'), '--connect', fifth], capture_output=True)
+        plan, known = self.read('plan.toml'), 'kmip-progress 2\nk1 revoked 1 2 31\nend 1\n'
+        self.write('plan.toml', PLAN.replace('"active"', '"revoked"'))
+        self.write('progress', known)
+        self.write('progress.origin', self.read('set-back.origin'))
+        self.look('nor one with an earlier state', self.run('--connect', fifth, '--limit', '2'),
+                  (1, 'k1 revoked 2/3 working\nfinished 0 of 1\nstop Limit 2\n',
+                   f'k1: {fifth} has an earlier state of the object than {self.progress} has; --refresh checks the file\n'
+                   'k1: last reply to GetAttributes: 1 is PreActive, AES 256 encrypt decrypt\n'
+                   f'{fifth} is not as {self.progress} says: check the address, and run with --refresh\n'))
+        self.look('which a look finds', self.run('--connect', fifth, '--refresh'), self.contradicted(
+            fifth, 'k1: {} has object 1 after 2 of 3 steps; {} has object 1 in the state PreActive'))
+        self.write('plan.toml', plan)
+        self.write('progress', finished)
+        with socket.create_server(('127.0.0.1', 0)) as free:
+            nobody = f'127.0.0.1:{free.getsockname()[1]}'
+        self.write('progress.origin', origin.replace(f'127.0.0.1:{port}', nobody))
+        status, printed, told = self.run('--connect', nobody, '--refresh', '--give-up', '1')
+        self.look('no answer is no agreement', (status, printed, re.sub('(no reply|not asked)$', 'WHY', told, flags=re.M)),
+                  (1, report.format(*done, 'Limit 0'),
+                   f'no reply from {nobody}: the connection was refused; trying again\ngave up: no answer came for 1 s\n'
+                   'k1: not told: WHY\nk2: not told: WHY\n'
+                   'the progress file could not be checked, and nothing was changed: run again\n'))
+        self.look('nothing was changed', self.read('progress'), finished)
+
+    def refreshed_gone(self):
+        """A server that forgets destroyed objects."""
+        keys = [KEY.format(name, 'AES', 256, '"encrypt"', target) for name, target in (('k1', 'discarded'), ('k2', 'active'))]
+        self.begin(''.join(keys))
+        old, new = f'127.0.0.1:{self.serve()}', f'127.0.0.1:{self.serve()}'
+        self.run('--connect', old)
+        self.write('second.toml', keys[1])
+        # On the new server k2 has the identifier that it has on the old one, and k1 is not there.
+        self.write('first.toml', keys[1].replace('k2', 'other'))
+        for plan in ('first', 'second'):
+            subprocess.run([self.program, 'run', '--plan', os.path.join(self.folder, plan + '.toml'), '--progress',
+                            os.path.join(self.folder, plan), '--connect', new], capture_output=True)
+        known = self.read('progress')
+        self.write('progress.origin', self.read('progress.origin').replace(old, new))
+        report = 'k1 discarded 2/2 finished\nk2 active 2/2 finished\nfinished 2 of 2\nstop AllFinished 0\n'
+        self.look('a destroyed key is forgotten, and the other agrees', self.run('--connect', new, '--refresh'),
+                  (0, report, 'k1: destroyed by the progress file; the server has no object of this name '
+                              '(some servers forget destroyed objects)\n'))
+        self.begin(keys[0])
+        self.run('--connect', old, '--limit', '3')
+        self.write('progress', known.replace('\nk2', '\nk2').split('\n')[0] + '\n' + known.split('\n')[1] + '\nend 1\n')
+        other = f'127.0.0.1:{self.serve()}'
+        self.write('progress.origin', self.read('progress.origin').replace(old, other))
+        self.look('nothing else agrees', self.run('--connect', other, '--refresh'),
+                  self.contradicted(other, 'k1: {} has object 1, destroyed; {} has no object of this name '
+                                    '(some servers forget destroyed objects)'))
 
     def refused_progress(self):
         """A file that is no progress is refused, wherever it was kept."""
@@ -192,7 +325,7 @@ class Origins:
         self.run('--loopback')
         none = 'kmip-progress 2\nk1 active - many 31\nend 1\n'
         for text, why in (('', '2 Cut'), (none, '1 BadText')):
-            for more in ((), ('--believe',)):
+            for more in ((), ('--believe',), ('--refresh',)):
                 self.write('progress', text)
                 status, printed, _ = self.run('--loopback', *more)
                 self.look(f'{why} {" ".join(more)}'.strip(), (status, printed, self.read('progress')),
@@ -229,7 +362,7 @@ class Origins:
         first, second = self.serve(), self.serve()
         self.look('a run that finds nothing', self.run('--connect', f'127.0.0.1:{first}', '--limit', '1'),
                   (1, 'k1 active 0/2 working\nfinished 0 of 1\nstop Limit 1\n',
-                   'k1: Locate was answered last: found none\n'))
+                   'k1: last reply to Locate: found none\n'))
         self.look('goes on elsewhere', self.run('--connect', f'127.0.0.1:{second}'), (0, FINISHED.format(3), ''))
 
     def listings(self):
@@ -240,22 +373,22 @@ class Origins:
         self.look('a listing of no file', self.list(), (1, f'cannot read {self.progress}\n', unread))
         self.run('--loopback')
         self.look('a listing of a rehearsal', self.list(),
-                  (0, listed, 'a rehearsal: kept by a run with --loopback, a moment ago\n'))
+                  (0, listed, 'a rehearsal: saved by a run with --loopback, a moment ago\n'))
         port = self.serve()
         self.run('--connect', f'127.0.0.1:{port}', '--afresh')
-        kept = f'kept against 127.0.0.1:{port}, '
-        self.look('of a file that was kept against a server', self.list(), (0, listed, kept + 'a moment ago\n'))
+        kept = f'saved against 127.0.0.1:{port}, '
+        self.look('of a file that was saved against a server', self.list(), (0, listed, kept + 'a moment ago\n'))
         origin = self.read('progress.origin')
         for seconds, age in ((61, '1 minute ago'), (2 * 3600 + 5, '2 hours ago'), (3 * 86400 + 5, '3 days ago')):
             self.write('progress.origin', re.sub(r'kept \d+', f'kept {int(time.time()) - seconds}', origin))
             self.look(age, self.list(), (0, listed, f'{kept}{age}\n'))
         self.write('progress.origin', re.sub(r'kept \d+', f'kept {int(time.time()) + 3600}', origin))
-        self.look('by a clock that was set back', self.list(), (0, listed, f'kept against 127.0.0.1:{port}\n'))
+        self.look('by a clock that was set back', self.list(), (0, listed, f'saved against 127.0.0.1:{port}\n'))
         self.write('progress.origin', origin.replace(f'tcp 127.0.0.1:{port}', 'unix /run/kmip.socket'))
-        self.look('behind a socket', self.list(), (0, listed, 'kept against the socket /run/kmip.socket, a moment ago\n'))
+        self.look('behind a socket', self.list(), (0, listed, 'saved against the socket /run/kmip.socket, a moment ago\n'))
         self.write('other.toml', KEY.format('k1', 'AES', 128, '"encrypt", "decrypt"', 'active'))
-        told = (f'{self.progress} was kept for another plan: key "k1": the length is 128, and was 256; '
-                'an object keeps what it was made with: give the key its old attributes, or another name\n')
+        told = (f'{self.progress} was saved for other attributes: key "k1": the length is 128, and was 256; '
+                'the attributes of an object do not change: restore them in the plan, or give the key another name\n')
         self.look('for a key with another length', self.list(os.path.join(self.folder, 'other.toml')),
                   (1, 'progress refused: 3 OtherPlan\n', told))
         self.write('progress.origin', 'something else\n')
@@ -263,7 +396,7 @@ class Origins:
         self.look('beside an origin that is none', self.list(), (0, listed, f'{self.progress}.origin: {useless}\n'))
         os.remove(self.progress + '.origin')
         self.look('of a file of which nothing is told', self.list(),
-                  (0, listed, f'against which server {self.progress} was kept is not known\n'))
+                  (0, listed, f'the server of {self.progress} is not known\n'))
         os.rename(self.progress, self.progress + '.file')
         os.symlink('progress.file', self.progress)
         self.write('progress.file.origin', origin)
@@ -289,12 +422,15 @@ class Origins:
     def measured(self, name='run.prom'):
         """What is counted in a file of metrics, and the last finish; none where it is not whole."""
         lines = (self.read(name) or '').splitlines()
-        values = dict(line.removeprefix('kmipctl_').rsplit(' ', 1) for line in lines if not line.startswith('#'))
+        label = f'plan="{self.plan}"'
+        values = dict(line.removeprefix('kmipctl_').replace(f'{{{label}}}', '').replace(label + ',', '').rsplit(' ', 1)
+                      for line in lines if not line.startswith('#'))
         digest = hashlib.sha256(self.read('plan.toml').encode()).hexdigest()[:16]
         heads = [f'# {word} kmipctl_{name}' for name in dict.fromkeys(key.split('{')[0] for key in values)
                  for word in ('HELP', 'TYPE')]
-        is_whole = values.pop(f'plan_info{{digest="{digest}"}}', '') == '1' and values.pop('run_milliseconds', '').isdigit()
-        time_of = values.pop(TIME, None)
+        is_whole = values.pop(f'plan_info{{digest="{digest}"}}', '') == '1' and \
+            re.fullmatch(r'\d+\.\d{3}', values.pop('run_seconds', ''))
+        time_of, self.answered = values.pop(TIME, None), values.pop('last_answer_timestamp_seconds', None)
         if not is_whole or list(values) != COUNTED or [' '.join(line.split()[:3]) for line in lines if line[0] == '#'] != heads:
             return None, lines
         return [int(value) for value in values.values()], time_of and int(time_of)
@@ -310,6 +446,7 @@ class Origins:
         self.look('of one that goes on from there: a step is its own', (done, counted),
                   ((0, 'stop AllFinished 2'), [1, 0, 0, 2, 0, 0, 0, 1, 0]))
         self.look('it tells when it finished', finish is not None and start <= finish <= time.time(), True)
+        self.look('and when the server answered', start <= int(self.answered or 0) <= time.time(), True)
         path = os.path.join(self.folder, 'run.prom')
         self.look('anyone may read it', os.stat(path).st_mode & 0o777, 0o644 & ~self.mask())
         self.look('and nothing lies beside it', [name for name in os.listdir(self.folder) if 'run.prom' in name], ['run.prom'])
@@ -318,8 +455,17 @@ class Origins:
                   ((1, 'stop Limit 1'), [0, 1, 0, 1, 0, 0, 0, 0, 0], 1000000000))
         self.look('one that finds all done took no step', self.metrics(*where, '--afresh')[:2],
                   ((0, 'stop AllFinished 2'), [1, 0, 0, 2, 0, 0, 0, 0, 0]))
-        self.look('one that asks nothing is finished too', self.metrics(*where)[:2],
-                  ((0, 'stop AllFinished 0'), [1, 0, 0, 0, 0, 0, 0, 0, 0]))
+        self.write('run.prom', re.sub(r' \d{10}$', ' 1000000000', self.read('run.prom'), flags=re.M))
+        self.look('one that asks nothing keeps both times', (*self.metrics(*where), self.answered),
+                  ((0, 'stop AllFinished 0'), [1, 0, 0, 0, 0, 0, 0, 0, 0], 1000000000, '1000000000'))
+        finish = self.metrics(*where, '--refresh')
+        self.look('one that looks first has new ones', (finish[:2], finish[2] >= start, int(self.answered) >= start),
+                  (((0, 'stop AllFinished 0'), [1, 0, 0, 2, 0, 0, 0, 0, 0]), True, True))
+        plan = os.path.join(self.folder, 'a "b"\\c.toml')
+        self.write(os.path.basename(plan), PLAN)
+        self.run('--loopback', '--afresh', '--metrics', os.path.join(self.folder, 'odd.prom'), plan=plan)
+        label = plan.replace('\\', '\\\\').replace('"', '\\"')
+        self.look('the path of a plan is escaped', f'kmipctl_refused{{plan="{label}"}} 0\n' in (self.read('odd.prom') or ''), True)
         for text in ('', 'something else\n', f'kmipctl_{TIME} soon\n'):
             self.write('run.prom', text)
             self.look('no time is kept of no such file', self.metrics(*where, '--afresh', '--limit', '1'),
@@ -370,13 +516,13 @@ class Origins:
         self.begin()
         os.mkdir(os.path.join(self.folder, 'folder'))
         for name, why, remedy in (('none/run.prom', 'No such file or directory (os error 2)', 'check that its folder exists'),
-                                  ('folder', 'Is a directory (os error 21)', 'see what stands there')):
+                                  ('folder', 'this is not a regular file', 'name another file')):
             path = os.path.join(self.folder, name)
             self.look(f'metrics to {name}', self.run('--loopback', '--afresh', '--metrics', path),
                       (0, FINISHED.format(3), UNWRITTEN.format(path, why, remedy)))
         known = self.read('progress')
-        why = 'it is the plan or the progress'
-        for name in ('plan.toml', 'progress'):
+        why = 'this is the plan, the progress or a file next to it'
+        for name in ('plan.toml', 'progress', 'progress.origin', 'progress.lock', 'progress.before', 'progress.new'):
             path = os.path.join(self.folder, name)
             self.look(f'metrics to {name}', self.run('--loopback', '--afresh', '--metrics', path),
                       (0, FINISHED.format(3), UNWRITTEN.format(path, why, 'name another file')))
@@ -386,9 +532,39 @@ class Origins:
         self.look('a run that does not finish', (status, printed, told.count('the metrics are not written')),
                   (1, 'k1 active 1/2 working\nfinished 0 of 1\nstop Limit 2\n', 1))
 
+    def measured_look(self):
+        """The metrics of looks."""
+        self.begin(PLAN + KEY.format('k2', 'AES', 256, '"encrypt"', 'created'))
+        where = ('--connect', f'127.0.0.1:{self.serve()}')
+
+        def looked(*words):
+            path = os.path.join(self.folder, 'look.prom')
+            done = subprocess.run([self.program, 'look', '--plan', self.plan, '--metrics', path, *words],
+                                  capture_output=True, text=True)
+            lines = (self.read('look.prom') or '').splitlines()
+            values = dict(line.removeprefix('kmipctl_look_').rsplit(' ', 1) for line in lines if line[0] != '#')
+            label = f'plan="{self.plan}"'
+            counts = [values.get(f'keys{{{label},verdict="{word}"}}') for word in ('finished', 'working', 'conflict', 'not_told')]
+            counts += [values.get(f'exchanges{{{label},outcome="{word}"}}') for word in ('answered', 'lost')]
+            times = [values.get(f'last_{word}_timestamp_seconds{{{label}}}') for word in ('answer', 'finish')]
+            return done.returncode, done.stdout.splitlines()[-1:], counts, [time is not None for time in times]
+        self.look('metrics of a look that finds nothing', looked(*where),
+                  (1, ['finished 0 of 2'], ['0', '2', '0', '0', '2', '0'], [True, False]))
+        self.run(*where)
+        for more in (), ('--json',):
+            self.look(f'of one that finds all {" ".join(more)}'.strip(), looked(*where, *more)[2:],
+                      (['2', '0', '0', '0', '4', '0'], [True, True]))
+        with socket.create_server(('127.0.0.1', 0)) as free:
+            nobody = f'127.0.0.1:{free.getsockname()[1]}'
+        self.look('of one where nobody listens', looked('--connect', nobody, '--batch', '8'),
+                  (1, ['finished 0 of 2'], ['0', '0', '0', '2', '0', '4'], [True, True]))
+        done = subprocess.run([self.program, 'look', '--plan', self.plan, '--metrics', self.plan, *where], capture_output=True, text=True)
+        self.look('not over the plan', (done.returncode, done.stderr), (0, UNWRITTEN.format(
+            self.plan, 'this is the plan, the progress or a file next to it', 'name another file')))
+
     def all(self):
         for case in (self.rehearsal, self.other_port, self.other_attributes, self.destroyed, self.taken_further,
-                     self.unknown_origin, self.refused_progress, self.killed, self.socket_links, self.nothing_known,
+                     self.refreshed, self.refreshed_gone, self.measured_look, self.unknown_origin, self.refused_progress, self.killed, self.socket_links, self.nothing_known,
                      self.listings, self.no_room, self.measured_runs, self.measured_trouble, self.measured_kill,
                      self.unmeasured):
             case()
@@ -446,7 +622,7 @@ def message_of(connection):
     return message
 
 
-def asked(port, request, is_lost):
+def asked(port, request, is_lost=False):
     """What the server at a port replies; none where that is to be lost."""
     with socket.create_connection(('127.0.0.1', port)) as connection:
         connection.sendall(request)

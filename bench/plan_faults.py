@@ -216,6 +216,31 @@ OF_ANOTHER_PLAN = [
      ':6: key 1 "a": 2 of its steps are done in OLD: there are not as many to "created"'),
 ]
 
+# The name of the row, a plan with several faults, what stands behind `plan refused: `, and what stands behind the path
+# in each line.
+SEVERAL = [
+    ('two faults in a key and one in another', plan(key(name='"b c"', length='129'), key(target='"x"')), '6 BadName at key 1',
+     [f':2: key 1: the name is "b c": it may be {NAMES}',
+      ':4: key 1 "b c": the length is 129: for AES it may be 128, 192 or 256',
+      f':12: key 2 "a": the target is "x": it may be {TARGETS}']),
+    ('a key with nothing, and a name twice', plan('', key(), key()), '4 Missing name at key 1',
+     [f':1: key 1: there is no name: {NEEDED}', ':9: key 3 "a": key 2 has this name already: each key needs its own']),
+    ('a wrong target with a reason', plan(key(target='"x"', reason='"y"')), '9 BadTarget at key 1',
+     [f':6: key 1 "a": the target is "x": it may be {TARGETS}', f':7: key 1 "a": the reason is "y": it may be {REASONS}']),
+    ('25 wrong lengths', plan(*(key(name=f'"k{place}"', length='129') for place in range(1, 26))), '7 BadLength at key 1',
+     [f':{6 * place - 2}: key {place} "k{place}": the length is 129: for AES it may be 128, 192 or 256' for place in range(1, 21)]
+     + [': there are more faults']),
+]
+
+# The name of the row, a plan with keys that cannot be used, what `check` prints, and its warnings behind the path.
+UNSUITED = [
+    ('an HMAC key that is to encrypt', plan(key(algorithm='"HMAC-SHA256"')), printed('a', 'HMAC-SHA256 256'),
+     [':5: key 1 "a": the usage "encrypt" does not suit HMAC-SHA256: use mac-generate or mac-verify']),
+    ('an AES key that is to authenticate', plan(key(), key(name='"b"', usage='["decrypt", "mac-verify"]')),
+     printed('a') + printed('b', usage='00000108'),
+     [':11: key 2 "b": the usage "mac-verify" does not suit AES: use encrypt, decrypt, wrap-key or unwrap-key']),
+]
+
 # A fault, for the commands beside `check`.
 FAULTY = plan(key(length='129'))
 FAULT = '7 BadLength at key 1'
@@ -248,6 +273,16 @@ class Trial:
         for row, text, fault, why in REFUSED:
             path = self.written('plan.toml', text)
             self.look(row, ['check', '--plan', path], f'plan refused: {fault}\n', f'{path}{why}\n')
+
+    def several(self):
+        for row, text, fault, whys in SEVERAL:
+            path = self.written('plan.toml', text)
+            self.look(row, ['check', '--plan', path], f'plan refused: {fault}\n', ''.join(f'{path}{why}\n' for why in whys))
+
+    def unsuited(self):
+        for row, text, said, whys in UNSUITED:
+            path = self.written('plan.toml', text)
+            self.look(row, ['check', '--plan', path], said, ''.join(f'warning: {path}{why}\n' for why in whys), 0)
 
     def schema(self):
         """The schema refuses what `check` refuses, and no plan that is one."""
@@ -318,6 +353,8 @@ def main():
     os.makedirs(folder)
     trial = Trial(program, folder)
     trial.faults()
+    trial.several()
+    trial.unsuited()
     trial.schema()
     trial.prolongings()
     trial.progresses()

@@ -285,7 +285,7 @@ class Carrying(Command):
         if run.left not in self.saved:
             raise Wrong(f"another progress: {run.left!r}")
         told, lines = run.errors.splitlines(), self.undisturbed.errors.splitlines()
-        if run.status and told and told[-1].endswith(": no reply, no memory (T ms)"):
+        if run.status and told and told[-1].endswith(": no reply, out of memory (T ms)"):
             told.pop()
         rest = iter(lines)
         if not all(line in rest for line in told):

@@ -191,7 +191,7 @@ class Reports:
         self.look('its progress at another server', ['run', '--plan', self.plan, '--progress', self.progress, '--connect',
                                                      second], 1,
                   fault('progress of another server', self.progress,
-                        f'it was kept against {where[1]}; this run is to ask {second}'))
+                        f'it was saved against {where[1]}; this run is to use {second}'))
 
     def passing(self):
         """Troubles that pass, and those that last."""
@@ -214,7 +214,7 @@ class Reports:
             self.look(f'{words[0]} of no file', [*words, '--plan', none], 1, fault('cannot read', none, gone))
         bytes_of = self.write('bytes.toml', b'\xff\xfe')
         self.look('a plan that is no text', ['check', '--plan', bytes_of], 1,
-                  fault('cannot read', bytes_of, 'it is no UTF-8 text'))
+                  fault('cannot read', bytes_of, 'it is not UTF-8 text'))
         long = os.path.join(self.folder, 'long.toml')
         with open(long, 'wb') as file:
             file.truncate(16_777_217)

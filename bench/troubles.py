@@ -1,5 +1,5 @@
 #!/usr/bin/env python3
-"""Runs `kmipctl run` against servers that give trouble, and compares what standard error says of it.
+"""Runs `kmipctl run`, `look` and `probe` against servers that give trouble, and compares what standard error says.
 
     bench/troubles.py PROGRAM FOLDER
 
@@ -15,6 +15,7 @@ import pty
 import re
 import shutil
 import socket
+import struct
 import subprocess
 import sys
 import threading
@@ -32,10 +33,10 @@ LONGEST = 60
 # What has not ended after so many seconds never does.
 EVER = 150
 
-TUNNEL = ' (where a tunnel is used, its log says why)'
+TUNNEL = ' (if there is a tunnel, see its log)'
 TLS_ALERT = bytes.fromhex('15030300020228')
 TLS_HANDSHAKE = bytes.fromhex('160303004a0200004603036b')
-NO_KMIP = 'bytes came that are no KMIP'
+NO_KMIP = 'the server did not reply in KMIP'
 
 
 def key(name, length=256, target='active'):
@@ -114,6 +115,13 @@ def saying(words, then=None):
         peer.close()
 
     return behaviour
+
+
+def resetting(peer):
+    """Resets the connection once a request has come."""
+    message(peer)
+    peer.setsockopt(socket.SOL_SOCKET, socket.SO_LINGER, struct.pack('ii', 1, 0))
+    peer.close()
 
 
 def answering(answer):
@@ -213,6 +221,8 @@ def without_times(line):
     """A line of standard error without its times: seconds since the start, of silence, and of an exchange."""
     line = re.sub(r'^\d+\.\d{3} ', 'T ', line)
     line = re.sub(r'answers again after \d+ s$', 'answers again after T s', line)
+    line = re.sub(r'(waiting for|times in|giving up in) \d+ s', r'\1 T s', line)
+    line = re.sub(r' \d+ times in', ' N times in', line)
     return re.sub(r' \(\d+ ms\)$', ' (T ms)', line)
 
 
@@ -277,10 +287,23 @@ class Troubles:
         return status, printed, self.text('told')
 
     def no_reply(self, what, behaviour, reason, *more):
-        """A peer that never gives a reply: why is told once, and at the end that no key was answered."""
+        """A peer that never gives a reply: why is told once, and at the end that no key was answered. `look` and
+        `probe` say the same."""
         self.start()
-        told = [f'no reply from PEER: {reason}; trying again', 'no key was answered in 3 exchanges']
-        self.case(what, peer_with(behaviour), told, 'stop Limit 3', '--limit', '3', '--wait', '0', *more)
+        why = f'no reply from PEER: {reason}; trying again'
+        port = peer_with(behaviour)
+        self.case(what, port, [why, 'no reply in 3 exchanges'], 'stop Limit 3',
+                  '--limit', '3', '--wait', '0', *more)
+        for command, words, last in (
+                ('look', ('--plan', 'plan.toml'), 'finished 0 of 1'),
+                ('probe', ('--name-prefix', 'p'), None)):
+            address = f'127.0.0.1:{port}'
+            done = subprocess.run([self.program, command, *words, '--connect', address, *more], cwd=self.folder,
+                                  capture_output=True, text=True)
+            lines = [without_times(line.replace(address, 'PEER')) for line in done.stderr.splitlines()]
+            printed = done.stdout.splitlines()[-1:]
+            self.look(f'{what}, by {command}', (lines, [why]), (done.returncode, 1),
+                      (printed, [last] if last else printed))
 
     def serve(self):
         server = subprocess.Popen([self.program, 'serve', '--port', '0', '--connections', '1000000'],
@@ -292,6 +315,7 @@ class Troubles:
         closed = f'the connection was closed before a reply{TUNNEL}'
         self.no_reply('a peer that hangs', silent, 'timed out after 1 s', '--timeout', '1')
         self.no_reply('a peer that closes', saying(b''), closed)
+        self.no_reply('a peer that resets', resetting, closed)
         self.no_reply('a peer that closes within a reply', saying(bytes.fromhex('42007b010000009042007a')),
                       'the connection was closed within a reply')
         self.no_reply('a peer that closes behind one byte of a reply', saying(b'\x42'),
@@ -306,7 +330,7 @@ class Troubles:
             self.no_reply(f'a peer that says {what} of HTTP', saying(words), f'{NO_KMIP}: it answers in HTTP')
         self.no_reply('a peer that says something else', saying(b'220 mail.example.org\r\n'), NO_KMIP)
         self.no_reply('a peer that begins a long reply', saying(bytes.fromhex('42007b0100003000')),
-                      'a reply of 12296 bytes came, where 8192 are the most')
+                      'the reply is too long: 12296 bytes, limit 8192')
         self.no_reply('a peer that says nearly the head of a reply', saying(bytes.fromhex('42007b0100000004')), NO_KMIP)
         self.no_reply('a peer that speaks KMIP 1.0', of_version_one, 'an unreadable reply (Version: KMIP 1.0)')
 
@@ -315,22 +339,52 @@ class Troubles:
         refused = 'no reply from PEER: the connection was refused'
         self.start()
         self.case('a port where nobody listens', port,
-                  [f'{refused}; trying again', 'no key was answered in 3 exchanges'], 'stop Limit 3',
+                  [f'{refused}; trying again', 'no reply in 3 exchanges'], 'stop Limit 3',
                   '--limit', '3', '--wait', '0')
         self.start()
-        self.case('it, asked once', port, [refused, 'no key was answered in 1 exchange'], 'stop Limit 1',
+        self.case('it, asked once', port, [refused, 'no reply in 1 exchange'], 'stop Limit 1',
                   '--limit', '1')
         self.start()
         self.case('it, in many words', port,
                   [f'{refused}; trying again', 'T Locate k1: no reply, the connection was refused (T ms)',
-                   'T Locate k1: no reply, the connection was refused (T ms)', 'no key was answered in 2 exchanges'],
+                   'T Locate k1: no reply, the connection was refused (T ms)', 'no reply in 2 exchanges'],
                   'stop Limit 2', '--limit', '2', '--wait', '0', '--verbose')
         listener.close()
         self.start()
         missing = 'No such file or directory (os error 2)'
         self.case('a socket that is not there', 0,
-                  [f'no reply from kms.sock: {missing}; trying again', 'no key was answered in 2 exchanges'],
+                  [f'no reply from kms.sock: {missing}; trying again', 'no reply in 2 exchanges'],
                   'stop Limit 2', '--limit', '2', '--wait', '0', where=('--socket', 'kms.sock'))
+
+    def still_silent(self):
+        """What is told of a server that is silent for long: within an exchange, and from one to the next."""
+        listener, refusing = bound()
+        rows = [('a peer that hangs for long', peer_with(silent), ('--timeout', '40', '--limit', '1'), 'stop Limit 1',
+                 ['still no reply from PEER (waiting for T s); giving up in T s',
+                  'no reply from PEER: timed out after 40 s', 'no reply in 1 exchange']),
+                ('a port where nobody listens for long', refusing, ('--give-up', '36'), 'stop Limit',
+                 ['no reply from PEER: the connection was refused; trying again',
+                  'still no reply from PEER (connection refused N times in T s); giving up in T s',
+                  'no reply in N exchanges', 'gave up: nothing new for 36 s'])]
+        looks = [('a look at a peer that hangs for long', peer_with(silent), ('--timeout', '33', '--give-up', '10'),
+                  ['still no reply from PEER (waiting for T s); giving up in T s',
+                   'no reply from PEER: timed out after 33 s; trying again', 'gave up: no answer came for 10 s'])]
+        self.start()
+        running = []
+        for what, port, words, stop, told in rows:
+            command = [self.program, 'run', '--plan', 'plan.toml', '--progress', what.replace(' ', '-')]
+            running.append((what, port, [*command, *words], stop, told))
+        for what, port, words, told in looks:
+            running.append((what, port, [self.program, 'look', '--plan', 'plan.toml', *words], 'finished 0 of 1', told))
+        started = [subprocess.Popen([*words, '--connect', f'127.0.0.1:{port}'], cwd=self.folder, text=True,
+                                    stdin=subprocess.DEVNULL, stdout=subprocess.PIPE, stderr=subprocess.PIPE)
+                   for _, port, words, _, _ in running]
+        for (what, port, _, stop, told), one in zip(running, started):
+            printed, said = one.communicate(timeout=EVER)
+            lines = [without_times(line.replace(f'127.0.0.1:{port}', 'PEER')) for line in said.splitlines()]
+            lines = [re.sub(r'in \d+ exchanges', 'in N exchanges', line) for line in lines]
+            self.look(what, (lines, told), (printed.splitlines()[-1].startswith(stop), True), (one.returncode, 1))
+        listener.close()
 
     def gives_up(self):
         """A port where nobody listens, which is given up after four seconds and not before."""
@@ -342,7 +396,7 @@ class Troubles:
         found = re.fullmatch(r'k1 active 0/2 working\nfinished 0 of 1\nstop Limit (\d+)\n', printed)
         exchanges = int(found[1]) if found else 0
         told = [f'no reply from 127.0.0.1:{port}: the connection was refused; trying again',
-                f'no key was answered in {exchanges} exchanges', 'gave up: nothing was learnt for 4 s']
+                f'no reply in {exchanges} exchanges', 'gave up: nothing new for 4 s']
         # 100 ms, and twice as long each time: five waits go into four seconds, and what is left of the last one. On a
         # busy machine they are fewer.
         self.look('a run that gives up', (status, 1), (said.splitlines(), told),
@@ -385,7 +439,7 @@ class Troubles:
                                      then=lambda: serving(listener, saying(TLS_ALERT)))
         lines = [line.replace(f'127.0.0.1:{port}', 'PEER') for line in said.splitlines()]
         self.look('a server with one trouble after another', (lines[:2], told), (status, 1),
-                  (lines[3:], ['gave up: nothing was learnt for 5 s']))
+                  (lines[3:], ['gave up: nothing new for 5 s']))
 
     def refused_keys(self):
         refused = 'Create refused {}, last reason 7 (Invalid Field)'
@@ -411,8 +465,8 @@ class Troubles:
                   'stop Limit 6', '--limit', '6', '--wait', '0', '--batch', '8')
         self.start(key('k1'), key('k2'), key('k3'))
         self.case('a run that ends on its way', self.serve(),
-                  ['k1: Locate was answered last: found none', 'k2: Locate was answered last: found none',
-                   'k3: nothing was asked'], 'stop Limit 2', '--limit', '2')
+                  ['k1: last reply to Locate: found none', 'k2: last reply to Locate: found none',
+                   'k3: not requested yet'], 'stop Limit 2', '--limit', '2')
         self.start()
         self.case('answers to what was not asked', peer_with(answering(stranger)), ['k1: Locate not answered 2 times'],
                   'stop Limit 2', '--limit', '2', '--wait', '0')
@@ -442,13 +496,13 @@ class Troubles:
                   ['T Locate k1: found none (T ms)', 'T Create k1: created as 1 (T ms)',
                    'T Activate k1: activated 1 (T ms)'], 'stop AllFinished 3', '--verbose', status=0, where=('--loopback',))
 
-    def at_terminal(self, term, *more, before=()):
+    def at_terminal(self, term, *more, before=(), words=None):
         """What a run, behind these words, writes to a terminal that is called so, as it comes."""
         environment = {name: value for name, value in os.environ.items() if name != 'TERM'}
         if term is not None:
             environment['TERM'] = term
         master, slave = pty.openpty()
-        running = subprocess.Popen([*before, *self.words(*more)], cwd=self.folder, stdin=subprocess.DEVNULL,
+        running = subprocess.Popen([*before, *(words or self.words(*more))], cwd=self.folder, stdin=subprocess.DEVNULL,
                                    stdout=subprocess.DEVNULL, stderr=slave, env=environment)
         os.close(slave)
         written = b''
@@ -480,6 +534,13 @@ class Troubles:
             self.start(key('k2'))
             self.look(f'a terminal that is called {term!r}', (self.at_terminal(term, where, ()), ''))
         self.start()
+        self.ended(where)
+        looked = '\r1 of 1 keys looked up, T s\x1b[K'
+        self.look('a look at a terminal', (self.at_terminal('xterm', where, (), words=[
+            self.program, 'look', '--plan', 'plan.toml', *where]), looked * 2 + '\r\n'))
+        self.look('a run that first looks, at a terminal',
+                  (self.at_terminal('xterm', where, ('--refresh',)), looked * 2 + '\r\n'))
+        self.start()
         wanted = ('\r0 of 1 keys, 0 exchanges, at most 5 more, T s\x1b[K'
                   '\r0 of 1 keys, 1 exchange, at most 5 more, T s\x1b[K'
                   '\r0 of 1 keys, 1 refused, 2 exchanges, T s\x1b[K\r\n'
@@ -492,7 +553,7 @@ class Troubles:
                   f'no reply from 127.0.0.1:{port}: the connection was refused; trying again\r\n'
                   '\r0 of 1 keys, 1 lost, 1 exchange, T s\x1b[K'
                   '\r0 of 1 keys, 2 lost, 2 exchanges, T s\x1b[K\r\n'
-                  'no key was answered in 2 exchanges\r\n')
+                  'no reply in 2 exchanges\r\n')
         where = ('--connect', f'127.0.0.1:{port}')
         self.look('the line of progress, of losses', (self.at_terminal('xterm', where, ('--limit', '2')), wanted))
         listener.close()
@@ -527,6 +588,7 @@ def main():
     try:
         troubles.without_reply()
         troubles.refused_connections()
+        troubles.still_silent()
         troubles.gives_up()
         troubles.answers_again()
         troubles.is_slow()

@@ -35,6 +35,7 @@ TRIALS = [
     ('turns', ['python3', 'bench/turns.py', PROGRAM], []),
     ('troubles', ['python3', 'bench/troubles.py', PROGRAM, 'out/troubles'], []),
     ('origin', ['python3', 'bench/origin.py', PROGRAM, 'out/origin'], []),
+    ('refreshed', ['python3', 'bench/refreshed.py', PROGRAM, 'out/refreshed', '70'], []),
     ('faults', ['python3', 'bench/plan_faults.py', PROGRAM, 'out/faults'], []),
     ('causes', ['python3', 'bench/causes.py', PROGRAM, 'out/causes'], []),
     ('reports', ['python3', 'bench/reports.py', PROGRAM, 'out/reports'], []),

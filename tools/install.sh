@@ -12,6 +12,7 @@
 #                                          the scripts by which shells complete command lines: the program prints them
 #     PREFIX/lib/systemd/system            the services and timers of examples/systemd, with the folder of PREFIX
 #     PREFIX/lib/sysusers.d/kmipctl.conf   the user that they run as
+#     PREFIX/lib/tmpfiles.d/kmipctl.conf   the folders that they write to
 #     PREFIX/share/doc/kmipctl             the documents and examples, and INSTALLED: a list of all these files
 #
 # DESTDIR goes before PREFIX, for whoever makes a package. An install over an older one takes that away first.
@@ -51,6 +52,7 @@ files() (
         echo "644 $top/$unit lib/systemd/system/${unit##*/}"
     done
     echo "644 $top/examples/systemd/sysusers.conf lib/sysusers.d/kmipctl.conf"
+    echo "644 $top/examples/systemd/tmpfiles.conf lib/tmpfiles.d/kmipctl.conf"
     for document in *.md docs/*.md docs/*.svg; do
         echo "644 $top/$document share/doc/kmipctl/$document"
     done

@@ -4,10 +4,11 @@
     tools/man_pages.py             writes docs/man (`make man`)
     tools/man_pages.py PROGRAM     compares what the sources say with the help that the program prints
 
-It runs at the top of the repository. The pages of section 1 come from the texts of kmip_command_line: help.rt,
-command_option.rt and subcommand.rt. The words of the shells are those of kmip_choices. kmip-plan(5) has what the help
-of `check` says of a plan, what OPERATING says of changes and of the progress file, and examples/plan.toml. `make
-documents` compares docs/man with these. In a text an indented line stays as it is, and the lines of a paragraph are filled. The last line of a
+It runs at the top of the repository. The page of a command has its help (kmip_command_line: help.rt,
+command_option.rt, subcommand.rt; the words of the shells are those of kmip_choices), its section of docs/COMMANDS.md,
+and the sections of ADDED. kmip-plan(5) has what the help of `check` says of a plan, what OPERATING says of changes and
+of the progress file, and examples/plan.toml. `make documents` compares docs/man with these. In a help text an indented
+line stays as it is, and the lines of a paragraph are filled. A table of a document keeps its head. The last line of a
 comparison is `N commands, M wrong`.
 """
 import pathlib
@@ -23,7 +24,15 @@ SOURCES = CRATES / 'kmip_command_line/src'
 FILES = 'help.rt', 'command_option.rt', 'subcommand.rt'
 SHELLS = CRATES / 'kmip_choices/src/shell.rt'
 PAGES = pathlib.Path('docs/man')
-OPERATING, EXAMPLE = pathlib.Path('docs/OPERATING.md'), pathlib.Path('examples/plan.toml')
+COMMANDS, OPERATING = pathlib.Path('docs/COMMANDS.md'), pathlib.Path('docs/OPERATING.md')
+AUTOMATION, EXAMPLE = pathlib.Path('docs/AUTOMATION.md'), pathlib.Path('examples/plan.toml')
+# Sections of other documents that the page of a command has too.
+ADDED = {
+    'run': [(OPERATING, 'What is printed'), (OPERATING, 'Trouble by symptom'), (OPERATING, 'Batches'), (AUTOMATION, 'Metrics')],
+    'probe': [(OPERATING, 'What is asked of a server')],
+}
+# The parts of a help text that are sections of the page.
+EXAMPLES, EXIT_STATUS, ENVIRONMENT = 'Examples:', 'Exit status:', 'Environment:'
 TEXT = re.compile(r'const (\w+): &str =\s*"((?:[^"\\]|\\.)*)";', re.S)
 OPTION = re.compile(r'const (\w+): CommandOption = CommandOption\(\s*"([\w-]+)",\s*(.+?),\s*'
                     r'(Fine|Wrong|WrongUnlessSaid\(Setting::\w+\)|Means\("[^"]*"\)),\s*(\w+),?\s*\);', re.S)
@@ -71,11 +80,11 @@ class Option:
         return said + (f'\n          \n          [default: {self.default}]' if self.default else '')
 
     def beside(self):
-        """What may and has to be beside it, in a sentence, where that is limited."""
-        others = ', '.join(f'`--{other}`' for other in self.others)
+        """Which options it needs or excludes, in a sentence; empty if it does neither."""
+        others = ' or '.join(f'`--{other}`' for other in self.others)
         if self.is_alone:
-            return 'No other option may be beside it.'
-        return f'{others} has to be beside it.' if self.needs_other else f'Not beside {others}.' if others else ''
+            return 'Not with another option.'
+        return f'Needs {others}.' if self.needs_other else f'Not with {others}.' if others else ''
 
 
 class Command:
@@ -183,14 +192,21 @@ def document_body(text):
             if kind == 'block':
                 out += ['.PP', *block(lines)]
             elif kind == 'table':
-                for line in lines[2:]:
-                    head, said = [cell.strip() for cell in line.strip('|').split(' | ')]
-                    out += ['.TP', escaped(plain(head)), *sentences(said)]
+                out += table(lines)
             elif kind == 'item':
                 for line in lines:
                     out += [r'.IP \(bu 2', *sentences(line[2:])]
             else:
                 out += ['.PP', *sentences(' '.join(lines))]
+    return out
+
+
+def table(lines):
+    """A table: its head in italics, and then its rows. The second column and those after it stand below the first."""
+    head, _, *rows = [[cell.strip() for cell in line[1:-1].split('|')] for line in lines]
+    out = ['.TP', *(rf'\fI{escaped(plain(cell).replace("`", ""))}\fR' for cell in head if cell)]
+    for first, *others in rows:
+        out += ['.TP', escaped(plain(first)), *(line for cell in others if cell for line in sentences(cell))]
     return out
 
 
@@ -205,6 +221,15 @@ def section(path, heading):
     if not found:
         raise SystemExit(f'{path} has no heading {heading}')
     return found[1]
+
+
+def details(called, added=()):
+    """What docs/COMMANDS.md says below `kmipctl` or `kmipctl COMMAND`, and these sections of documents, as parts of a page."""
+    first, *rest = re.split(r'^### (.*)\n', section(COMMANDS, called), flags=re.M)
+    if first.strip():
+        raise SystemExit(f'{COMMANDS}: below {called} is a text without a heading of its own')
+    found = [*zip(rest[::2], rest[1::2]), *((title, section(path, title)) for path, title in added)]
+    return [(title.upper(), document_body(text)) for title, text in found]
 
 
 def page(name, number, version, about, parts):
@@ -238,13 +263,19 @@ def option_lines(option):
     return ['.TP', typed(option.usage()), *said]
 
 
-def after_help(text, title):
-    """What the help of the program says at its end after a title, as `Exit status:`."""
+def titled(text, title):
+    """What a help text says after a title, as `Exit status:`."""
     for paragraph in text.split('\n\n'):
         if paragraph.startswith(title):
             said = paragraph[len(title) + 1:]
             return body(said[0].upper() + said[1:])
-    raise SystemExit(f'the help of the program has no paragraph {title}')
+    raise SystemExit(f'a help text has no paragraph {title} {text[:60]} ..')
+
+
+def untitled(text):
+    """The paragraphs of a help text that are not sections of their own."""
+    paragraphs = text.split('\n\n')
+    return body('\n\n'.join(part for part in paragraphs if not part.startswith((EXAMPLES, EXIT_STATUS, ENVIRONMENT))))
 
 
 def see_also(names):
@@ -256,11 +287,12 @@ def command_page(command, texts):
     words = {option.word for option in command.options}
     options = [line for option in command.options for line in option_lines(option)]
     parts = [('SYNOPSIS', [rf'\fBkmipctl {command.name}\fR {typed(command.usage())}']),
-             ('DESCRIPTION', body(command.text)),
-             ('OPTIONS', [*options, '.TP', r'\fB\-h\fR, \fB\-\-help\fR', escaped('Print help')])]
+             ('DESCRIPTION', untitled(command.text)),
+             ('OPTIONS', [*options, '.TP', r'\fB\-h\fR, \fB\-\-help\fR', escaped('Print help')]),
+             *details(f'kmipctl {command.name}', ADDED.get(command.name, ()))]
     if words & {'plan', 'progress', *SERVERS}:
-        parts.append(('ENVIRONMENT', after_help(texts.texts['AFTER_HELP'], 'Environment:')))
-    parts += [('EXIT STATUS', after_help(texts.texts['AFTER_HELP'], 'Exit status:')),
+        parts.append(('ENVIRONMENT', titled(texts.texts['AFTER_HELP'], ENVIRONMENT)))
+    parts += [('EXIT STATUS', titled(command.text, EXIT_STATUS)), ('EXAMPLES', titled(command.text, EXAMPLES)),
               ('SEE ALSO', see_also([('kmipctl', 1), ('kmip-plan', 5)]))]
     return page(f'kmipctl-{command.name}', 1, texts.version, small(command.about), parts)
 
@@ -268,22 +300,21 @@ def command_page(command, texts):
 def program_page(texts):
     """The page of the program."""
     about, after = texts.texts['ABOUT'], texts.texts['AFTER_HELP']
-    rest = '\n\n'.join(part for part in after.split('\n\n') if not part.startswith(('Environment:', 'Exit status:')))
     commands = [line for command in texts.commands
                 for line in ('.TP', rf'\fBkmipctl\-{command.name}\fR(1)', escaped(command.about) + '.')]
     parts = [('SYNOPSIS', [r'\fBkmipctl\fR [\fICOMMAND\fR [\fIOPTIONS\fR]]', '.br',
                            r'\fBkmipctl\fR {\fB\-\-help\fR | \fB\-\-version\fR}']),
-             ('DESCRIPTION', body(about + '\n\n' + rest)), ('COMMANDS', commands),
-             ('ENVIRONMENT', after_help(after, 'Environment:')), ('EXIT STATUS', after_help(after, 'Exit status:')),
+             ('DESCRIPTION', [*body(about), '.PP', *untitled(after)]), ('COMMANDS', commands), *details('kmipctl'),
+             ('ENVIRONMENT', titled(after, ENVIRONMENT)), ('EXIT STATUS', titled(after, EXIT_STATUS)),
              ('SEE ALSO', see_also([*((f'kmipctl-{command.name}', 1) for command in texts.commands), ('kmip-plan', 5)]))]
-    first = re.sub(r' \(.*?\)', '', about.split('.\n')[0])
-    return page('kmipctl', 1, texts.version, small(first), parts)
+    first = ' '.join(about.split(';')[0].split()).replace('kmipctl makes', 'make', 1)
+    return page('kmipctl', 1, texts.version, first, parts)
 
 
 def plan_page(texts):
     """The page of the plan and the progress file."""
     check = texts.texts['CHECK_LONG']
-    found = re.search(r'^A plan is TOML.*?(?=^The whole plan)', check, re.M | re.S)
+    found = re.search(r'^A plan is a TOML file.*?(?=^For each key)', check, re.M | re.S)
     if not found:
         raise SystemExit(f'{SOURCES}: the help of check does not say what a plan is')
     parts = [('DESCRIPTION', body(found[0].rstrip('\n'))),

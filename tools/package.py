@@ -54,12 +54,12 @@ Depends: libc6 (>= {libc}), libgcc-s1
 Suggests: stunnel4
 Section: admin
 Priority: optional
-Description: brings the keys of a plan to a key server, over KMIP 2.1
- kmipctl makes the symmetric keys of a plan on a key server, and brings each
- as far as the plan says. No key is ever made twice or destroyed too early,
- also where replies are lost: that is proved of the code.{proof}
+Description: makes sure that the symmetric keys in a plan exist on a KMIP 2.1 server
+ The server generates the key material, which kmipctl never sees. A plan says
+ how far each key goes. No key is created twice or destroyed too early, even
+ if replies are lost: that is proved of the code.{proof}
  .
- It speaks no TLS itself. A tunnel such as stunnel does.
+ It does not speak TLS itself. A tunnel such as stunnel does.
 '''
 
 
@@ -131,12 +131,13 @@ def judge(program):
         raise SystemExit(f'{program} says "{said}", and the sources are of version {version()}: run make first')
 
 
-def staged(program, folder, prefix):
-    """The empty folder with what is installed in it, and no list of it."""
+def staged(program, folder, prefix, has_list=True):
+    """The empty folder with what is installed in it, and the list of that, if it is to have one."""
     shutil.rmtree(folder, ignore_errors=True)
     words = ['tools/install.sh', 'install', program, prefix, str(folder)]
     subprocess.run(words, check=True, stdout=subprocess.DEVNULL)
-    (folder / prefix.strip('/') / LIST).unlink()
+    if not has_list:
+        (folder / prefix.strip('/') / LIST).unlink()
     return folder
 
 
@@ -193,7 +194,7 @@ def debian_documents(folder):
 
 def debian_folder(program, folder):
     """Fills the folder of the package: what is installed, MADE-OF, and what dpkg has to know."""
-    staged(program, folder, '/usr')
+    staged(program, folder, '/usr', has_list=False)  # dpkg has its own
     if shutil.which('strip'):
         subprocess.run(['strip', '--strip-unneeded', str(folder / 'usr/bin/kmipctl')], check=True)
     (folder / 'usr/share/doc/kmipctl/MADE-OF').write_text(made_of(program))

@@ -26,16 +26,17 @@ SIZES = {
     'SECURITY.md': (3_400, None),
     'docs/ARCHITECTURE.md': (13_100, None),
     'docs/AUTOMATION.md': (6_000, None),
+    'docs/COMMANDS.md': (24_000, None),
     'docs/DECISIONS.md': (16_000, None),
-    'docs/INSTALLING.md': (6_000, None),
+    'docs/INSTALLING.md': (6_500, None),
     'docs/MEASURED.md': (6_000, None),
-    'docs/MISTAKES.md': (10_000, None),
-    'docs/OPERATING.md': (18_500, None),
+    'docs/MISTAKES.md': (11_500, None),
+    'docs/OPERATING.md': (19_000, None),
     'docs/PROFILE.md': (12_000, None),
     'docs/PROOF-GUIDE.md': (18_000, None),
-    'docs/PROOF.md': (14_000, None),
+    'docs/PROOF.md': (15_000, None),
     'docs/SERVERS.md': (3_000, None),
-    'docs/TESTING.md': (9_100, None),
+    'docs/TESTING.md': (9_300, None),
 }
 
 # What is over the limits and is only reported, with the reason. Who rewrites a document takes its line away.

@@ -33,14 +33,19 @@ class Texts(unittest.TestCase):
         text = '\nSee [it](x.md#y). So *is* it.\n\n- one\n- two\n\n    $ a\n\n| h | k |\n|---|---|\n| `1` | One. Two |\n'
         self.assertEqual(man_pages.document_body(text), [
             '.PP', 'See it.', r'So \fBis\fR it.', r'.IP \(bu 2', 'one', r'.IP \(bu 2', 'two', '.PP', '.RS 4', '.nf',
-            '$ a', '.fi', '.RE', '.TP', r'\fB1\fR', 'One.', 'Two'])
+            '$ a', '.fi', '.RE', '.TP', r'\fIh\fR', r'\fIk\fR', '.TP', r'\fB1\fR', 'One.', 'Two'])
 
-    def test_what_stands_below_a_title(self):
-        help = 'First.\n\nEnvironment: here:\n  X  y\n\nExit status:\n  0  all is done'
-        self.assertEqual(man_pages.after_help(help, 'Environment:')[0], 'Here:')
-        self.assertEqual(man_pages.after_help(help, 'Exit status:'), ['.RS 4', '.nf', '0  all is done', '.fi', '.RE'])
+    def test_a_table_of_three_columns(self):
+        self.assertEqual(man_pages.table(['| `a` b | c | |', '|---|---|---|', '| 1 | | 3 |']), [
+            '.TP', r'\fIa b\fR', r'\fIc\fR', '.TP', '1', '3'])
+
+    def test_what_is_below_a_title(self):
+        help = 'First.\n\nEnvironment: here:\n  X  y\n\nExit status:\n  0  all is done\n\nLast.'
+        self.assertEqual(man_pages.titled(help, 'Environment:')[0], 'Here:')
+        self.assertEqual(man_pages.titled(help, 'Exit status:'), ['.RS 4', '.nf', '0  all is done', '.fi', '.RE'])
+        self.assertEqual(man_pages.untitled(help), ['First.', '.PP', 'Last.'])
         with self.assertRaises(SystemExit):
-            man_pages.after_help(help, 'Files:')
+            man_pages.titled(help, 'Files:')
 
 
 class Options(unittest.TestCase):
@@ -85,17 +90,18 @@ Options:
 
     def test_an_option(self):
         self.assertEqual(man_pages.option_lines(LINE), ['.TP', r'\fB\-\-limit\fR \fIN\fR', 'How many.', r'The default is \fB10\fR.'])
-        self.assertEqual(man_pages.option_lines(LOOPBACK)[2:], ['A new server.', r'\fB\-\-progress\fR has to be beside it.'])
-        self.assertEqual(Option('json', 'FlagUnless(&["trace", "diagram"])', 'Fine', '').beside(), 'Not beside `--trace`, `--diagram`.')
+        self.assertEqual(man_pages.option_lines(LOOPBACK)[2:], ['A new server.', r'Needs \fB\-\-progress\fR.'])
+        self.assertEqual(Option('json', 'FlagUnless(&["trace", "diagram"])', 'Fine', '').beside(), 'Not with `--trace` or `--diagram`.')
         self.assertEqual(man_pages.option_lines(SHELL), ['.TP', r'\fISHELL\fR', 'Which one.', 'One of a, b.'])
-        self.assertEqual(Option('schema', 'FlagAlone', 'Fine', '').beside(), 'No other option may be beside it.')
+        self.assertEqual(Option('schema', 'FlagAlone', 'Fine', '').beside(), 'Not with another option.')
 
 
 class Pages(Scratch):
     def setUp(self):
         super().setUp()
         sources = [man_pages.SOURCES / name for name in man_pages.FILES]
-        for path in [man_pages.OPERATING, man_pages.EXAMPLE, man_pages.SHELLS, *sources]:
+        documents = man_pages.COMMANDS, man_pages.OPERATING, man_pages.AUTOMATION
+        for path in [*documents, man_pages.EXAMPLE, man_pages.SHELLS, *sources]:
             (self.top / path).parent.mkdir(parents=True, exist_ok=True)
             shutil.copy(TOP / path, self.top / path)
 
@@ -110,6 +116,32 @@ class Pages(Scratch):
             'docs/man/kmipctl-gone.1', 'docs/man/kmipctl-run.1', 'docs/man/kmipctl.1']))
         man_pages.write_pages()
         self.assertEqual(printed(man_pages.check_man_pages), (0, []))
+
+    def test_the_details_of_each_command(self):
+        for command in man_pages.Texts().commands:
+            titles = [title for title, _ in man_pages.details(f'kmipctl {command.name}', man_pages.ADDED.get(command.name, ()))]
+            self.assertTrue(titles, command.name)
+            self.assertEqual(len(titles), len(set(titles)), command.name)
+        self.assertEqual([title for title, _ in man_pages.details('kmipctl')], ['OUTPUT', 'INPUT'])
+
+    def test_details_that_cannot_be_read(self):
+        for text in '## kmipctl\n', '## kmipctl run\n\nA text.\n\n### Output\n\nMore.\n':
+            self.write({'docs/COMMANDS.md': text})
+            with self.assertRaises(SystemExit):
+                man_pages.details('kmipctl run')
+
+    def test_each_command_says_its_exit_statuses(self):
+        for command in man_pages.Texts().commands:
+            for title in man_pages.EXAMPLES, man_pages.EXIT_STATUS:
+                self.assertTrue(man_pages.titled(command.text, title), command.name)
+
+    def test_each_line_of_a_help_fits(self):
+        texts = man_pages.Texts()
+        lines = [line for command in texts.commands for line in command.help('kmipctl').split('\n')]
+        lines += (texts.texts['ABOUT'] + '\n' + texts.texts['AFTER_HELP']).split('\n')
+        self.assertEqual([line for line in lines if len(line) > 80 and not line.startswith('Usage: ')], [])
+        # Programs that read a help take such a line for an option.
+        self.assertEqual([command.name for command in texts.commands if '\n      --' in command.text], [])
 
     def test_each_option_of_the_sources_is_read(self):
         source = (self.top / man_pages.SOURCES / 'command_option.rt').read_text()

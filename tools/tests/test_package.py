@@ -56,7 +56,7 @@ class Packages(Scratch):
 
     def test_the_description_of_a_package(self):
         parts = dict(version='1', architecture='amd64', size=1, maintainer='a', libc='2')
-        self.assertIn('is proved of the code.\n .\n It speaks', package.CONTROL.format(proof='', **parts))
+        self.assertIn('is proved of the code.\n .\n It does', package.CONTROL.format(proof='', **parts))
 
     def test_a_source_without_a_version(self):
         self.write({str(package.SOURCE): '\n', 'README.md': '\n'})

@@ -1,44 +1,39 @@
-//! What `run` tells on standard error: how far it is, what goes wrong, and what was left undone.
+//! What `run` reports on standard error: how far it is, what goes wrong, and what was left undone.
 
 use crate::answers::push_answer_about;
 use crate::exchange::{Exchange, name_of};
+use crate::exchange_log::ExchangeLog;
 use crate::findings::Findings;
-use crate::progress_line::ProgressLine;
-use crate::reach::Reach;
-use crate::silence::Silence;
 use crate::story::Story;
 use crate::untaken::Untaken;
-use crate::wire::Wire;
-use kmip_batch_items::Request;
-use kmip_choices::{Peer, RunOptions};
+use kmip_batch_items::standard::REASON_ITEM_NOT_FOUND;
+use kmip_batch_items::{Ask, Outcome, Request};
+use kmip_choices::RunOptions;
 use kmip_client::Client;
-use kmip_plan::{Key, Plan};
-use kmip_plan_commands::{RunTally, Spent, begin};
+use kmip_plan::{Key, Plan, place_of};
+use kmip_plan_commands::{RunTally, begin, progress_line};
 use kmip_protocol::LinkFault;
 use kmip_trace::{operation_word, push_answer};
-use kmip_ttlv::{NoMemory, plain_text};
+use kmip_ttlv::NoMemory;
 use std::alloc::Global;
 use std::cell::Cell;
 use std::str::from_utf8;
-use std::time::{Duration, Instant};
+use std::time::Instant;
 
 /// Of how many keys that are not finished it is told why (own).
 const MOST_TOLD: usize = 20;
 
-/// What is told of a run.
+/// What `run` reports.
 #[derive(Drop)]
 pub struct Account<'a> {
     rt: &'a HostRuntime,
     options: &'a RunOptions,
     plan: &'a Plan,
-    /// The server, as it is told.
-    peer: String,
-    wire: Wire,
-    standing: ProgressLine<'a>,
-    /// When the run and the exchange began, by the clock.
-    began: Option<Instant>,
-    exchange_began: Cell<Option<Instant>>,
-    spent: Cell<Spent>,
+    log: ExchangeLog<'a>,
+    /// How many exchanges were made before the run itself, to look at what its progress knows.
+    before: Cell<usize>,
+    /// Whether an answer was against what the progress says.
+    is_against: Cell<bool>,
     untaken: Untaken,
 }
 
@@ -46,34 +41,31 @@ impl<'a> Account<'a> {
     /// Of a run of this plan that begins now.
     ///
     /// # Errors
-    /// Where there is no memory.
+    /// If memory runs out.
     pub fn new(
         rt: &'a HostRuntime,
         options: &'a RunOptions,
         plan: &'a Plan,
     ) -> Result<Self, NoMemory> {
-        let peer = peer_text(rt.alloc(), &options.peer)?;
-        let now = Instant::now(rt).ok();
+        let log = ExchangeLog::new(
+            rt,
+            &options.peer,
+            options.timeout,
+            options.give_up,
+            options.is_verbose,
+        )?;
         Ok(Account {
             rt,
             options,
             plan,
-            peer,
-            wire: Wire::new(),
-            standing: ProgressLine::new(rt, options.is_verbose),
-            began: now,
-            exchange_began: Cell::new(now),
-            spent: Cell::new(Spent {
-                exchanges: 0,
-                lost: 0,
-                refused: 0,
-                seconds: 0,
-            }),
+            log,
+            before: Cell::new(0),
+            is_against: Cell::new(false),
             untaken: Untaken::new(rt.alloc()),
         })
     }
 
-    /// What it is told to.
+    /// The runtime whose standard error it writes to.
     pub fn rt(&self) -> &'a HostRuntime {
         self.rt
     }
@@ -83,51 +75,109 @@ impl<'a> Account<'a> {
         self.plan
     }
 
-    /// What is noted of the streams of an exchange.
-    pub fn wire(&self) -> &Wire {
-        &self.wire
+    /// What it reports of its exchanges.
+    pub fn log(&self) -> &ExchangeLog<'a> {
+        &self.log
     }
 
-    /// Shows how far the run is at its start, by the text of the progress that it begins with, where it
-    /// is to make an exchange.
+    /// Shows how far the run is at its start, by the text of the progress that it begins with, if it may make an
+    /// exchange.
     pub fn show_start(&self, saved: Option<&str>) {
-        if !self.standing.is_shown() || self.options.limit == 0 {
+        if !self.log.is_shown() || self.options.limit == 0 {
             return;
         }
         if let Ok(client) = begin(self.rt.alloc(), self.plan, saved) {
             if client.working() > 0 {
-                self.standing.show(&client, self.spent.get());
+                self.show(&client);
             }
         }
     }
 
-    /// An exchange begins.
-    pub(crate) fn begin_exchange(&self) {
-        self.wire.begin();
-        self.exchange_began.set(Instant::now(self.rt).ok());
+    /// The run itself begins, after it looked at what its progress knows.
+    pub fn begin_run(&self) {
+        self.before.set(self.log.spent().exchanges);
+        self.log.end_line();
+        self.log.note_news();
+        self.log.begin_exchange();
     }
 
-    /// An exchange was made: the bytes that were sent, and what came of it. What there is no memory for
-    /// is not told.
-    pub(crate) fn exchanged(
-        &self,
-        request: &[u8],
-        answered: Result<Option<&[u8]>, LinkFault>,
-        reach: &mut Reach,
-    ) {
+    /// An exchange was made: the bytes that were sent, and what came of it. What there is no memory for is not
+    /// reported.
+    pub(crate) fn exchanged(&self, request: &[u8], answered: Result<Option<&[u8]>, LinkFault>) {
         let now = Instant::now(self.rt).ok();
         let alloc = self.rt.alloc();
-        match Exchange::of(alloc, request, answered, &self.wire) {
+        match Exchange::of(alloc, request, answered, self.log.wire()) {
             Ok(exchange) => {
-                self.spend(&exchange);
-                let _ = self.tell_reach(reach, exchange.silence, now);
-                if self.options.is_verbose {
-                    let _ = self.tell_exchange(&exchange, now);
-                    self.tell_strangers(&exchange, answered.unwrap_or(None));
+                self.log.note(&exchange, self.is_last());
+                if self.log.is_verbose() {
+                    let _ = self.report_exchange(&exchange, now);
+                    self.report_strangers(&exchange, answered.unwrap_or(None));
                 }
+                let _ = self.report_missing(&exchange);
                 self.untaken.put(alloc, exchange);
             }
             Err(NoMemory) => self.untaken.fall_short(),
+        }
+    }
+
+    /// Reports the first object that the progress has and the server does not, if an exchange shows one.
+    fn report_missing(&self, exchange: &Exchange) -> Result<(), NoMemory> {
+        for request in &exchange.requests {
+            if is_missing(request, exchange.answer(request)) {
+                return self.report_against(request, "does not have the object that");
+            }
+        }
+        Ok(())
+    }
+
+    /// Reports the first object that has not come as far as is known, if an exchange shows one.
+    fn report_behind(
+        &self,
+        exchange: &Exchange,
+        client: &Client<'_>,
+        findings: &Findings,
+    ) -> Result<(), NoMemory> {
+        for request in &exchange.requests {
+            let Some(Outcome::Attributes(_, attrs)) = exchange.answer(request) else {
+                continue;
+            };
+            let (Some(place), Some(state)) = (findings.place(request), attrs.state) else {
+                continue;
+            };
+            if is_behind(client, place, state) {
+                return self.report_against(request, "has an earlier state of the object than");
+            }
+        }
+        Ok(())
+    }
+
+    /// Reports once that the server is not as the progress says, by its answer to a request.
+    fn report_against(&self, request: &Request, how: &str) -> Result<(), NoMemory> {
+        if self.is_against.replace(true) {
+            return Ok(());
+        }
+        let (path, peer) = (&self.options.progress, self.log.peer());
+        let name = from_utf8(name_of(request)).unwrap_or("");
+        let line = format!(in self.rt.alloc();
+            "{name}: {peer} {how} {path} has; --refresh checks the file"
+        )?;
+        self.log.report(line.as_str());
+        Ok(())
+    }
+
+    /// Whether the exchange that was made is the last one that the run may make.
+    fn is_last(&self) -> bool {
+        let made = self.log.spent().exchanges.saturating_sub(self.before.get());
+        (made as u64).saturating_add(1) >= self.options.limit
+    }
+
+    /// Shows how far the run is.
+    fn show(&self, client: &Client<'_>) {
+        if !self.log.is_shown() {
+            return;
+        }
+        if let Ok(line) = progress_line(self.rt.alloc(), client, self.log.spent()) {
+            self.log.show(line.as_str());
         }
     }
 
@@ -136,7 +186,10 @@ impl<'a> Account<'a> {
         let alloc = self.rt.alloc();
         let exchanges = self.untaken.take(alloc);
         findings.learn(alloc, exchanges.as_slice(), client);
-        self.standing.show(client, self.spent.get());
+        for exchange in &exchanges {
+            let _ = self.report_behind(exchange, client, findings);
+        }
+        self.show(client);
     }
 
     /// The findings take in the exchanges that no `know` followed. A run ends so if memory runs out in
@@ -150,86 +203,26 @@ impl<'a> Account<'a> {
     /// What is counted of the run, by what was known after its last exchange.
     ///
     /// # Errors
-    /// Where there is no memory, or there was none for an exchange.
+    /// If memory runs out, or did so for an exchange.
     pub fn tally(&self, findings: &Findings) -> Result<RunTally, NoMemory> {
         if self.untaken.is_short() {
             return Err(NoMemory);
         }
-        let milliseconds = millis_of(since(self.began, Instant::now(self.rt).ok()));
+        let milliseconds = self.log.milliseconds();
         let (alloc, keys) = (self.rt.alloc(), self.plan.keys());
-        findings.tally(alloc, keys, self.spent.get(), milliseconds)
+        findings.tally(alloc, keys, self.log.spent(), milliseconds)
     }
 
-    /// Ends the line that says how far the run is, where there is one.
+    /// Ends the line that shows how far the run is, if there is one.
     pub fn end_line(&self) {
-        self.standing.end();
+        self.log.end_line();
     }
 
-    /// Tells a line of its own.
-    fn tell(&self, line: &str) {
-        self.standing.end();
-        let _ = self.rt.eprintln(line);
-    }
-
-    /// Counts an exchange.
-    fn spend(&self, exchange: &Exchange) {
-        let spent = self.spent.get();
-        let lost = if exchange.silence.is_some() { 1 } else { 0 };
-        self.spent.set(Spent {
-            exchanges: spent.exchanges.saturating_add(1),
-            lost: spent.lost.saturating_add(lost),
-            refused: spent.refused.saturating_add(exchange.refusals()),
-            seconds: since(self.began, Instant::now(self.rt).ok()).as_secs(),
-        });
-    }
-
-    /// Tells where the server begins or ceases to answer, and where it does not for another reason than
-    /// before.
-    fn tell_reach(
-        &self,
-        reach: &mut Reach,
-        silence: Option<Silence>,
-        now: Option<Instant>,
-    ) -> Result<(), NoMemory> {
-        match silence {
-            Some(Silence::NoMemory) => Ok(()), // the run ends
-            None => match reach.answer() {
-                Some(then) => self.tell_answers(since(then, now)),
-                None => Ok(()),
-            },
-            Some(silence) => {
-                let reason = silence.text(self.rt.alloc(), self.options.timeout)?;
-                let line = self.silence_line(reason.as_str())?;
-                if reach.lose(reason, now) {
-                    self.tell(line.as_str());
-                }
-                Ok(())
-            }
-        }
-    }
-
-    /// Tells that the server answers again after so long.
-    fn tell_answers(&self, silent: Duration) -> Result<(), NoMemory> {
-        let (peer, seconds) = (&self.peer, silent.as_secs());
-        let line = format!(in self.rt.alloc(); "{peer} answers again after {seconds} s")?;
-        self.tell(line.as_str());
-        Ok(())
-    }
-
-    /// The line that says why no reply came.
-    fn silence_line(&self, reason: &str) -> Result<String, NoMemory> {
-        let peer = &self.peer;
-        let is_last = self.spent.get().exchanges as u64 >= self.options.limit;
-        let again = if is_last { "" } else { "; trying again" };
-        let line = format!(in self.rt.alloc(); "no reply from {peer}: {reason}{again}")?;
-        Ok(line)
-    }
-
-    /// Tells an exchange: a line for each key that was asked about.
-    fn tell_exchange(&self, exchange: &Exchange, now: Option<Instant>) -> Result<(), NoMemory> {
+    /// Reports an exchange: a line for each key that was asked about.
+    fn report_exchange(&self, exchange: &Exchange, now: Option<Instant>) -> Result<(), NoMemory> {
         for request in &exchange.requests {
             let line = self.exchange_line(exchange, request, now)?;
-            self.tell(line.as_str());
+            self.log.report(line.as_str());
         }
         Ok(())
     }
@@ -242,40 +235,28 @@ impl<'a> Account<'a> {
         now: Option<Instant>,
     ) -> Result<String, NoMemory> {
         let alloc = self.rt.alloc();
-        let at = since(self.began, now);
-        let (seconds, millis) = (at.as_secs(), at.subsec_millis());
-        let mut line = format!(in alloc; "{seconds}.{millis:03} ")?;
+        let mut line = self.log.time_text(now)?;
         push_request(request, &mut line)?;
         line.push_str(": ")?;
         match (exchange.answer(request), exchange.silence) {
             (Some(outcome), _) => push_answer_about(alloc, name_of(request), outcome, &mut line)?,
-            (None, Some(silence)) => self.push_silence(silence, &mut line)?,
+            (None, Some(silence)) => {
+                line.push_str(silence.told(alloc, self.log.timeout())?.as_str())?;
+            }
             (None, None) => line.push_str("no answer in the reply")?,
         }
-        let took = millis_of(since(self.exchange_began.get(), now));
-        let took = format!(in alloc; " ({took} ms)")?;
-        line.push_str(took.as_str())?;
+        line.push_str(self.log.took_text(now)?.as_str())?;
         Ok(line)
     }
 
-    /// Appends why no reply came that can be read.
-    fn push_silence(&self, silence: Silence, line: &mut String) -> Result<(), NoMemory> {
-        let reason = silence.text(self.rt.alloc(), self.options.timeout)?;
-        if !matches!(silence, Silence::Unreadable(_, _)) {
-            line.push_str("no reply, ")?;
-        }
-        line.push_str(reason.as_str())?;
-        Ok(())
-    }
-
-    /// Tells a reply to what was not asked.
-    fn tell_strangers(&self, exchange: &Exchange, reply: Option<&[u8]>) {
+    /// Reports a reply to what was not asked.
+    fn report_strangers(&self, exchange: &Exchange, reply: Option<&[u8]>) {
         if !exchange.has_stranger() {
             return;
         }
         let mut line = Vec::new(self.rt.alloc());
         if push_stranger(self.rt.alloc(), reply, &mut line).is_ok() {
-            self.tell(from_utf8(line.as_slice()).unwrap_or(""));
+            self.log.report(from_utf8(line.as_slice()).unwrap_or(""));
         }
     }
 
@@ -285,20 +266,26 @@ impl<'a> Account<'a> {
     /// # Errors
     /// Where there is no memory.
     pub fn tell_unfinished(&self, findings: &Findings) -> Result<(), NoMemory> {
-        let spent = self.spent.get();
+        let spent = self.log.spent();
         let exchanges = spent.exchanges;
-        if exchanges == 0 {
+        if exchanges <= self.before.get() {
             return Ok(());
         }
         if spent.lost >= exchanges {
             let ending = if exchanges == 1 { "" } else { "s" };
-            let line = format!(in self.rt.alloc();
-                "no key was answered in {exchanges} exchange{ending}"
-            )?;
-            self.tell(line.as_str());
+            let line = format!(in self.rt.alloc(); "no reply in {exchanges} exchange{ending}")?;
+            self.log.report(line.as_str());
             return Ok(());
         }
-        self.tell_stories(findings.stories())
+        self.tell_stories(findings.stories())?;
+        if self.is_against.get() {
+            let (path, peer) = (&self.options.progress, self.log.peer());
+            let line = format!(in self.rt.alloc();
+                "{peer} is not as {path} says: check the address, and run with --refresh"
+            )?;
+            self.log.report(line.as_str());
+        }
+        Ok(())
     }
 
     /// Tells why the keys of these stories are not finished.
@@ -315,7 +302,7 @@ impl<'a> Account<'a> {
         if count > MOST_TOLD {
             let others = count - MOST_TOLD;
             let line = format!(in self.rt.alloc(); "and {others} more")?;
-            self.tell(line.as_str());
+            self.log.report(line.as_str());
         }
         Ok(())
     }
@@ -326,45 +313,40 @@ impl<'a> Account<'a> {
         let mut line = String::from_str(alloc, key.attrs.name.as_str())?;
         line.push_str(": ")?;
         story.push_why(alloc, key, &mut line)?;
-        self.tell(line.as_str());
+        self.log.report(line.as_str());
         Ok(())
     }
 
     /// Tells that the run was given up.
     pub fn tell_given_up(&self) {
         let seconds = self.options.give_up;
-        let _ = self.rt.eprintln(format_args!("gave up: nothing was learnt for {seconds} s"));
+        let _ = self
+            .rt
+            .eprintln(format_args!("gave up: nothing new for {seconds} s"));
     }
 }
 
-/// The server, as it is told.
-fn peer_text(alloc: Global, peer: &Peer) -> Result<String, NoMemory> {
-    match peer {
-        Peer::Tcp(address) => {
-            let text = format!(in alloc; "{address}")?;
-            Ok(text)
-        }
-        Peer::Unix(path) => plain_text(alloc, path.as_str()),
-        Peer::Loopback => {
-            let text = String::from_str(alloc, "the server in this process")?;
-            Ok(text)
-        }
+/// Whether the key at a place is in the state of this number, which is reached after fewer steps than are known
+/// to be done.
+fn is_behind(client: &Client<'_>, place: usize, state: u32) -> bool {
+    let count = client.plan().count();
+    if place >= count {
+        return false;
     }
+    let done = client.done(place);
+    let key = &client.plan().keys()[place];
+    matches!(place_of(key, state), Some(steps) if steps < done)
 }
 
-/// How long it is from one time to another, where both are known.
-fn since(then: Option<Instant>, now: Option<Instant>) -> Duration {
-    match (then, now) {
-        (Some(then), Some(now)) => now.saturating_duration_since(then),
-        (None, _) | (_, None) => Duration::ZERO,
-    }
-}
-
-/// So long, in whole milliseconds.
-fn millis_of(time: Duration) -> u64 {
-    time.as_secs()
-        .saturating_mul(1000)
-        .saturating_add(u64::from(time.subsec_millis()))
+/// Whether this answer to a request says that the server does not have the object.
+fn is_missing(request: &Request, answer: Option<&Outcome>) -> bool {
+    matches!(
+        (&request.ask, answer),
+        (
+            Ask::GetAttributes(_),
+            Some(Outcome::Failed(Some(REASON_ITEM_NOT_FOUND)))
+        )
+    )
 }
 
 /// Appends the operation that a request asks, and the key that it is about.

@@ -156,7 +156,18 @@ fn push_length(alloc: Global, length: i32, text: &mut String) -> Result<(), NoMe
     Ok(())
 }
 
-/// Appends the words of a usage mask, and the mask in hexadecimal where it has other bits.
+/// The words of a usage mask, as `encrypt decrypt`, and the mask in hexadecimal if it has other bits.
+///
+/// # Errors
+/// If memory runs out.
+pub fn usage_words(alloc: Global, usage: i32) -> Result<String, NoMemory> {
+    let mut words = String::new(alloc);
+    push_usage(alloc, usage, &mut words)?;
+    let words = String::from_str(alloc, words.as_str().trim_start())?;
+    Ok(words)
+}
+
+/// Appends the words of a usage mask, each after a space, and the mask in hexadecimal if it has other bits.
 fn push_usage(alloc: Global, usage: i32, text: &mut String) -> Result<(), NoMemory> {
     for (bit, word) in &USAGES {
         if usage & *bit != 0 {

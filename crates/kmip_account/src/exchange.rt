@@ -79,6 +79,14 @@ impl Exchange {
             .count()
     }
 
+    /// How many searches by name it answered.
+    pub(crate) fn found_names(&self) -> usize {
+        self.replies
+            .iter()
+            .filter(|reply| matches!(reply.outcome, Outcome::Located(_)))
+            .count()
+    }
+
     /// Whether a message came that is no reply.
     pub(crate) fn is_unreadable(&self) -> bool {
         matches!(self.silence, Some(Silence::Unreadable(_, _)))

@@ -1,35 +1,40 @@
-//! An exchange in a line: what was asked about which object, and what came back.
+//! An exchange in a line: what was asked about which object, and the reply.
 
 use crate::reasons::push_with_reasons;
 use kmip_batch_items::{Ask, Request};
 use kmip_messages::read_reply;
-use kmip_protocol::LinkFault;
 use kmip_trace::{push_answer, push_requests, requests_in};
 use kmip_ttlv::{Bytes, NoMemory, Text, plain_text};
 use std::alloc::Global;
 use std::str::from_utf8;
 
-/// Tells an exchange on standard error, in a line; nothing where there is no memory for it.
-pub fn tell_exchange(rt: &HostRuntime, request: &[u8], answered: Result<Option<&[u8]>, LinkFault>) {
-    if let Ok(line) = exchange_line(rt.alloc(), request, answered) {
+/// Prints an exchange on standard error, in a line; nothing if memory runs out.
+pub fn tell_exchange(rt: &HostRuntime, request: &[u8], reply: &[u8]) {
+    if let Ok(line) = exchange_line(rt.alloc(), request, Some(reply), None) {
         let _ = rt.eprintln(&line);
     }
 }
 
-/// The line of an exchange.
+/// The line of an exchange: the reply in words, or why there is none.
 ///
 /// # Errors
-/// Where there is no memory for it.
-fn exchange_line(
+/// If memory runs out.
+pub(crate) fn exchange_line(
     alloc: Global,
     request: &[u8],
-    answered: Result<Option<&[u8]>, LinkFault>,
+    reply: Option<&[u8]>,
+    why: Option<&str>,
 ) -> Result<String, NoMemory> {
     let mut words = Vec::new(alloc);
     push_asked(alloc, request, &mut words)?;
     words.extend_from_slice(b": ")?;
-    push_answer(alloc, request, answered.unwrap_or(None), &mut words)?;
-    push_why(alloc, answered, &mut words)?;
+    match why {
+        Some(why) => words.extend_from_slice(why.as_bytes())?,
+        None => {
+            push_answer(alloc, request, reply, &mut words)?;
+            push_fault(alloc, reply, &mut words)?;
+        }
+    }
     let mut line = String::new(alloc);
     let words = from_utf8(words.as_slice()).unwrap_or("");
     push_with_reasons(alloc, words, &mut line)?;
@@ -69,22 +74,18 @@ fn subject_of(ask: &Ask) -> Option<&Text> {
     }
 }
 
-/// Appends why nothing came, or why what came is no reply, in brackets; nothing where a reply came, and
-/// where the connection ended first.
-fn push_why(
-    alloc: Global,
-    answered: Result<Option<&[u8]>, LinkFault>,
-    line: &mut Vec<u8>,
-) -> Result<(), NoMemory> {
-    let why = match answered {
-        Ok(None) => return Ok(()),
-        Ok(Some(reply)) => match read_reply(alloc, reply).err() {
-            None => return Ok(()),
-            Some(fault) if fault.is_no_memory() => return Err(NoMemory),
-            Some(fault) => format!(in alloc; " ({fault})")?,
-        },
-        Err(fault) => format!(in alloc; " ({fault})")?,
+/// Appends why the bytes are not a reply, in brackets; nothing if they are one.
+fn push_fault(alloc: Global, reply: Option<&[u8]>, line: &mut Vec<u8>) -> Result<(), NoMemory> {
+    let Some(reply) = reply else {
+        return Ok(());
     };
-    line.extend_from_slice(why.as_bytes())?;
-    Ok(())
+    match read_reply(alloc, reply).err() {
+        None => Ok(()),
+        Some(fault) if fault.is_no_memory() => Err(NoMemory),
+        Some(fault) => {
+            let why = format!(in alloc; " ({fault})")?;
+            line.extend_from_slice(why.as_bytes())?;
+            Ok(())
+        }
+    }
 }

@@ -9,7 +9,8 @@ use crate::taught::Taught;
 use kmip_batch_items::Request;
 use kmip_client::Client;
 use kmip_plan::{Key, Plan};
-use kmip_plan_commands::{RunTally, Spent};
+use kmip_plan_commands::{RunTally, Spent, begin};
+use kmip_progress::ProgressFault;
 use kmip_tally::Standing;
 use kmip_ttlv::NoMemory;
 use std::alloc::Global;
@@ -32,7 +33,7 @@ impl Findings {
     /// Where there is no memory.
     pub fn new(alloc: Global, plan: &Plan, saved: Option<&str>) -> Result<Self, NoMemory> {
         let places = Places::of(alloc, plan.keys())?;
-        let stories = stories_of(alloc, plan.count())?;
+        let stories = stories_of(alloc, plan, saved)?;
         let score = Score::new(alloc, plan, saved)?;
         Ok(Findings {
             places,
@@ -46,6 +47,11 @@ impl Findings {
     /// refused.
     pub fn standing(&self) -> Option<Standing> {
         self.score.standing()
+    }
+
+    /// The place of the key that a request is about, from 0; none if it is about no key of the plan.
+    pub(crate) fn place(&self, request: &Request) -> Option<usize> {
+        self.places.place(request)
     }
 
     /// What was heard of each key, in the order of the plan.
@@ -137,13 +143,26 @@ impl Findings {
     }
 }
 
-/// So many stories of which nothing was heard.
-fn stories_of(alloc: Global, count: usize) -> Result<Vec<Story>, NoMemory> {
+/// The stories of the keys of a plan at the start of a run, which begins with the text of this progress. If the
+/// progress is refused, nothing is known of any key.
+fn stories_of(alloc: Global, plan: &Plan, saved: Option<&str>) -> Result<Vec<Story>, NoMemory> {
+    let count = plan.count();
     let mut stories = Vec::with_capacity(alloc, count)?;
     for _ in 0..count {
         stories.push(Story::new(alloc))?;
     }
-    Ok(stories)
+    match begin(alloc, plan, saved) {
+        Ok(client) => {
+            for (place, story) in stories.iter_mut().enumerate() {
+                if let Some(stage) = Stage::of(&client, place) {
+                    story.reach(stage);
+                }
+            }
+            Ok(stories)
+        }
+        Err(ProgressFault::NoMemory) => Err(NoMemory),
+        Err(_) => Ok(stories),
+    }
 }
 
 /// Notes what was heard of the key that a request is about.

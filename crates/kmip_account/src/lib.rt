@@ -1,11 +1,11 @@
-//! What `run`, `probe` and `serve` tell on standard error while they work.
+//! What `run`, `look`, `probe` and `serve` report on standard error while they work.
 //!
-//! `Account` tells of a run: how far it is, why the server does not answer, and what was heard of each
-//! key that is not finished. `Teller` hands it the exchanges. `Watch` takes them on to `Findings`, with
-//! what is known after each. `Wire` notes what comes over the streams of an exchange, and a `Noted` stream
-//! is its own otherwise. `tell_exchange` is for `probe` and `serve`. An account also counts: its tally is
-//! a `RunTally`, and `Metrics` is that as a text. Which steps the run took, and how the keys stand, is
-//! found out by kmip_tally.
+//! `ExchangeLog` reports the exchanges with a server: why no reply comes, when the server replies again, and
+//! each exchange with `--verbose`. `Wire` notes what comes over the streams of an exchange, and a `Noted`
+//! stream is its own otherwise. `Account` is that of a run: how far it is, and what was heard of each key
+//! that is not finished. `Teller` hands it the exchanges. `Watch` takes them on to `Findings`, with what is
+//! known after each. An account also counts: its tally is a `RunTally`, and `Metrics` is that as a text.
+//! Which steps the run took, and the status of the keys, is found out by kmip_tally.
 //!
 //! All is safe and total. None of it has a clause, as std tells a contract nothing of standard error and
 //! of cells. `make troubles`, `make peers` and the stored runs want the lines. test_account wants the
@@ -17,8 +17,14 @@ mod answers;
 mod counts;
 mod exchange;
 mod exchange_line;
+mod exchange_log;
 mod failure;
 mod findings;
+mod last_times;
+mod look_counts;
+mod look_metrics;
+mod look_times;
+mod metric;
 mod metrics;
 mod noted;
 mod peer_talk;
@@ -26,9 +32,11 @@ mod places;
 mod progress_line;
 mod reach;
 mod reasons;
+mod sample_text;
 mod score;
 mod setback;
 mod silence;
+mod spell;
 mod stage;
 mod story;
 mod taught;
@@ -38,10 +46,15 @@ mod watch;
 mod wire;
 
 pub use account::Account;
+pub use answers::usage_words;
 pub use exchange_line::tell_exchange;
+pub use exchange_log::ExchangeLog;
 pub use findings::Findings;
+pub use last_times::LastTimes;
+pub use look_counts::LookCounts;
+pub use look_metrics::LookMetrics;
+pub use look_times::LookTimes;
 pub use metrics::Metrics;
 pub use noted::Noted;
 pub use teller::Teller;
 pub use watch::Watch;
-pub use wire::Wire;

@@ -7,12 +7,12 @@ use std::io::{self, Read, Write};
 #[derive(Drop)]
 pub struct Noted<'a, S> {
     stream: S,
-    wire: Option<&'a Wire>,
+    wire: &'a Wire,
 }
 
 impl<'a, S> Noted<'a, S> {
-    /// This stream, noted there, if it is to be.
-    pub fn new(stream: S, wire: Option<&'a Wire>) -> Self {
+    /// This stream, of which is noted there.
+    pub fn new(stream: S, wire: &'a Wire) -> Self {
         Noted { stream, wire }
     }
 
@@ -25,11 +25,9 @@ impl<'a, S> Noted<'a, S> {
 impl<'a, S: Read> Read for Noted<'a, S> {
     fn read(&mut self, buf: &mut [u8]) -> io::Result<usize> {
         let done = self.stream.read(buf);
-        if let Some(wire) = self.wire {
-            match &done {
-                Ok(count) => wire.note_bytes(buf.get(..*count).unwrap_or(&[])),
-                Err(error) => wire.note_failure(error),
-            }
+        match &done {
+            Ok(count) => self.wire.note_bytes(buf.get(..*count).unwrap_or(&[])),
+            Err(error) => self.wire.note_failure(error),
         }
         done
     }
@@ -38,8 +36,8 @@ impl<'a, S: Read> Read for Noted<'a, S> {
 impl<'a, S: Write> Write for Noted<'a, S> {
     fn write(&mut self, buf: &[u8]) -> io::Result<usize> {
         let done = self.stream.write(buf);
-        if let (Some(wire), Err(error)) = (self.wire, &done) {
-            wire.note_failure(error);
+        if let Err(error) = &done {
+            self.wire.note_failure(error);
         }
         done
     }

@@ -1,7 +1,5 @@
-//! How far `run` is, shown while it works.
+//! How far a command is, shown while it works.
 
-use kmip_client::Client;
-use kmip_plan_commands::{Spent, progress_line};
 use std::cell::Cell;
 use std::env::var;
 use std::io::IsTerminal;
@@ -9,7 +7,7 @@ use std::io::IsTerminal;
 /// Erases what stands behind the cursor in its line (ECMA-48).
 const ERASE_THE_REST: &str = "\x1b[K";
 
-/// How far a run is: shown in one line on standard error, which is written again after each exchange.
+/// How far a command is: shown in one line on standard error, which is written again after each exchange.
 #[derive(Drop)]
 pub(crate) struct ProgressLine<'a> {
     rt: &'a HostRuntime,
@@ -20,8 +18,8 @@ pub(crate) struct ProgressLine<'a> {
 }
 
 impl<'a> ProgressLine<'a> {
-    /// Of a run that has made no exchange. The line is shown where standard error is a terminal that
-    /// takes control sequences, and each exchange is not told there.
+    /// Of a command that has made no exchange. The line is shown if standard error is a terminal that takes
+    /// control sequences, unless each exchange is reported there.
     pub(crate) fn new(rt: &'a HostRuntime, is_verbose: bool) -> Self {
         ProgressLine {
             rt,
@@ -35,17 +33,14 @@ impl<'a> ProgressLine<'a> {
         self.is_shown
     }
 
-    /// Shows the line for what the client knows and what was spent, in the place of the line before it:
-    /// in one write, which changes nothing of the terminal but this line. Where there is no memory for
-    /// it the line before it stays.
-    pub(crate) fn show(&self, client: &Client<'_>, spent: Spent) {
+    /// Shows the line in place of the one before it, in one write, which changes only this line of the
+    /// terminal.
+    pub(crate) fn show(&self, line: &str) {
         if !self.is_shown {
             return;
         }
-        if let Ok(line) = progress_line(self.rt.alloc(), client, spent) {
-            let _ = self.rt.eprint(format_args!("\r{line}{ERASE_THE_REST}"));
-            self.is_open.set(true);
-        }
+        let _ = self.rt.eprint(format_args!("\r{line}{ERASE_THE_REST}"));
+        self.is_open.set(true);
     }
 
     /// Ends the line, where there is one.

@@ -10,3 +10,14 @@ pub(crate) enum Setback {
     /// No answer came.
     Lost(Operation),
 }
+
+impl Setback {
+    /// The setback, if an answer to this operation does not end it: a loss ends with any answer, and a refusal
+    /// with an answer to the operation that was refused.
+    pub(crate) fn left_by(self, answered: Operation) -> Option<Setback> {
+        match self {
+            Setback::Refused(operation, _) if operation != answered => Some(self),
+            Setback::Refused(_, _) | Setback::Lost(_) => None,
+        }
+    }
+}

@@ -24,26 +24,59 @@ pub(crate) enum Silence {
 }
 
 impl Silence {
-    /// Why, in words, where an exchange may take so many seconds.
+    /// Why, in words, if an exchange takes this number of seconds at most.
     ///
     /// # Errors
-    /// Where there is no memory.
+    /// If memory runs out.
     pub(crate) fn text(self, alloc: Global, timeout: u64) -> Result<String, NoMemory> {
         match self {
             Silence::Failed(failure) => failure_text(alloc, failure, timeout),
             Silence::Cut => copied(alloc, "the connection was closed within a reply"),
             Silence::NoKmip(talk) => {
-                let text = format!(in alloc; "bytes came that are no KMIP{}", talk.text())?;
+                let text = format!(in alloc; "the server did not reply in KMIP{}", talk.text())?;
                 Ok(text)
             }
             Silence::TooLong(size) => {
                 let text = format!(in alloc;
-                    "a reply of {size} bytes came, where {MAX_SIZE} are the most"
+                    "the reply is too long: {size} bytes, limit {MAX_SIZE}"
                 )?;
                 Ok(text)
             }
             Silence::Unreadable(fault, version) => unreadable_text(alloc, fault, version),
-            Silence::NoMemory => copied(alloc, "no memory"),
+            Silence::NoMemory => copied(alloc, "out of memory"),
+        }
+    }
+
+    /// The same in a word or two, as in `timed out 4 times`.
+    ///
+    /// # Errors
+    /// If memory runs out.
+    pub(crate) fn brief(self, alloc: Global) -> Result<String, NoMemory> {
+        match self {
+            Silence::Failed(Failure::Refused) => copied(alloc, "connection refused"),
+            Silence::Failed(Failure::Late) => copied(alloc, "timed out"),
+            Silence::Failed(Failure::Closed) => copied(alloc, "connection closed"),
+            Silence::Failed(failure) => failure_text(alloc, failure, 0),
+            Silence::Cut => copied(alloc, "connection closed within a reply"),
+            Silence::NoKmip(_) => copied(alloc, "not KMIP"),
+            Silence::TooLong(_) => copied(alloc, "reply too long"),
+            Silence::Unreadable(_, _) => copied(alloc, "unreadable reply"),
+            Silence::NoMemory => copied(alloc, "out of memory"),
+        }
+    }
+
+    /// What an exchange brought in place of a reply, as `no reply, timed out after 30 s`.
+    ///
+    /// # Errors
+    /// If memory runs out.
+    pub(crate) fn told(self, alloc: Global, timeout: u64) -> Result<String, NoMemory> {
+        match self {
+            Silence::Unreadable(fault, version) => unreadable_text(alloc, fault, version),
+            silence => {
+                let reason = silence.text(alloc, timeout)?;
+                let text = format!(in alloc; "no reply, {reason}")?;
+                Ok(text)
+            }
         }
     }
 }
@@ -55,7 +88,7 @@ fn failure_text(alloc: Global, failure: Failure, timeout: u64) -> Result<String,
         Failure::Late => format!(in alloc; "timed out after {timeout} s")?,
         Failure::Closed => String::from_str(
             alloc,
-            "the connection was closed before a reply (where a tunnel is used, its log says why)",
+            "the connection was closed before a reply (if there is a tunnel, see its log)",
         )?,
         Failure::System(number) => {
             let error = Error::from_raw_os_error(number);

@@ -68,6 +68,7 @@ impl Story {
                 push_object(alloc, name, outcome, &mut told)?;
                 self.told = told;
                 self.answered = Some(operation);
+                self.setback = self.setback.and_then(|setback| setback.left_by(operation));
             }
         }
         Ok(())
@@ -137,11 +138,12 @@ impl Story {
         match (self.setback, self.answered) {
             (Some(setback), _) => self.push_setback(alloc, setback, text)?,
             (None, Some(operation)) => {
+                text.push_str("last reply to ")?;
                 text.push_str(operation_word(operation))?;
-                text.push_str(" was answered last: ")?;
+                text.push_str(": ")?;
                 text.push_str(self.told.as_str())?;
             }
-            (None, None) => text.push_str("nothing was asked")?,
+            (None, None) => text.push_str("not requested yet")?,
         }
         Ok(())
     }

@@ -1,7 +1,6 @@
-//! What `run` tells of its exchanges while it works.
+//! What `run` reports of its exchanges while it works.
 
 use crate::account::Account;
-use crate::reach::Reach;
 use kmip_protocol::LinkFault;
 use kmip_runs::Observer;
 
@@ -9,22 +8,18 @@ use kmip_runs::Observer;
 #[derive(Drop)]
 pub struct Teller<'a> {
     account: &'a Account<'a>,
-    reach: Reach,
 }
 
 impl<'a> Teller<'a> {
-    /// One that tells this account.
+    /// One that gives them to this account.
     pub fn new(account: &'a Account<'a>) -> Self {
-        Teller {
-            account,
-            reach: Reach::new(),
-        }
+        Teller { account }
     }
 }
 
 impl<'a> Observer for Teller<'a> {
     fn exchanged(&mut self, request: &[u8], answered: Result<Option<&[u8]>, LinkFault>) {
-        self.account.exchanged(request, answered, &mut self.reach);
+        self.account.exchanged(request, answered);
     }
 
     fn ended(&mut self) {

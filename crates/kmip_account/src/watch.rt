@@ -4,7 +4,7 @@ use crate::account::Account;
 use crate::findings::Findings;
 use kmip_client::Client;
 use kmip_plan_commands::RunTally;
-use kmip_runs::{Pace, Patience};
+use kmip_runs::{ExchangeNews, Pace, Patience};
 use kmip_ttlv::NoMemory;
 
 /// Waits and gives up as a pace does. It has the findings of a run while that works, and tells the account
@@ -58,14 +58,17 @@ impl<'a> Patience for Watch<'a> {
 
     ghost asked = { λ watch. watch.pace.asked };
 
-    fn exchanged(&mut self, client: &Client<'_>, got_on: bool) {
-        self.pace.exchanged(client, got_on);
+    fn exchanged(&mut self, client: &Client<'_>, news: ExchangeNews) {
+        self.pace.exchanged(client, news);
+        if let ExchangeNews::Grew = news {
+            self.account.log().note_news();
+        }
         self.account.know(client, self.findings);
     }
 
     fn go_on(&mut self) -> bool {
         let goes_on = self.pace.go_on();
-        self.account.begin_exchange();
+        self.account.log().begin_exchange();
         goes_on
     }
 }

@@ -19,4 +19,6 @@ pub struct LookOptions {
     pub is_verbose: bool,
     /// In which form what came of it is printed.
     pub format: Format,
+    /// The path of the file of metrics, if one is to be written.
+    pub metrics: Option<String>,
 }

@@ -19,6 +19,8 @@ pub struct RunOptions {
     pub peer: Peer,
     /// Which progress it begins with.
     pub trust: Trust,
+    /// Whether it first asks the server about each key that the progress knows.
+    pub is_refreshed: bool,
     /// How long an exchange may take, in seconds.
     pub timeout: u64,
     /// How long to wait first after an exchange by which the run did not get on, in milliseconds; 0 for

@@ -3,9 +3,9 @@
 /// Which progress a run begins with.
 #[derive(Clone, Copy, Debug, PartialEq, Eq)]
 pub enum Trust {
-    /// What the file says, unless it was kept against another server.
+    /// What the file says, unless it was saved against another server.
     Checked,
-    /// What the file says: the server is the one that it was kept against, under another name.
+    /// What the file says, also if it was saved against another address, once the server agrees with it.
     Believe,
     /// None: the file is put aside.
     Afresh,

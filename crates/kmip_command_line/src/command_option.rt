@@ -4,9 +4,9 @@ use crate::absent::Absent;
 use crate::environment::Environment;
 use crate::help::{
     AFRESH, AFTER, AT_ONCE, BATCH, BELIEVE, CANON, CONNECT, CONNECTIONS, DIAGRAM, GIVE_UP,
-    IDENTIFIERS, JSON, JSON_SCHEMA, LIMIT, LOCK_WAIT, LOOK_GIVE_UP, LOOPBACK, METRICS, NAME_PREFIX,
-    NOW, PLAN, PORT, PROGRESS, SCRIPT, SERVE_TIMEOUT, SHELL, SOCKET, STREAM, THEN, TIMEOUT, TRACE,
-    VERBOSE, WAIT,
+    IDENTIFIERS, JSON, JSON_SCHEMA, LIMIT, LOCK_WAIT, LOOK_GIVE_UP, LOOK_METRICS, LOOPBACK,
+    METRICS, NAME_PREFIX, NOW, PLAN, PORT, PROGRESS, REFRESH, SCRIPT, SERVE_TIMEOUT, SHELL, SOCKET,
+    STREAM, THEN, TIMEOUT, TRACE, VERBOSE, WAIT,
 };
 use crate::setting::Setting;
 use crate::value::Value;
@@ -101,6 +101,8 @@ const PROGRESS_OPTION: CommandOption = CommandOption(
     PROGRESS,
 );
 
+const REFRESH_OPTION: CommandOption = CommandOption("refresh", Flag, Fine, REFRESH);
+
 const BELIEVE_OPTION: CommandOption = CommandOption("believe", Flag, Fine, BELIEVE);
 
 const AFRESH_OPTION: CommandOption = CommandOption("afresh", Flag, Fine, AFRESH);
@@ -165,6 +167,13 @@ const VERBOSE_OPTION: CommandOption = CommandOption("verbose", Flag, Fine, VERBO
 const IDENTIFIERS_OPTION: CommandOption = CommandOption("identifiers", Flag, Fine, IDENTIFIERS);
 
 const METRICS_OPTION: CommandOption = CommandOption("metrics", Path("FILE"), Fine, METRICS);
+
+const LOOK_METRICS_OPTION: CommandOption = CommandOption(
+    "metrics",
+    Path("FILE"),
+    Fine,
+    LOOK_METRICS,
+);
 
 const JSON_OPTION: CommandOption = CommandOption("json", Flag, Fine, JSON);
 
@@ -249,9 +258,10 @@ pub(crate) const SIM_OPTIONS: [CommandOption; 7] = [
     SIM_JSON_OPTION,
 ];
 
-pub(crate) const RUN_OPTIONS: [CommandOption; 17] = [
+pub(crate) const RUN_OPTIONS: [CommandOption; 18] = [
     PLAN_OPTION,
     PROGRESS_OPTION,
+    REFRESH_OPTION,
     BELIEVE_OPTION,
     AFRESH_OPTION,
     CONNECT_OPTION,
@@ -288,7 +298,7 @@ const LOOK_GIVE_UP_OPTION: CommandOption = CommandOption(
     LOOK_GIVE_UP,
 );
 
-pub(crate) const LOOK_OPTIONS: [CommandOption; 9] = [
+pub(crate) const LOOK_OPTIONS: [CommandOption; 10] = [
     PLAN_OPTION,
     CONNECT_OPTION,
     SOCKET_OPTION,
@@ -298,6 +308,7 @@ pub(crate) const LOOK_OPTIONS: [CommandOption; 9] = [
     LOOK_GIVE_UP_OPTION,
     VERBOSE_OPTION,
     JSON_OPTION,
+    LOOK_METRICS_OPTION,
 ];
 
 pub(crate) const SERVE_OPTIONS: [CommandOption; 6] = [

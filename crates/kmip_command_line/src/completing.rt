@@ -12,7 +12,7 @@ use std::fmt::{self, Display, Formatter};
 pub(crate) const HELP_COMMAND: &str = "help";
 
 /// What this command does.
-pub(crate) const ABOUT_HELP: &str = "Prints the help of a command";
+pub(crate) const ABOUT_HELP: &str = "Print the help of a command";
 
 /// What the option `--help` does.
 pub(crate) const ABOUT_HELP_OPTION: &str = "Print help";

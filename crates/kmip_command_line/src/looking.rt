@@ -2,7 +2,7 @@
 
 use crate::command_option::MOST_SECONDS;
 use crate::given::Given;
-use crate::network::peer_of;
+use crate::network::{peer_of, text_of};
 use crate::setting::Setting;
 use crate::unchosen::Unchosen;
 use kmip_choices::{Choice, LookOptions};
@@ -18,5 +18,6 @@ pub(crate) fn look_choice(alloc: Global, given: Given<'_, '_>) -> Result<Choice,
         give_up: given.number("give-up", 0),
         is_verbose: given.flag("verbose"),
         format: given.format(),
+        metrics: text_of(alloc, given.options.get_str("metrics"))?,
     }))
 }

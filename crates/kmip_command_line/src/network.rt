@@ -12,14 +12,24 @@ use std::alloc::{AllocError, Global};
 use std::net::SocketAddrV4;
 
 /// What `run` is to do, by its words.
+///
+/// # Errors
+/// If a value is wrong, the run may make no exchange and is to ask the server first, or memory runs out.
 pub(crate) fn run_choice(alloc: Global, given: Given<'_, '_>) -> Result<Choice, Unchosen> {
+    let limit = given.number("limit", MOST_COUNT);
+    let trust = trust_of(given);
+    let is_refreshed = given.flag("refresh") || trust == Trust::Believe;
+    if is_refreshed && limit == 0 {
+        return Err(Unchosen::Wrong(WrongValue::NothingToRefresh));
+    }
     Ok(Choice::Run(RunOptions {
         peer: peer_of(alloc, given)?,
         plan: given.setting(alloc, Setting::Plan)?,
         progress: given.setting(alloc, Setting::Progress)?,
-        limit: given.number("limit", MOST_COUNT),
+        limit,
         batch: given.number("batch", 1),
-        trust: trust_of(given),
+        trust,
+        is_refreshed,
         timeout: given.number("timeout", MOST_SECONDS),
         wait: given.number("wait", 0),
         give_up: given.number("give-up", 0),
@@ -32,7 +42,7 @@ pub(crate) fn run_choice(alloc: Global, given: Given<'_, '_>) -> Result<Choice, 
 }
 
 /// The value of an option as a text of its own, where the option is there.
-fn text_of(alloc: Global, value: Option<&str>) -> Result<Option<String>, AllocError> {
+pub(crate) fn text_of(alloc: Global, value: Option<&str>) -> Result<Option<String>, AllocError> {
     match value {
         Some(text) => Ok(Some(String::from_str(alloc, text)?)),
         None => Ok(None),
@@ -91,11 +101,11 @@ fn peer_said(alloc: Global, environment: &Environment) -> Result<Peer, Unchosen>
 /// The server at an address and a port.
 ///
 /// # Errors
-/// This fault, where it is no IPv4 address and port.
+/// This fault if the text is not an IPv4 address and a port, or the port is 0, which no server has.
 fn tcp_peer(address: &str, otherwise: WrongValue) -> Result<Peer, WrongValue> {
     match address.parse::<SocketAddrV4>() {
-        Ok(address) => Ok(Peer::Tcp(address)),
-        Err(_) => Err(otherwise),
+        Ok(address) if address.port() > 0 => Ok(Peer::Tcp(address)),
+        Ok(_) | Err(_) => Err(otherwise),
     }
 }
 

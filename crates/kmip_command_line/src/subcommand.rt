@@ -172,7 +172,7 @@ pub(crate) fn program<'a>(
         .version(VERSION)
         .long_version(LONG_VERSION)
         .about(ABOUT)
-        .after_help(AFTER_HELP);
+        .after_long_help(AFTER_HELP);
     with_commands(alloc, program, environment)
 }
 

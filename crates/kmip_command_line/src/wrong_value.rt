@@ -15,6 +15,10 @@ pub(crate) enum WrongValue {
     NoText(Setting),
     /// Two variables say where the server is.
     TwoServers,
+    /// The run is to ask the server about what the progress says, and may make no exchange.
+    NothingToRefresh,
+    /// Two files are to come from standard input.
+    InputTwice,
 }
 
 impl Display for WrongValue {
@@ -24,10 +28,18 @@ impl Display for WrongValue {
             WrongValue::Prefix => f.write_str(WRONG_PREFIX),
             WrongValue::AddressVariable => write!(
                 f,
-                "the value of {CONNECT_VARIABLE} is no IPv4 address and port, as 127.0.0.1:5696"
+                "the value of {CONNECT_VARIABLE} is not an IPv4 address and a port, such as 127.0.0.1:5696"
             ),
             WrongValue::NoText(setting) => {
                 write!(f, "the value of {} is not UTF-8", setting.variable())
+            }
+            WrongValue::NothingToRefresh => f.write_str(
+                "'--limit 0' cannot be used with '--refresh' or '--believe', which ask the server first",
+            ),
+            WrongValue::InputTwice => {
+                f.write_str(
+                    "'--plan -' cannot be used with '--after -': standard input is read once",
+                )
             }
             WrongValue::TwoServers => write!(
                 f,

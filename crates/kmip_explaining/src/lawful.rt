@@ -49,9 +49,9 @@ fn is_usage(word: &str) -> bool {
     )
 }
 
-/// Whether the way to the target of this word has a Revoke.
-pub(crate) fn is_revoked(target: &str) -> bool {
-    matches!(target, "revoked" | "destroyed")
+/// Whether the way to the target of this word has no Revoke.
+pub(crate) fn is_never_revoked(target: &str) -> bool {
+    matches!(target, "created" | "active" | "discarded")
 }
 
 /// The first element that names no usage.

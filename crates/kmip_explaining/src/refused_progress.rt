@@ -9,7 +9,7 @@ use std::alloc::Global;
 
 /// What to do about a progress file that cannot be read.
 const RESTORE: &str =
-    "restore the file from a backup, or run with --afresh to look up each key by its name";
+    "restore the file from a backup, or run with --afresh, which searches for each key and creates those that are missing";
 
 /// A plan and the progress file that is refused for it, with the paths of both.
 #[derive(Clone, Copy)]

@@ -1,8 +1,10 @@
 //! Why a text is no plan, in one line: where it is wrong, what stands there, and what may stand there.
 
 use crate::lawful::{
-    ALGORITHMS, NAMES, REASONS, TARGETS, TOO_MANY, USAGES, is_revoked, lengths_of, no_usage, twice,
+    ALGORITHMS, NAMES, REASONS, TARGETS, TOO_MANY, USAGES, is_never_revoked, lengths_of, no_usage,
+    twice,
 };
+use crate::mended::Mended;
 use crate::placing::{Sought, field_at, key_at, line_of, name_of};
 use crate::valuing::{push_key, push_place, push_quoted, push_value};
 use kmip_plan::{PlanFault, read_plan};
@@ -13,12 +15,47 @@ use toml::{Table, Value};
 /// What the reader of TOML says before `L, column C`.
 const BEFORE_A_LINE: &str = "TOML parse error at line ";
 
-/// Tells on standard error why the text of the file at this path is no plan, in one line. Tells nothing
-/// where it is one, or where there is no memory. It has no clause.
+/// How many faults of a plan are reported (own).
+const MOST_FAULTS: usize = 20;
+
+/// Reports on standard error why the text of the file at this path is not a plan: its first fault, and then others,
+/// a line each. Nothing if it is a plan, or memory runs out. It has no clause.
 pub fn tell_refusal(rt: &HostRuntime, path: &str, plan: &str) {
     if let Ok(Some(line)) = refusal_line(rt.alloc(), path, plan) {
         let _ = rt.eprintln(line.as_str());
+        let _ = tell_others(rt, path, plan);
     }
+}
+
+/// Reports the faults of a plan after the first one.
+fn tell_others(rt: &HostRuntime, path: &str, plan: &str) -> Result<(), NoMemory> {
+    let alloc = rt.alloc();
+    let Some(mut mended) = Mended::of(alloc, plan)? else {
+        return Ok(());
+    };
+    let Ok(table) = toml::table_from_str(alloc, plan) else {
+        return Ok(());
+    };
+    for number in 0..=MOST_FAULTS {
+        let Some(fault) = mended.fault()? else {
+            return Ok(());
+        };
+        if number == MOST_FAULTS {
+            let _ = rt.eprintln(format_args!("{path}: there are more faults"));
+        } else if number > 0 {
+            let mut line = String::new(alloc);
+            let refused = Refused {
+                table: &table,
+                fault: &fault,
+            };
+            refused.push_line(alloc, path, plan, &mut line)?;
+            let _ = rt.eprintln(line.as_str());
+        }
+        if !mended.mend(&fault)? {
+            return Ok(());
+        }
+    }
+    Ok(())
 }
 
 /// The line that says why a text is no plan; none where it is one.
@@ -256,7 +293,7 @@ impl<'a> Refused<'a> {
     /// Appends what is wrong with the reason, or that the target has none.
     fn push_reason(self, out: &mut String) -> Result<(), AllocError> {
         match self.field("target") {
-            Some(Value::String(target)) if !is_revoked(target.as_str()) => {
+            Some(Value::String(target)) if is_never_revoked(target.as_str()) => {
                 out.push_str("the reason is ")?;
                 push_value(out, self.field("reason"))?;
                 write!(out, ": a key whose target is \"{target}\" has none")

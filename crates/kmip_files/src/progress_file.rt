@@ -9,7 +9,7 @@ use crate::replacing::{path_beside, save};
 use kmip_disk::WholeFile;
 use std::alloc::Global;
 use std::fs::{self, File, Files};
-use std::io::{self, ErrorKind};
+use std::io::{self, Error, ErrorKind};
 
 /// Who may read and write the progress file and its lock (own): their owner alone.
 pub(crate) const OWNER_ALONE: u32 = 0o600;
@@ -21,6 +21,9 @@ pub const MOST_FILE_BYTES: u64 = 16_777_216;
 /// The most bytes that are read of a progress (own): the longest one of 1,000 keys has 208,025,
 /// which is less than a fifth.
 pub const MOST_PROGRESS_BYTES: u64 = 1_048_576;
+
+/// How many older files that were put aside are kept (own).
+const MOST_OLDER: u32 = 1_000;
 
 /// The file that a run keeps its progress in.
 ///
@@ -77,6 +80,14 @@ impl<'a, R: Files + AllocGlobal> ProgressFile<'a, R> {
     /// The path that it was named by, also where a symbolic link stands there.
     pub fn given_path(&self) -> &'a str {
         self.given_path
+    }
+
+    /// The path of the file that takes its place, if a folder is there, so that no file can be written.
+    pub fn folder_beside(&self) -> Option<&str> {
+        match fs::metadata(self.rt, self.beside.as_str()) {
+            Ok(found) if found.is_dir() => Some(self.beside.as_str()),
+            Ok(_) | Err(_) => None,
+        }
     }
 
     /// The text of the file; `None` where there is no file.
@@ -140,19 +151,35 @@ impl<'a, R: Files + AllocGlobal> ProgressFile<'a, R> {
         save(self.rt, path.as_str(), OWNER_ALONE, text)
     }
 
-    /// Gives the file the path of `before_path`, in the place of one that stands there, and returns
-    /// once that is on the disk. Does nothing where there is no file.
+    /// Gives the file the path of `before_path`, and returns once that is on the disk. A file that is there
+    /// already gets a number. Does nothing if there is no file.
     ///
     /// # Errors
     ///
-    /// Where that cannot be done.
+    /// If that cannot be done.
     pub fn put_aside(&self) -> io::Result<()> {
-        let before = self.before_path()?;
-        match fs::rename(self.rt, self.path.as_str(), before.as_str()) {
-            Ok(()) => self.close(),
-            Err(error) if error.kind() == ErrorKind::NotFound => Ok(()),
-            Err(error) => Err(error),
+        match fs::symlink_metadata(self.rt, self.path.as_str()) {
+            Err(error) if error.kind() == ErrorKind::NotFound => return Ok(()),
+            Ok(_) | Err(_) => {}
         }
+        let before = self.before_path()?;
+        self.number_older(before.as_str())?;
+        fs::rename(self.rt, self.path.as_str(), before.as_str())?;
+        self.close()
+    }
+
+    /// Gives an older file at this path the first free number behind it, as `PATH.before.1`.
+    fn number_older(&self, before: &str) -> io::Result<()> {
+        if is_free(self.rt, before)? {
+            return Ok(());
+        }
+        for number in 1..=MOST_OLDER {
+            let older = format!(in self.rt.alloc(); "{before}.{number}")?;
+            if is_free(self.rt, older.as_str())? {
+                return fs::rename(self.rt, before, older.as_str());
+            }
+        }
+        Err(Error::from(ErrorKind::AlreadyExists))
     }
 
     /// The path of the file beside this one that says where this one was kept.
@@ -197,5 +224,14 @@ impl<'a, R: Files<File = File> + AllocGlobal> ProgressFile<'a, R> {
             Ok(path) => ProgressLock::take(self.rt, path.as_str()),
             Err(error) => Err(LockFault::Io(error)),
         }
+    }
+}
+
+/// Whether there is nothing at the path.
+fn is_free<R: Files + AllocGlobal>(rt: &R, path: &str) -> io::Result<bool> {
+    match fs::symlink_metadata(rt, path) {
+        Ok(_) => Ok(false),
+        Err(error) if error.kind() == ErrorKind::NotFound => Ok(true),
+        Err(error) => Err(error),
     }
 }

@@ -9,7 +9,7 @@ use Rattle.kmip_progress.specs.Faults.{progress_fault_number, progress_fault_nam
 use Rattle.kmip_progress.specs.declared.progress_fault.ProgressFault.{ProgressFault}
 use Rattle.kmip_progress.specs.declared.progress_fault.ProgressFault.TheVariants as progress_faults
 use Rattle.kmip_json.specs.Causes.{cause_word}
-use Rattle.kmip_json.specs.Documents.{count, count_or_null, document, members, text_or_null}
+use Rattle.kmip_json.specs.Documents.{count, count_or_null, document, members, text_or_null, words_of}
 use Rattle.kmip_json.specs.declared.fault.Fault.{Fault}
 
 -- The line of a fault of a plan: its number, its name, the field and the key that it is about, and a line.
@@ -38,6 +38,15 @@ fault_line fault = document (members (
     ∷ (codes "at", text_or_null (option_map (λ at. at.now) fault.at))
     ∷ (codes "why", text_or_null (option_map (λ why. why.now) fault.why))
     ∷ (codes "cause", text_or_null (option_map cause_word fault.cause))
+    ∷ []))
+
+-- The line of a progress that the server contradicts: the path, why, and the names of the keys.
+unfoldable pub contradiction_line : List ℕ → List ℕ → List (List ℕ) → List ℕ
+contradiction_line path why keys = document (members (
+    (codes "fault", string (codes "progress of another server"))
+    ∷ (codes "at", string path)
+    ∷ (codes "why", string why)
+    ∷ (codes "keys", words_of keys)
     ∷ []))
 
 -- The line of want of memory.

@@ -1,6 +1,6 @@
 //! The line of a fault.
-ghost use Rattle.std.specs.Prelude.{◌≡◌, ◌++◌, OnOk, false};
-ghost use Rattle.kmip_json.specs.FaultJson.{fault_line, is_plan_memory, is_progress_memory, plan_fault_line, progress_fault_line};
+ghost use Rattle.std.specs.Prelude.{◌≡◌, ◌++◌, OnOk, false, map};
+ghost use Rattle.kmip_json.specs.FaultJson.{contradiction_line, fault_line, is_plan_memory, is_progress_memory, plan_fault_line, progress_fault_line};
 
 use crate::cause::word_of_cause;
 use crate::document::push_document;
@@ -86,6 +86,31 @@ pub fn push_fault(alloc: Global, fault: &Fault<'_>, text: &mut Vec<u8>) -> Resul
         Member::text_or_null("at", fault.at),
         Member::text_or_null("why", fault.why),
         Member::text_or_null("cause", word_of_cause(fault.cause)),
+    ];
+    push_document(alloc, &members, text)
+}
+
+/// Appends the line that says that a server contradicts the progress at the path: why, and the names of
+/// the keys about which it does.
+///
+/// # Errors
+/// Where there is no memory for it. A part may have been appended then.
+pub fn push_contradiction<'a>(
+    alloc: Global,
+    path: &'a str,
+    why: &'a str,
+    keys: &'a [&'a str],
+    text: &mut Vec<u8>,
+) -> Result<(), NoMemory>
+    // What is appended is exactly the line of the contradiction.
+    ensures { OnOk result (text.new.items ≡ text.old.items
+        ++ contradiction_line path.now why.now (map (λ key. key.now) keys.now)) }
+{
+    let members: [Member<'a>; 4] = [
+        Member::text("fault", "progress of another server"),
+        Member::text("at", path),
+        Member::text("why", why),
+        Member::words("keys", keys),
     ];
     push_document(alloc, &members, text)
 }

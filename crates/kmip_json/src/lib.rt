@@ -26,7 +26,9 @@ mod simulating;
 pub use cause::Cause;
 pub use checking::{push_check, push_prolongs};
 pub use fault::Fault;
-pub use faults::{NO_MEMORY_LINE, push_fault, push_plan_fault, push_progress_fault};
+pub use faults::{
+    NO_MEMORY_LINE, push_contradiction, push_fault, push_plan_fault, push_progress_fault,
+};
 pub use json_lines::JsonLines;
 pub use listing::{push_list, push_listing};
 pub use looking::push_look;

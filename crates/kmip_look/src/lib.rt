@@ -20,7 +20,7 @@ mod shown;
 mod why;
 
 pub use looked::Looked;
-pub use looking::look;
+pub use looking::{look, look_at_keys};
 pub use pause::Pause;
 pub use shown::Shown;
 pub use why::Why;

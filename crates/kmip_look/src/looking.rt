@@ -3,6 +3,8 @@ ghost use Rattle.std.specs.Prelude.{◌≡◌, ◌≤◌, ◌<◌, [], IfOk, IsT
 ghost use Rattle.std.specs.List.{All, AllZip};
 ghost use Rattle.kmip_messages.specs.Members.{may_have};
 ghost use Rattle.kmip_messages.specs.Written.{requests_fit};
+ghost use Rattle.kmip_plan.specs.Plans.{key_fits};
+ghost use Rattle.kmip_plan.specs.declared.key.Key.{Key};
 ghost use Rattle.kmip_protocol.specs.Past.{Names};
 ghost use Rattle.kmip_look.specs.Looks.{IsTried, Looks};
 ghost use Rattle.kmip_look.specs.PrivateAsking.{requests_of};
@@ -64,14 +66,15 @@ pub fn look<L: Link, P: Pause>(
         → P.has_given_up pause.new ≡ false → IfOk result (λ v. AllZip
         (IsTried mark.now (L.seen link.old).past (L.seen link.new).past) plan.now v.items) }
 {
-    look_each(alloc, plan.keys(), link, mark, batch, pause)
+    look_at_keys(alloc, plan.keys(), link, mark, batch, pause)
 }
 
-/// Looks at the keys of a plan.
+/// Looks at these keys as `look` does at those of a plan: by Locate and Get Attributes alone, in groups of
+/// `batch`, in their order. If there are no keys, it sends nothing.
 ///
 /// # Errors
-/// Where there is no memory.
-fn look_each<L: Link, P: Pause>(
+/// If memory runs out; then nothing is said of any key.
+pub fn look_at_keys<L: Link, P: Pause>(
     alloc: Global,
     keys: &[Key],
     link: &mut L,
@@ -79,11 +82,17 @@ fn look_each<L: Link, P: Pause>(
     batch: usize,
     pause: &mut P,
 ) -> Result<Vec<Looked>, NoMemory>
+    // A message may ask this many questions: one to eight.
     requires batch { IsTrue (may_have batch) }
+    // The mark has at most 16 bytes.
     requires mark { length mark.now ≤ 16 }
-    requires fit { AreFit keys.now }
+    // The values of each key are in their ranges, as those of every plan are.
+    requires fit { All (λ (key : Key). key_fits key ≡ true) keys.now }
+    // It looks at each key, and what it says of them was so.
     ensures looks { Looks (λ v. v.items) keys.now mark.now (L.seen link.old) result
         (L.seen link.new) }
+    // Over a link that is honest for some names, and unless the pause gave up: it gives up no key that is
+    // not told, and that the server did not refuse, before at least four messages have asked about it.
     ensures tried { (names : Names) → (L.seen link.old).honest names
         → P.has_given_up pause.new ≡ false → IfOk result (λ v. AllZip
         (IsTried mark.now (L.seen link.old).past (L.seen link.new).past) keys.now v.items) }

@@ -11,4 +11,4 @@ mod text;
 
 pub use running::{look_bytes, run_look};
 pub use seen::{named_algorithm, named_state, why_text};
-pub use text::verdicts_on;
+pub use text::{push_looked, verdicts_on};

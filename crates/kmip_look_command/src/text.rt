@@ -10,18 +10,20 @@ use kmip_runs::{finished_count, sum_line};
 use kmip_ttlv::NoMemory;
 use std::alloc::Global;
 
-/// Appends how each key stands, and how many are finished. Says whether one is not.
+/// Appends the status of each key, and how many are finished. Returns whether one is not.
 ///
 /// # Errors
-/// Where there is no memory.
-pub(crate) fn push_looked(
+/// If memory runs out; a part may have been appended then.
+pub fn push_looked(
     alloc: Global,
     keys: &[Key],
     lookeds: &[Looked],
     text: &mut Vec<u8>,
 ) -> Result<bool, NoMemory>
+    // What is appended is exactly the text of what was seen of each key.
     ensures text { OnOk result (text.new.items
         ≡ text.old.items ++ look_text keys.now lookeds.now) }
+    // The result is false exactly if each key is finished.
     ensures refused { IfOk result (λ r. r ≡ not (are_all_finished keys.now lookeds.now)) }
 {
     let verdicts = verdicts_on(alloc, keys, lookeds)?;

@@ -4,28 +4,32 @@
 //! tells a contract nothing of the bytes of sockets, files and streams. What they call is proved over
 //! every link, keeper and writer. The stored runs, `make storm` and `make peers` try them.
 //!
-//! Why no connection comes about, and what comes over one, is told or noted by a `Dial` around another
-//! and by streams around its own. These change nothing of what those answer. What `run` tells of its
-//! exchanges rests on that; `make troubles` and `make peers` want the lines.
+//! Why a connection cannot be made, and what comes over one, is noted by a `Dial` around another and by streams
+//! around its own. These change nothing of what those answer. What `run`, `look` and `probe` report of their
+//! exchanges depends on that; `make troubles` and `make peers` want the lines.
 #![tactic(auto)]
 
+mod agreeing;
 mod connection;
+mod disagreeing;
 mod ending;
 mod exchange;
 mod hearing;
 mod last_answer;
 mod linking;
+mod logged_dial;
 mod look_pause;
+mod look_then_run;
 mod look_watcher;
 mod looking;
 mod overheard;
 mod pausing;
 mod probing;
+mod refreshing;
 mod running;
 mod saying;
 mod serving;
 mod serving_at_once;
-mod telling_dial;
 mod unmarked;
 mod watcher;
 

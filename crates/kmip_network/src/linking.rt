@@ -1,8 +1,8 @@
 //! Links to the server that was named.
 
+use crate::logged_dial::LoggedDial;
 use crate::serving::new_server;
-use crate::telling_dial::TellingDial;
-use kmip_account::Wire;
+use kmip_account::ExchangeLog;
 use kmip_server::IndexedStore;
 use kmip_transport::{Loopback, StreamLink, Tcp, Unix};
 use kmip_trouble::{Cannot, Obstacle, Trouble};
@@ -10,33 +10,31 @@ use std::net::{SocketAddr, SocketAddrV4};
 use std::os::unix::net;
 use std::time::Duration;
 
-/// A link to the server at an address and port, each of whose exchanges takes so long at most.
+/// A link to the server at an address and port. An exchange takes no longer than `limit`.
 pub(crate) fn tcp_link<'a>(
-    rt: &'a HostRuntime,
+    log: &'a ExchangeLog<'a>,
     address: SocketAddrV4,
     limit: Duration,
-    wire: Option<&'a Wire>,
-) -> StreamLink<TellingDial<'a, Tcp<&'a HostRuntime>>> {
-    let dial = Tcp::new(rt, SocketAddr::V4(address));
-    StreamLink::new(TellingDial::new(rt, dial, wire), limit)
+) -> StreamLink<LoggedDial<'a, Tcp<&'a HostRuntime>>> {
+    let dial = Tcp::new(log.rt(), SocketAddr::V4(address));
+    StreamLink::new(LoggedDial::new(dial, log), limit)
 }
 
 /// A link to the server on the Unix socket at a path.
 ///
 /// # Errors
-/// Where the path is too long for one of a socket.
+/// If the path is too long for one of a socket.
 pub(crate) fn unix_link<'a>(
-    rt: &'a HostRuntime,
+    log: &'a ExchangeLog<'a>,
     path: &str,
     limit: Duration,
-    wire: Option<&'a Wire>,
-) -> Result<StreamLink<TellingDial<'a, Unix<&'a HostRuntime>>>, Trouble> {
+) -> Result<StreamLink<LoggedDial<'a, Unix<&'a HostRuntime>>>, Trouble> {
     match net::SocketAddr::from_pathname(path) {
         Ok(address) => {
-            let dial = TellingDial::new(rt, Unix::new(rt, address), wire);
+            let dial = LoggedDial::new(Unix::new(log.rt(), address), log);
             Ok(StreamLink::new(dial, limit))
         }
-        Err(error) => Err(Trouble::at(rt, Cannot::Connect, path, error)),
+        Err(error) => Err(Trouble::at(log.rt(), Cannot::Connect, path, error)),
     }
 }
 

@@ -1,69 +1,103 @@
-//! What `look` tells of its exchanges while it works, and when it was answered last.
+//! What a look reports of its exchanges while it works, and when it was answered last.
 
 use crate::last_answer::LastAnswer;
+use crate::looking::MARK_BYTES;
 use crate::unmarked::{unmarked_reply, unmarked_request};
-use kmip_account::tell_exchange;
+use kmip_account::ExchangeLog;
 use kmip_protocol::LinkFault;
 use kmip_runs::Observer;
+use std::cell::Cell;
 
-/// Notes when an answer came, and tells each exchange on standard error, if it is to. The mark of the
-/// look, which stands in the ids of its questions, is not told.
+/// Notes when an answer came, and gives each exchange to the log. The mark of the look, which is in the ids of
+/// its questions, is not reported.
 #[derive(Drop)]
 pub(crate) struct LookWatcher<'a> {
-    rt: &'a HostRuntime,
+    log: &'a ExchangeLog<'a>,
     last: &'a LastAnswer,
-    mark: &'a [u8],
-    is_verbose: bool,
+    mark: &'a Cell<[u8; MARK_BYTES]>,
+    /// How many keys the look is about.
+    count: usize,
+    /// Of how many of them the names were searched for, under which mark.
+    found: usize,
+    found_under: [u8; MARK_BYTES],
 }
 
 impl<'a> LookWatcher<'a> {
+    /// Of a look at this number of keys, whose questions have the mark that is set there.
     pub(crate) fn new(
-        rt: &'a HostRuntime,
+        log: &'a ExchangeLog<'a>,
         last: &'a LastAnswer,
-        mark: &'a [u8],
-        is_verbose: bool,
+        mark: &'a Cell<[u8; MARK_BYTES]>,
+        count: usize,
     ) -> Self {
         LookWatcher {
-            rt,
+            log,
             last,
             mark,
-            is_verbose,
+            count,
+            found: 0,
+            found_under: mark.get(),
         }
     }
 
-    /// Tells an exchange. What there is no memory for is told as it is.
-    fn tell(&self, request: &[u8], answered: Result<Option<&[u8]>, LinkFault>) {
-        let told = unmarked_request(self.rt.alloc(), request, self.mark);
-        let request = match &told {
+    /// Gives an exchange to the log without the mark, or as it is if memory runs out.
+    fn report(&self, request: &[u8], answered: Result<Option<&[u8]>, LinkFault>) -> usize {
+        let (alloc, mark) = (self.log.rt().alloc(), self.mark.get());
+        let unmarked = unmarked_request(alloc, request, &mark);
+        let request = match &unmarked {
             Some(bytes) => bytes.as_slice(),
             None => request,
         };
         match answered {
-            Ok(Some(reply)) => self.tell_reply(request, reply),
-            other => tell_exchange(self.rt, request, other),
+            Ok(Some(reply)) => {
+                let unmarked = unmarked_reply(alloc, reply, &mark);
+                let reply = match &unmarked {
+                    Some(bytes) => bytes.as_slice(),
+                    None => reply,
+                };
+                self.log.exchanged(request, Ok(Some(reply)))
+            }
+            other => self.log.exchanged(request, other),
         }
     }
 
-    /// Tells an exchange that brought a reply.
-    fn tell_reply(&self, request: &[u8], reply: &[u8]) {
-        let told = unmarked_reply(self.rt.alloc(), reply, self.mark);
-        let reply = match &told {
-            Some(bytes) => bytes.as_slice(),
-            None => reply,
-        };
-        tell_exchange(self.rt, request, Ok(Some(reply)));
+    /// The names of this number of keys more were searched for. A look with a new mark begins anew.
+    fn count_found(&mut self, found: usize) {
+        let mark = self.mark.get();
+        if self.found_under != mark {
+            self.found = 0;
+            self.found_under = mark;
+        }
+        self.found = self.found.saturating_add(found);
+    }
+
+    /// Shows how far the look is. Nothing if memory runs out.
+    fn show(&self) {
+        if !self.log.is_shown() {
+            return;
+        }
+        let (found, count, seconds) = (self.found, self.count, self.log.elapsed().as_secs());
+        let line = format!(in self.log.rt().alloc();
+            "{found} of {count} keys looked up, {seconds} s"
+        );
+        if let Ok(line) = line {
+            self.log.show(line.as_str());
+        }
     }
 }
 
 impl<'a> Observer for LookWatcher<'a> {
     fn exchanged(&mut self, request: &[u8], answered: Result<Option<&[u8]>, LinkFault>) {
         if let Ok(Some(_)) = answered {
-            self.last.note(self.rt);
+            self.last.note(self.log.rt());
+            self.log.note_news();
         }
-        if self.is_verbose {
-            self.tell(request, answered);
-        }
+        let found = self.report(request, answered);
+        self.count_found(found);
+        self.show();
     }
 
-    fn ended(&mut self) {}
+    fn ended(&mut self) {
+        self.log.end_line();
+    }
 }

@@ -4,112 +4,177 @@ use crate::last_answer::LastAnswer;
 use crate::linking::{loopback, tcp_link, unix_link};
 use crate::look_pause::LookPause;
 use crate::look_watcher::LookWatcher;
+use kmip_account::{ExchangeLog, LookCounts};
 use kmip_choices::{Format, LookOptions, Peer};
+use kmip_client::Verdict;
 use kmip_json::push_look;
 use kmip_look::{Looked, look};
-use kmip_look_command::run_look;
-use kmip_message_commands::ExitStatus;
+use kmip_look_command::{push_looked, run_look};
+use kmip_message_commands::{CommandFault, ExitStatus, Printer, finished};
 use kmip_plan::{Key, Plan};
 use kmip_plan_commands::batch_of;
 use kmip_protocol::Link;
-use kmip_run_files::plan_at;
+use kmip_run_files::{LookMetricsFile, plan_at};
 use kmip_runs::Observed;
 use kmip_trouble::{Cannot, Trouble, print_documents, standard_output};
 use kmip_ttlv::NoMemory;
+use std::cell::Cell;
 use std::io::BufWriter;
 use std::random::RandomSource;
 use std::time::Duration;
 
-/// How many bytes the ids of a look's questions begin with, behind their operations (own).
-const MARK_BYTES: usize = 8;
+/// How many bytes the ids of a look's questions have after their operation, before the name (own).
+pub(crate) const MARK_BYTES: usize = 8;
 
 /// How long `look` waits first before it asks again, in milliseconds (own).
 const FIRST_WAIT: u64 = 100;
 
-/// What a mark is made of, where the system gives none.
+/// What a mark is made of, as a message names it.
 const RANDOM_BYTES: &str = "random bytes of the system";
 
-/// The command `look`: the plan is read first, then the server is asked, and how each key stands is
-/// printed. Each message goes over a stream of its own, so a server that closes the stream after each
-/// reply answers all.
+/// The command `look`: the plan is read first, then the server is asked, and the status of each key is printed.
+/// Each message goes over a stream of its own, so a server that closes the stream after each reply answers all.
 ///
 /// # Errors
 /// What ends it before anything is asked.
 pub fn look_at_server(rt: &HostRuntime, options: &LookOptions) -> Result<ExitStatus, Trouble> {
     let file = plan_at(rt, options.plan.as_str())?;
     let limit = Duration::from_secs(options.timeout);
+    let log = ExchangeLog::new(
+        rt,
+        &options.peer,
+        options.timeout,
+        options.give_up,
+        options.is_verbose,
+    )?;
     match &options.peer {
         Peer::Tcp(address) => {
-            let mut link = tcp_link(rt, *address, limit, None);
+            let mut link = tcp_link(&log, *address, limit);
             link.hold_none();
-            look_over(rt, options, &file.plan, FIRST_WAIT, link)
+            look_over(&log, options, &file.plan, FIRST_WAIT, link)
         }
         Peer::Unix(path) => {
-            let mut link = unix_link(rt, path.as_str(), limit, None)?;
+            let mut link = unix_link(&log, path.as_str(), limit)?;
             link.hold_none();
-            look_over(rt, options, &file.plan, FIRST_WAIT, link)
+            look_over(&log, options, &file.plan, FIRST_WAIT, link)
         }
-        Peer::Loopback => look_over(rt, options, &file.plan, 0, loopback(rt, limit)?),
+        Peer::Loopback => look_over(&log, options, &file.plan, 0, loopback(rt, limit)?),
     }
 }
 
-/// Asks the server over this link, and waits so many milliseconds first before it asks again. Each
-/// message that is sent is told, if it is to be.
+/// Asks the server over this link. Before a question is sent again it waits, this many milliseconds first.
 fn look_over<L: Link + Drop>(
-    rt: &HostRuntime,
+    log: &ExchangeLog<'_>,
     options: &LookOptions,
     plan: &Plan,
     first_wait: u64,
     link: L,
 ) -> Result<ExitStatus, Trouble> {
-    let mark = new_mark(rt)?;
+    let rt = log.rt();
+    let new = new_mark(rt)?;
+    let mark = Cell::new(new);
+    let metrics = LookMetricsFile::of(rt, options);
     let last = LastAnswer::none_yet(rt);
-    let mut link = Observed::new(link, LookWatcher::new(rt, &last, &mark, options.is_verbose));
-    let mut pause = LookPause::new(rt, &last, first_wait, options.give_up);
+    let mut link = Observed::new(link, LookWatcher::new(log, &last, &mark, plan.count()));
+    let mut pause = LookPause::new(rt, log, &last, first_wait, options.give_up);
     let batch = batch_of(options.batch);
-    let status = match options.format {
-        Format::Text => {
-            let mut writer = BufWriter::new(rt.alloc(), standard_output(rt))?;
-            run_look(
-                rt.alloc(),
-                plan,
-                &mut link,
-                &mark,
-                batch,
-                &mut pause,
-                &mut writer,
-            )
+    let status = if options.format == Format::Text && metrics.is_none() {
+        let mut writer = BufWriter::new(rt.alloc(), standard_output(rt))?;
+        run_look(
+            rt.alloc(),
+            plan,
+            &mut link,
+            &new,
+            batch,
+            &mut pause,
+            &mut writer,
+        )
+    } else {
+        let looked = look(rt.alloc(), plan, &mut link, &new, batch, &mut pause);
+        if let (Some(metrics), Ok(lookeds)) = (&metrics, &looked) {
+            metrics.write(log, counts_of(plan.keys(), lookeds.as_slice()));
         }
-        Format::Json => {
-            let looked = look(rt.alloc(), plan, &mut link, &mark, batch, &mut pause);
-            print_looked(rt, plan.keys(), looked)
-        }
+        print_looked(log, options.format, plan.keys(), looked)?
     };
+    log.end_line();
     if pause.has_given_up() {
         tell_given_up(rt, options.give_up);
     }
     Ok(status)
 }
 
-/// Prints the documents of how the keys stand, if it is known. Says how the program ends.
+/// Prints the status of the keys in this form, if it is known. Says how the program ends.
 fn print_looked(
-    rt: &HostRuntime,
+    log: &ExchangeLog<'_>,
+    format: Format,
     keys: &[Key],
     looked: Result<Vec<Looked>, NoMemory>,
-) -> ExitStatus {
-    let mut documents = Vec::new(rt.alloc());
-    let made = match looked {
-        Ok(lookeds) => push_look(rt.alloc(), keys, lookeds.as_slice(), &mut documents),
-        Err(NoMemory) => Err(NoMemory),
+) -> Result<ExitStatus, Trouble> {
+    let rt = log.rt();
+    let mut text = Vec::new(rt.alloc());
+    match format {
+        Format::Json => {
+            let made = match looked {
+                Ok(lookeds) => push_look(rt.alloc(), keys, lookeds.as_slice(), &mut text),
+                Err(NoMemory) => Err(NoMemory),
+            };
+            Ok(print_documents(rt, made, text.as_slice()))
+        }
+        Format::Text => {
+            let mut writer = BufWriter::new(rt.alloc(), standard_output(rt))?;
+            let made = match looked {
+                Ok(lookeds) => push_looked(rt.alloc(), keys, lookeds.as_slice(), &mut text),
+                Err(NoMemory) => Err(NoMemory),
+            };
+            let ended = printed(made, text.as_slice(), &mut writer);
+            Ok(finished(ended, &mut writer))
+        }
+    }
+}
+
+/// Prints a text that was made, and says whether something in it is refused.
+///
+/// # Errors
+/// If memory ran out, or the printer fails.
+pub(crate) fn printed<P: Printer>(
+    made: Result<bool, NoMemory>,
+    text: &[u8],
+    printer: &mut P,
+) -> Result<bool, CommandFault> {
+    match made {
+        Ok(is_refused) => {
+            printer.print(text)?;
+            Ok(is_refused)
+        }
+        Err(NoMemory) => Err(CommandFault::NoMemory),
+    }
+}
+
+/// How many keys have which status.
+fn counts_of(keys: &[Key], lookeds: &[Looked]) -> LookCounts {
+    let mut counts = LookCounts {
+        finished: 0,
+        working: 0,
+        conflict: 0,
+        not_told: 0,
     };
-    print_documents(rt, made, documents.as_slice())
+    for (key, looked) in keys.iter().zip(lookeds) {
+        let count = match looked.known.verdict(key) {
+            Verdict::Finished => &mut counts.finished,
+            Verdict::Conflict(_) => &mut counts.conflict,
+            Verdict::Working if looked.is_told() => &mut counts.working,
+            Verdict::Working => &mut counts.not_told,
+        };
+        *count = count.saturating_add(1);
+    }
+    counts
 }
 
 /// A mark that no look had before: random bytes of the system.
 ///
 /// # Errors
-/// Where the system gives none.
-fn new_mark(rt: &HostRuntime) -> Result<[u8; MARK_BYTES], Trouble> {
+/// If the system gives none.
+pub(crate) fn new_mark(rt: &HostRuntime) -> Result<[u8; MARK_BYTES], Trouble> {
     let mut mark = [0; MARK_BYTES];
     match rt.fill_bytes(&mut mark) {
         Ok(()) => Ok(mark),
@@ -117,7 +182,7 @@ fn new_mark(rt: &HostRuntime) -> Result<[u8; MARK_BYTES], Trouble> {
     }
 }
 
-/// Tells on standard error that the look was given up.
-fn tell_given_up(rt: &HostRuntime, seconds: u64) {
+/// Reports on standard error that the look was given up.
+pub(crate) fn tell_given_up(rt: &HostRuntime, seconds: u64) {
     let _ = rt.eprintln(format_args!("gave up: no answer came for {seconds} s"));
 }

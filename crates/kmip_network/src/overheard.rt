@@ -47,8 +47,11 @@ impl<'a> Overheard<'a> {
             return;
         }
         let exchange = self.take();
-        let reply = Ok(Some(exchange.reply.as_slice()));
-        tell_exchange(self.rt, exchange.request.as_slice(), reply);
+        tell_exchange(
+            self.rt,
+            exchange.request.as_slice(),
+            exchange.reply.as_slice(),
+        );
     }
 
     /// Takes the exchange, and leaves an empty one.

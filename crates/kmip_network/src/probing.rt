@@ -2,6 +2,7 @@
 
 use crate::linking::{loopback, tcp_link, unix_link};
 use crate::watcher::Watcher;
+use kmip_account::ExchangeLog;
 use kmip_choices::{Format, Peer, ProbeOptions};
 use kmip_json::JsonLines;
 use kmip_message_commands::{CommandFault, ExitStatus};
@@ -20,28 +21,30 @@ use std::time::Duration;
 /// What ends it before anything is asked.
 pub fn probe_server(rt: &HostRuntime, options: &ProbeOptions) -> Result<ExitStatus, Trouble> {
     let limit = Duration::from_secs(options.timeout);
+    let log = ExchangeLog::new(rt, &options.peer, options.timeout, 0, options.is_verbose)?;
     match &options.peer {
         Peer::Tcp(address) => {
-            let mut link = tcp_link(rt, *address, limit, None);
+            let mut link = tcp_link(&log, *address, limit);
             link.hold_none();
-            probe_over(rt, options, link)
+            probe_over(&log, options, link)
         }
         Peer::Unix(path) => {
-            let mut link = unix_link(rt, path.as_str(), limit, None)?;
+            let mut link = unix_link(&log, path.as_str(), limit)?;
             link.hold_none();
-            probe_over(rt, options, link)
+            probe_over(&log, options, link)
         }
-        Peer::Loopback => probe_over(rt, options, loopback(rt, limit)?),
+        Peer::Loopback => probe_over(&log, options, loopback(rt, limit)?),
     }
 }
 
-/// Asks the server over this link. Each message that is sent is told, if it is to be.
+/// Asks the server over this link. Each exchange is reported, if it is to be.
 fn probe_over<L: Link + Drop>(
-    rt: &HostRuntime,
+    log: &ExchangeLog<'_>,
     options: &ProbeOptions,
     link: L,
 ) -> Result<ExitStatus, Trouble> {
-    let mut link = Observed::new(link, Watcher::new(rt, options.is_verbose));
+    let rt = log.rt();
+    let mut link = Observed::new(link, Watcher::new(log));
     let mut writer = BufWriter::new(rt.alloc(), standard_output(rt))?;
     let prefix = options.prefix.as_str();
     match options.format {

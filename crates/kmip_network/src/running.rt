@@ -4,6 +4,7 @@ ghost use Rattle.kmip_messages.specs.Members.{may_have};
 
 use crate::ending::push_end;
 use crate::linking::{loopback, tcp_link, unix_link};
+use crate::refreshing::{Refreshing, run_after_look};
 use kmip_account::{Account, Findings, Teller, Watch};
 use kmip_choices::{Format, Peer, RunOptions};
 use kmip_files::ProgressFile;
@@ -11,7 +12,8 @@ use kmip_message_commands::ExitStatus;
 use kmip_plan_commands::{RunInput, batch_of, run_to_end};
 use kmip_protocol::Link;
 use kmip_run_files::{
-    MachineKeeper, MetricsFile, PlanFile, locked, plan_at, progress_to_begin_with,
+    MachineKeeper, MetricsFile, PlanFile, Start, check_progress, locked, plan_at,
+    progress_to_begin_with,
 };
 use kmip_runs::Observed;
 use kmip_trouble::{Trouble, print_documents, standard_output};
@@ -20,8 +22,9 @@ use std::alloc::Global;
 use std::io::BufWriter;
 use std::time::Duration;
 
-/// The command `run`: the plan is read first, then the lock is taken, the progress read, and then the
-/// server asked by `kmip_plan_commands::run_to_end`.
+/// The command `run`: the plan is read first, and the progress is checked. Then the lock is taken, the progress is
+/// read, and the server is asked by `kmip_plan_commands::run_to_end`, or by `kmip_refresh::run_refreshed` if it is
+/// asked about the progress first.
 ///
 /// No clause says that the link over sockets is honest, or that this machine's disk keeps the rules of one.
 /// Both are premises.
@@ -30,33 +33,29 @@ use std::time::Duration;
 /// What ends it before anything is asked.
 pub fn run_plan(rt: &HostRuntime, options: &RunOptions) -> Result<ExitStatus, Trouble> {
     let plan = plan_at(rt, options.plan.as_str())?;
+    check_progress(rt, options, &plan)?;
     let (progress, lock) = locked(rt, options.progress.as_str(), options.lock_wait)?;
     let status = run_on(rt, options, &plan, progress);
     drop(lock);
     status
 }
 
-/// Carries out the plan, with what is kept in the progress file.
+/// Carries out the plan, with what the progress file says.
 fn run_on(
     rt: &HostRuntime,
     options: &RunOptions,
     plan: &PlanFile,
     progress: ProgressFile<'_, HostRuntime>,
 ) -> Result<ExitStatus, Trouble> {
-    let saved = progress_to_begin_with(rt, options, plan, &progress)?;
-    let saved = match &saved {
-        Some(text) => Some(text.as_str()),
-        None => None,
-    };
+    let start = progress_to_begin_with(rt, options, plan, &progress)?;
     let account = Account::new(rt, options, &plan.plan)?;
-    let mut findings = Findings::new(rt.alloc(), &plan.plan, saved)?;
+    let mut findings = Findings::new(rt.alloc(), &plan.plan, start.saved())?;
     let metrics = MetricsFile::of(rt, options, plan);
     if let Some(metrics) = &metrics {
         metrics.begin(&account, &findings);
     }
-    account.show_start(saved);
-    let mut keeper = MachineKeeper::of(&progress, &account, saved.is_none());
-    let status = run_with(rt, options, saved, &mut keeper, &mut findings);
+    let mut keeper = MachineKeeper::of(&progress, &account, start.saved().is_none());
+    let status = run_with(options, &start, &mut keeper, &mut findings);
     if let Some(metrics) = &metrics {
         metrics.end(&account, &findings, matches!(status, Ok(ExitStatus::Done)));
     }
@@ -65,34 +64,33 @@ fn run_on(
 
 /// Carries out the plan over the link to the server that was named.
 fn run_with(
-    rt: &HostRuntime,
     options: &RunOptions,
-    saved: Option<&str>,
+    start: &Start<'_>,
     keeper: &mut MachineKeeper<'_>,
     findings: &mut Findings,
 ) -> Result<ExitStatus, Trouble> {
+    let account = keeper.account();
     let limit = Duration::from_secs(options.timeout);
     match &options.peer {
         Peer::Tcp(address) => {
-            let link = tcp_link(rt, *address, limit, Some(keeper.account().wire()));
-            run_over(rt, options, saved, keeper, findings, link)
+            let link = tcp_link(account.log(), *address, limit);
+            run_over(options, start, keeper, findings, link)
         }
         Peer::Unix(path) => {
-            let link = unix_link(rt, path.as_str(), limit, Some(keeper.account().wire()))?;
-            run_over(rt, options, saved, keeper, findings, link)
+            let link = unix_link(account.log(), path.as_str(), limit)?;
+            run_over(options, start, keeper, findings, link)
         }
         Peer::Loopback => {
-            let link = loopback(rt, limit)?;
-            run_over(rt, options, saved, keeper, findings, link)
+            let link = loopback(account.rt(), limit)?;
+            run_over(options, start, keeper, findings, link)
         }
     }
 }
 
-/// Carries out the plan over this link.
+/// Carries out the plan over this link, if need be after a look at what the progress knows.
 fn run_over<L: Link + Drop>(
-    rt: &HostRuntime,
     options: &RunOptions,
-    saved: Option<&str>,
+    start: &Start<'_>,
     keeper: &mut MachineKeeper<'_>,
     findings: &mut Findings,
     link: L,
@@ -104,17 +102,23 @@ fn run_over<L: Link + Drop>(
         batch: batch_of(options.batch),
     };
     let account = keeper.account();
+    if let Some(count) = start.looked_at() {
+        let refreshing = Refreshing {
+            options,
+            start,
+            count,
+            account,
+        };
+        return run_after_look(&refreshing, &input, keeper, findings, link);
+    }
+    account.show_start(start.saved());
     let mut link = Observed::new(link, Teller::new(account));
     let mut watch = Watch::new(account, findings, first_wait(options), options.give_up);
     let status = match options.format {
-        Format::Text => run_in_text(&input, saved, &mut link, keeper, &mut watch)?,
-        Format::Json => run_in_json(&input, saved, &mut link, keeper, &mut watch),
+        Format::Text => run_in_text(&input, start.saved(), &mut link, keeper, &mut watch)?,
+        Format::Json => run_in_json(&input, start.saved(), &mut link, keeper, &mut watch),
     };
-    let has_given_up = watch.has_given_up();
-    let findings = watch.findings();
-    if keeper.refusals() == 0 && !matches!(status, ExitStatus::Failed(_)) {
-        tell_end(account, findings, has_given_up);
-    }
+    tell_end(account, keeper, &mut watch, status);
     Ok(status)
 }
 
@@ -170,18 +174,27 @@ fn run_in_json<L: Link>(
     print_documents(rt, made, documents.as_slice())
 }
 
-/// Tells why keys are not finished, and that the run was given up, where it was. What there is no memory
-/// for is not told.
-fn tell_end(account: &Account<'_>, findings: &Findings, has_given_up: bool) {
-    let _ = account.tell_unfinished(findings);
+/// Reports why keys are not finished, and that the run was given up, if it was. Nothing if the progress could not
+/// be saved, or the run failed. What there is no memory for is not reported.
+pub(crate) fn tell_end(
+    account: &Account<'_>,
+    keeper: &MachineKeeper<'_>,
+    watch: &mut Watch<'_>,
+    status: ExitStatus,
+) {
+    if keeper.refusals() > 0 || matches!(status, ExitStatus::Failed(_)) {
+        return;
+    }
+    let has_given_up = watch.has_given_up();
+    let _ = account.tell_unfinished(watch.findings());
     if has_given_up {
         account.tell_given_up();
     }
 }
 
-/// How long the run waits first where it does not get on, in milliseconds. A server in this process is not
-/// waited for.
-fn first_wait(options: &RunOptions) -> u64 {
+/// How long the run waits first after an exchange without progress, in milliseconds. It does not wait for a server
+/// in this process.
+pub(crate) fn first_wait(options: &RunOptions) -> u64 {
     match options.peer {
         Peer::Loopback => 0,
         Peer::Tcp(_) | Peer::Unix(_) => options.wait,

@@ -125,7 +125,9 @@ fn told_failures<W: Write>(
     tell_why(rt, SocketAddrV4::new(Ipv4Addr::LOCALHOST, port), error);
     write_line(
         writer,
-        format_args!("cannot accept a connection on port {port}: {MOST_FAILURES} failures in turn"),
+        format_args!(
+            "cannot accept a connection on port {port}: {MOST_FAILURES} failures in a row"
+        ),
     )?;
     Ok(ExitStatus::Refused)
 }

@@ -5,7 +5,7 @@ use crate::plan_schema::PLAN_SCHEMA;
 use crate::simulating::simulate_in_json;
 use kmip_choices::{Choice, Detail, Format, Shell};
 use kmip_command_line::completions;
-use kmip_explaining::{tell_prolonging, tell_refusal};
+use kmip_explaining::{tell_prolonging, tell_refusal, warn_of_usages};
 use kmip_message_commands::{ExitStatus, Form, run_answer, run_answer_stream, run_show};
 use kmip_network::{look_at_server, probe_server, run_plan, serve};
 use kmip_plan_commands::{
@@ -113,8 +113,10 @@ fn check_plan(rt: &HostRuntime, path: &str, format: Format) -> Result<ExitStatus
             print_documents(rt, made, documents.as_slice())
         }
     };
-    if status == ExitStatus::Refused {
-        tell_refusal(rt, plan_name(path), plan.as_str());
+    match status {
+        ExitStatus::Refused => tell_refusal(rt, plan_name(path), plan.as_str()),
+        ExitStatus::Done => warn_of_usages(rt, plan_name(path), plan.as_str())?,
+        ExitStatus::Usage | ExitStatus::Failed(_) => {}
     }
     Ok(status)
 }
@@ -127,7 +129,7 @@ fn check_plan_after(
     format: Format,
 ) -> Result<ExitStatus, Trouble> {
     let PlanFile { text, plan } = plan_at(rt, path)?;
-    let earlier = text_at(rt, earlier_path)?;
+    let earlier = plan_text_at(rt, earlier_path)?;
     let status = match format {
         Format::Text => {
             let mut writer = BufWriter::new(rt.alloc(), standard_output(rt))?;
@@ -140,8 +142,8 @@ fn check_plan_after(
         }
     };
     if status == ExitStatus::Refused {
-        let name = plan_name(path);
-        tell_prolonging(rt, name, text.as_str(), earlier_path, earlier.as_str());
+        let (name, earlier_name) = (plan_name(path), plan_name(earlier_path));
+        tell_prolonging(rt, name, text.as_str(), earlier_name, earlier.as_str());
     }
     Ok(status)
 }

@@ -17,6 +17,9 @@ use std::{env, io};
 /// The option by which what came of a command is printed in JSON.
 const JSON_OPTION: &str = "--json";
 
+/// The option by which a run prints identifiers in its text.
+const IDENTIFIERS_OPTION: &str = "--identifiers";
+
 /// Runs the program: reads its command line and its environment, does what they ask for over standard
 /// streams, files and sockets, and returns the code to end with. Results, faults, help and usage faults
 /// are printed on standard output.
@@ -69,7 +72,7 @@ fn run_choice(rt: &HostRuntime, choice: Choice) -> ExitStatus {
 /// In which form want of memory is told before it is known what the words ask for: by whether one of
 /// them is the option for JSON.
 fn format_among(words: &[String]) -> Format {
-    if words.iter().any(|word| word.as_str() == JSON_OPTION) {
+    if has_word(words, JSON_OPTION) {
         Format::Json
     } else {
         Format::Text
@@ -107,9 +110,22 @@ fn print_unchosen(
     }
     if status == ExitStatus::Usage {
         tell_address(rt, words, environment);
+        tell_identifiers(rt, words);
     }
     rt.print(text)?;
     Ok(())
+}
+
+/// Says on standard error that JSON has the identifiers, if a wrong command line asks for both.
+fn tell_identifiers(rt: &HostRuntime, words: &[String]) {
+    if has_word(words, JSON_OPTION) && has_word(words, IDENTIFIERS_OPTION) {
+        let _ = rt.eprintln("--json prints the identifiers too: leave out --identifiers");
+    }
+}
+
+/// Whether one of the words is this one.
+fn has_word(words: &[String], wanted: &str) -> bool {
+    words.iter().any(|word| word.as_str() == wanted)
 }
 
 /// Tells on standard error what is wrong with the address among the words of a wrong command line, or

@@ -20,13 +20,16 @@ enum Instead {
     Name,
     Version6,
     NoPort,
+    PortZero,
     SomethingElse,
 }
 
 impl Instead {
     /// What this value has.
     fn of(value: &str) -> Instead {
-        if value.starts_with('[') || value.parse::<Ipv6Addr>().is_ok() {
+        if value.parse::<SocketAddrV4>().is_ok() {
+            Instead::PortZero
+        } else if value.starts_with('[') || value.parse::<Ipv6Addr>().is_ok() {
             Instead::Version6
         } else if value.parse::<Ipv4Addr>().is_ok() {
             Instead::NoPort
@@ -45,6 +48,7 @@ impl Instead {
                 "is of IPv6: give the server's IPv4 address, or name a tunnel's --socket"
             }
             Instead::NoPort => "has no port: add one, as :5696",
+            Instead::PortZero => "has the port 0: give the server's port, as 5696",
             Instead::SomethingElse => "is no such address",
         }
     }
@@ -87,8 +91,8 @@ impl<'a> WrongAddress<'a> {
     /// This value, where it is wrong.
     fn of(name: &'static str, value: &'a str) -> Option<Self> {
         match value.parse::<SocketAddrV4>() {
-            Ok(_) => None,
-            Err(_) => Some(WrongAddress { name, value }),
+            Ok(address) if address.port() > 0 => None,
+            Ok(_) | Err(_) => Some(WrongAddress { name, value }),
         }
     }
 }

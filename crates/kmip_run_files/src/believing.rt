@@ -1,32 +1,36 @@
-//! Whether a progress is believed: not at another server than it was kept against, nor for other keys.
+//! Which progress a run begins with: not one of another server, nor of other keys.
 
 use crate::kept::Kept;
 use crate::origin::server_of;
 use crate::plan_file::PlanFile;
+use crate::recalling::progress_file_at;
+use crate::start::Start;
 use kmip_choices::{RunOptions, Trust};
 use kmip_client::Client;
-use kmip_files::ProgressFile;
+use kmip_explaining::RefusedProgress;
+use kmip_files::{MOST_PROGRESS_BYTES, ProgressFile};
 use kmip_plan::{Step, chain};
 use kmip_plan_commands::begin;
-use kmip_trouble::Trouble;
+use kmip_progress::ProgressFault;
+use kmip_trouble::{Obstacle, Trouble, plan_name};
+use kmip_ttlv::NoMemory;
 
-/// The text of the progress that a run begins with, none where it begins from nothing.
+/// What a run begins with: the text of its progress, or nothing.
 ///
-/// Once the run is to ask anything, it is on the disk against which server the file is kept, when, and
-/// with which attributes.
+/// If the run is to ask the server about the progress first, PATH.origin is written once the server agrees.
+/// Otherwise it is written here, unless the run sends nothing.
 ///
 /// # Errors
 /// Why it is not to begin.
-pub fn progress_to_begin_with(
-    rt: &HostRuntime,
-    options: &RunOptions,
-    file: &PlanFile,
-    progress: &ProgressFile<'_, HostRuntime>,
-) -> Result<Option<String>, Trouble> {
+pub fn progress_to_begin_with<'a>(
+    rt: &'a HostRuntime,
+    options: &'a RunOptions,
+    file: &'a PlanFile,
+    progress: &'a ProgressFile<'a, HostRuntime>,
+) -> Result<Start<'a>, Trouble> {
     let kept = Kept {
         rt,
         options,
-        text: file.text.as_str(),
         plan: &file.plan,
         file: progress,
         server: server_of(rt, &options.peer)?,
@@ -35,6 +39,50 @@ pub fn progress_to_begin_with(
         Trust::Afresh => kept.afresh(),
         Trust::Believe | Trust::Checked => kept.begun(),
     }
+}
+
+/// Checks that the progress file of a run can be read, and is one of the plan, before it is locked: no lock is left
+/// next to a file that is refused. A run with `--afresh` does not read it.
+///
+/// # Errors
+/// Why the file is refused, which is explained on standard error.
+pub fn check_progress(
+    rt: &HostRuntime,
+    options: &RunOptions,
+    file: &PlanFile,
+) -> Result<(), Trouble> {
+    if options.trust == Trust::Afresh {
+        return Ok(());
+    }
+    let path = options.progress.as_str();
+    let Some(text) = read_progress(rt, &progress_file_at(rt, path)?)? else {
+        return Ok(());
+    };
+    match begin(rt.alloc(), &file.plan, Some(text.as_str())) {
+        Ok(_client) => Ok(()),
+        Err(ProgressFault::NoMemory) => Err(Trouble::from(NoMemory)),
+        Err(fault) => {
+            let refused = RefusedProgress {
+                plan_path: plan_name(options.plan.as_str()),
+                plan: file.text.as_str(),
+                path,
+                text: text.as_str(),
+            };
+            refused.explain(rt);
+            Err(Trouble::from(Obstacle::NoProgress(fault)))
+        }
+    }
+}
+
+/// The text of a progress file; none if there is no file.
+///
+/// # Errors
+/// Why it cannot be read.
+pub(crate) fn read_progress(
+    rt: &HostRuntime,
+    file: &ProgressFile<'_, HostRuntime>,
+) -> Result<Option<String>, Trouble> {
+    file.read().map_err(|error| Trouble::unread(rt, file.given_path(), MOST_PROGRESS_BYTES, error))
 }
 
 /// The name of a key that is known to be destroyed, if there is one.
@@ -49,13 +97,14 @@ pub(crate) fn destroyed_key<'c>(client: &'c Client<'_>) -> Option<&'c str> {
     None
 }
 
-/// Whether an object of some key is known.
-pub(crate) fn knows_anything(client: &Client<'_>) -> bool {
+/// Of how many keys an object is known.
+pub(crate) fn known_count(client: &Client<'_>) -> usize {
     let count = client.plan().count();
+    let mut known = 0usize;
     for place in 0..count {
         if client.identifier(place).is_some() {
-            return true;
+            known = known.saturating_add(1);
         }
     }
-    false
+    known
 }

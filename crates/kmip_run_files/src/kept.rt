@@ -1,16 +1,16 @@
 //! What a run has of its progress.
 
-use crate::believing::{destroyed_key, knows_anything};
+use crate::believing::{destroyed_key, known_count, read_progress};
 use crate::origin::{Origin, server_text};
 use crate::recalling::{judge_attributes, origin_of};
-use kmip_choices::{RunOptions, Trust};
+use crate::start::Start;
+use kmip_choices::{Peer, RunOptions, Trust};
 use kmip_client::Client;
-use kmip_explaining::RefusedProgress;
-use kmip_files::{MOST_PROGRESS_BYTES, ProgressFile};
+use kmip_files::ProgressFile;
 use kmip_plan::Plan;
 use kmip_plan_commands::begin;
 use kmip_progress::ProgressFault;
-use kmip_trouble::{AnotherServer, Cannot, Obstacle, Trouble, plan_name};
+use kmip_trouble::{AnotherServer, Cannot, Obstacle, Trouble};
 use kmip_ttlv::NoMemory;
 use std::alloc::AllocError;
 use std::io::{self, Error};
@@ -20,8 +20,6 @@ use std::io::{self, Error};
 pub(crate) struct Kept<'a> {
     pub(crate) rt: &'a HostRuntime,
     pub(crate) options: &'a RunOptions,
-    /// The text of the plan.
-    pub(crate) text: &'a str,
     pub(crate) plan: &'a Plan,
     pub(crate) file: &'a ProgressFile<'a, HostRuntime>,
     /// The server of this run.
@@ -30,7 +28,7 @@ pub(crate) struct Kept<'a> {
 
 impl<'a> Kept<'a> {
     /// From nothing: the file is put aside first.
-    pub(crate) fn afresh(&self) -> Result<Option<String>, Trouble> {
+    pub(crate) fn afresh(self) -> Result<Start<'a>, Trouble> {
         if let Err(error) = self.file.put_aside() {
             let before = self.file.before_path()?;
             return Err(self.unwritten(before, error));
@@ -38,65 +36,63 @@ impl<'a> Kept<'a> {
         self.begins(None)
     }
 
-    /// From what the file says, unless it was kept elsewhere or for other keys.
-    pub(crate) fn begun(&self) -> Result<Option<String>, Trouble> {
-        let path = self.options.progress.as_str();
-        let saved = self.file.read().map_err(|error| Trouble::unread(
-            self.rt,
-            path,
-            MOST_PROGRESS_BYTES,
-            error,
-        ))?;
-        let Some(text) = &saved else {
+    /// From what the file says, unless it was saved elsewhere or for other keys.
+    pub(crate) fn begun(self) -> Result<Start<'a>, Trouble> {
+        let Some(text) = read_progress(self.rt, self.file)? else {
             return self.begins(None);
         };
         let client = match begin(self.rt.alloc(), self.plan, Some(text.as_str())) {
             Ok(client) => client,
             Err(ProgressFault::NoMemory) => return Err(Trouble::from(NoMemory)),
-            Err(_) => {
-                self.explain(text.as_str());
-                return Ok(saved); // the run refuses it
-            }
+            Err(_) => return Ok(self.start(Some(text), None)), // the run refuses it
         };
         let origin = origin_of(self.file, self.options.trust == Trust::Believe)?;
         self.judge(origin.as_ref(), &client)?;
+        let known = known_count(&client);
+        if known > 0 && self.is_to_refresh(origin.is_some()) {
+            return Ok(self.start(Some(text), Some(known)));
+        }
         if client.working() > 0 {
-            return self.begins(saved);
+            return self.begins(Some(text));
         }
-        self.tell_all_finished(origin.as_ref())?;
-        match self.options.trust {
-            Trust::Believe => self.noted(saved, origin.as_ref()),
-            Trust::Checked | Trust::Afresh => Ok(saved),
+        self.tell_not_asked(origin.as_ref())?;
+        Ok(self.start(Some(text), None))
+    }
+
+    /// Whether the server is asked about what the file knows, before the run. It is if that was asked for, or if
+    /// nothing says which server the file is of. A run that may make no exchange asks nothing.
+    fn is_to_refresh(&self, has_origin: bool) -> bool {
+        let is_rehearsal = matches!(self.options.peer, Peer::Loopback);
+        let is_unknown = !has_origin && !is_rehearsal;
+        self.options.limit > 0 && (self.options.is_refreshed || is_unknown)
+    }
+
+    /// The start of a run with this text, which first looks at this number of keys, if it looks.
+    fn start(self, saved: Option<String>, looked_at: Option<usize>) -> Start<'a> {
+        Start {
+            kept: self,
+            saved,
+            looked_at,
         }
     }
 
-    /// Prints on standard error why the file is refused.
-    fn explain(&self, saved: &str) {
-        let refused = RefusedProgress {
-            plan_path: plan_name(self.options.plan.as_str()),
-            plan: self.text,
-            path: self.options.progress.as_str(),
-            text: saved,
-        };
-        refused.explain(self.rt);
-    }
-
-    /// Whether the file was kept against this server, unless it knows nothing, and for these attributes.
+    /// Checks that the file was saved against this server, unless it knows nothing, and for these attributes.
     ///
     /// # Errors
-    /// Where it was not.
+    /// If it was not. `--believe` lets it be of another server, but not of a rehearsal.
     fn judge(&self, origin: Option<&Origin>, client: &Client<'_>) -> Result<(), Trouble> {
         let Some(origin) = origin else {
             return Ok(());
         };
-        let is_here = self.options.trust == Trust::Believe || origin.is_of(self.server.as_str());
-        if !is_here && knows_anything(client) {
+        let is_believed = self.options.trust == Trust::Believe && !origin.is_rehearsal();
+        let is_here = is_believed || origin.is_of(self.server.as_str());
+        if !is_here && known_count(client) > 0 {
             return Err(self.another_server(origin, client)?);
         }
         judge_attributes(self.file, origin, self.plan.keys())
     }
 
-    /// That the file was kept against another server.
+    /// The file was saved against another server.
     pub(crate) fn another_server(
         &self,
         origin: &Origin,
@@ -110,58 +106,64 @@ impl<'a> Kept<'a> {
         Ok(Trouble::from(Obstacle::AnotherServer(AnotherServer {
             path: String::from_str(alloc, self.options.progress.as_str())?,
             before: origin.server_text(alloc)?,
+            is_rehearsal: origin.is_rehearsal(),
             now: server_text(alloc, self.server.as_str())?,
             destroyed,
         })))
     }
 
-    /// Tells that all keys are finished by the file alone, as a run asks nothing then.
-    fn tell_all_finished(&self, origin: Option<&Origin>) -> io::Result<()> {
-        let (rt, path) = (self.rt, self.options.progress.as_str());
-        let count = self.plan.count();
-        let kept = match origin {
-            Some(origin) => self.kept_text(origin)?,
-            None => String::new(rt.alloc()),
+    /// Says that the server is not asked, as all keys are finished by the file.
+    fn tell_not_asked(&self, origin: Option<&Origin>) -> io::Result<()> {
+        let alloc = self.rt.alloc();
+        let path = self.options.progress.as_str();
+        let from = match origin {
+            Some(origin) => self.origin_text(origin)?,
+            None => String::new(alloc),
         };
-        let _ = rt.eprintln(format_args!(
-            "{count} of {count} finished by {path} alone{kept}; --afresh looks"
+        let keys = match self.plan.count() {
+            1 => String::from_str(alloc, "the key is finished")?,
+            count => format!(in alloc; "all {count} keys are finished")?,
+        };
+        let _ = self.rt.eprintln(format_args!(
+            "the server was not asked: {path}{from} says that {keys}; kmipctl look asks the server"
         ));
         Ok(())
     }
 
-    /// When and against which server the file was kept, as `, kept 3 days ago against 192.0.2.7:5696`.
-    fn kept_text(&self, origin: &Origin) -> io::Result<String> {
+    /// Against which server and when the file was saved, as ` (192.0.2.7:5696, 3 days ago)`.
+    fn origin_text(&self, origin: &Origin) -> io::Result<String> {
         let alloc = self.rt.alloc();
         let server = origin.server_text(alloc)?;
         let text = match origin.age_text(self.rt)? {
-            Some(age) => format!(in alloc; ", kept {age} against {server}")?,
-            None => format!(in alloc; ", kept against {server}")?,
+            Some(age) => format!(in alloc; " ({server}, {age})")?,
+            None => format!(in alloc; " ({server})")?,
         };
         Ok(text)
     }
 
-    /// Begins with this text, once it is on the disk where the file is kept. A run that may make no exchange
-    /// keeps nothing.
-    fn begins(&self, saved: Option<String>) -> Result<Option<String>, Trouble> {
-        if self.options.limit == 0 {
-            return Ok(saved);
+    /// Begins with this text, once PATH.origin says that the file is of this server. A run that may make no
+    /// exchange writes nothing.
+    fn begins(self, saved: Option<String>) -> Result<Start<'a>, Trouble> {
+        if self.options.limit > 0 {
+            self.note_origin()?;
         }
-        self.noted(saved, None)
+        Ok(self.start(saved, None))
     }
 
-    /// Gives this text, once it is on the disk that the file is kept against this server: since now, or
-    /// since this origin says.
-    fn noted(
-        &self,
-        saved: Option<String>,
-        before: Option<&Origin>,
-    ) -> Result<Option<String>, Trouble> {
-        let text = Origin::text(self.rt, self.server.as_str(), before, self.plan.keys())?;
+    /// Writes PATH.origin: the file is of this server since now, and of these keys.
+    pub(crate) fn note_origin(&self) -> Result<(), Trouble> {
+        let text = Origin::text(self.rt, self.server.as_str(), self.plan.keys())?;
         if let Err(error) = self.file.write_origin(text.as_bytes()) {
             let origin = self.file.origin_path()?;
             return Err(self.unwritten(origin, error));
         }
-        Ok(saved)
+        Ok(())
+    }
+
+    /// The server of this run, as messages name it.
+    pub(crate) fn server_text(&self) -> Result<String, Trouble> {
+        let text = server_text(self.rt.alloc(), self.server.as_str())?;
+        Ok(text)
     }
 
     /// A file next to the progress could not be written.

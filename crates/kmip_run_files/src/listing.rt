@@ -82,7 +82,7 @@ fn told_origin(file: &ProgressFile<'_, HostRuntime>, plan: &PlanFile) -> Result<
         }
         Known::Nothing => {
             let path = file.given_path();
-            let line = format!(in rt.alloc(); "against which server {path} was kept is not known")?;
+            let line = format!(in rt.alloc(); "the server of {path} is not known")?;
             Ok(line)
         }
         Known::Unreadable(why) => Ok(why),

@@ -1,5 +1,6 @@
 //! Where, when and for which keys a progress was kept: the text of a file beside it.
 
+use kmip_account::usage_words;
 use kmip_choices::Peer;
 use kmip_plan::{Key, algorithm_word};
 use kmip_ttlv::{NoMemory, plain_text};
@@ -12,6 +13,9 @@ const HEAD: &str = "kmipctl origin 1";
 
 /// The server of a run with `--loopback`, as it stands in the text.
 const LOOPBACK: &str = "loopback";
+
+/// The field of a key whose attribute is a mask.
+const USAGE: &str = "usage";
 
 const MINUTE: u64 = 60;
 
@@ -57,20 +61,12 @@ impl Origin {
         Ok(Some(Origin { server, kept, keys }))
     }
 
-    /// The text of an origin: this server, the time of the origin before or else now, and these keys.
+    /// The text of an origin: this server, the time now, and these keys.
     ///
     /// # Errors
     /// Where there is no memory, or no clock.
-    pub(crate) fn text(
-        rt: &HostRuntime,
-        server: &str,
-        before: Option<&Origin>,
-        keys: &[Key],
-    ) -> io::Result<String> {
-        let kept = match before {
-            Some(before) => before.kept,
-            None => now(rt)?,
-        };
+    pub(crate) fn text(rt: &HostRuntime, server: &str, keys: &[Key]) -> io::Result<String> {
+        let kept = now(rt)?;
         let mut text = format!(in rt.alloc(); "{HEAD}\nserver {server}\nkept {kept}\n")?;
         for key in keys {
             let words = key_words(rt.alloc(), key)?;
@@ -81,7 +77,12 @@ impl Origin {
         Ok(text)
     }
 
-    /// Whether the progress was kept against this server. No server of a run with `--loopback` is that
+    /// Whether a run with `--loopback` saved the progress, whose server is gone.
+    pub(crate) fn is_rehearsal(&self) -> bool {
+        self.server.as_str() == LOOPBACK
+    }
+
+    /// Whether the progress was saved against this server. No server of a run with `--loopback` is that
     /// of another run.
     pub(crate) fn is_of(&self, server: &str) -> bool {
         self.server.as_str() == server && server != LOOPBACK
@@ -95,18 +96,18 @@ impl Origin {
         server_text(alloc, self.server.as_str())
     }
 
-    /// Against which server and when the progress was kept, as `kept against 192.0.2.7:5696, 3 days ago`.
+    /// Against which server and when the progress was kept, as `saved against 192.0.2.7:5696, 3 days ago`.
     /// What a run with `--loopback` kept is a rehearsal.
     ///
     /// # Errors
     /// Where there is no memory, or no clock.
     pub(crate) fn kept_text(&self, rt: &HostRuntime) -> io::Result<String> {
         let alloc = rt.alloc();
-        let mut text = if self.server.as_str() == LOOPBACK {
-            String::from_str(alloc, "a rehearsal: kept by a run with --loopback")?
+        let mut text = if self.is_rehearsal() {
+            String::from_str(alloc, "a rehearsal: saved by a run with --loopback")?
         } else {
             let server = self.server_text(alloc)?;
-            format!(in alloc; "kept against {server}")?
+            format!(in alloc; "saved against {server}")?
         };
         if let Some(age) = self.age_text(rt)? {
             text.push_str(", ")?;
@@ -124,7 +125,7 @@ impl Origin {
         &self,
         alloc: Global,
         keys: &[Key],
-    ) -> Result<Option<String>, AllocError> {
+    ) -> Result<Option<String>, NoMemory> {
         let mut left = self.keys.as_slice();
         for key in keys {
             let Some((kept, behind)) = left.split_first() else {
@@ -247,22 +248,34 @@ fn key_words(alloc: Global, key: &Key) -> Result<String, AllocError> {
     Ok(words)
 }
 
-/// Which attribute a key has now another of, as `"b": the length is 128, and was 256`; none where it has
-/// none, and where the names differ, which is a fault of the progress itself.
-fn difference_of(alloc: Global, now: &str, kept: &str) -> Result<Option<String>, AllocError> {
+/// Which attribute of a key has changed, as `"b": the length is 128, and was 256`; none if none has, or if the names
+/// differ, which is a fault of the progress itself.
+fn difference_of(alloc: Global, now: &str, kept: &str) -> Result<Option<String>, NoMemory> {
     let mut words = now.split_whitespace();
     let mut others = kept.split_whitespace();
     let name = words.next().unwrap_or("");
     if others.next() != Some(name) {
         return Ok(None);
     }
-    for field in ["algorithm", "length", "usage"] {
+    for field in ["algorithm", "length", USAGE] {
         let word = words.next().unwrap_or("");
         let other = others.next().unwrap_or("");
         if word != other {
-            let told = format!(in alloc; "\"{name}\": the {field} is {word}, and was {other}")?;
+            let (is, was) = (shown(alloc, field, word)?, shown(alloc, field, other)?);
+            let told = format!(in alloc; "\"{name}\": the {field} is {is}, and was {was}")?;
             return Ok(Some(told));
         }
     }
     Ok(None)
+}
+
+/// An attribute as it is shown: a usage mask in words.
+fn shown(alloc: Global, field: &str, word: &str) -> Result<String, NoMemory> {
+    if field == USAGE {
+        if let Ok(mask) = i32::from_str_radix(word, 16) {
+            return usage_words(alloc, mask);
+        }
+    }
+    let text = String::from_str(alloc, word)?;
+    Ok(text)
 }

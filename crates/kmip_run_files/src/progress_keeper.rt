@@ -68,9 +68,14 @@ impl<'a, K: HasFailures> ProgressKeeper<'a, K> {
         }
     }
 
+    /// Reports a failure at the file, or at a folder that is where the next one is written.
     fn report(&self, cannot: Cannot, error: &Error) {
         self.account.end_line();
-        tell_cause(self.file.system(), self.file.given_path(), cannot, error);
+        let rt = self.file.system();
+        match self.file.folder_beside() {
+            Some(folder) => tell_cause(rt, folder, cannot, error),
+            None => tell_cause(rt, self.file.given_path(), cannot, error),
+        }
     }
 }
 

@@ -5,7 +5,7 @@ use Rattle.kmip_objects.specs.Objects.{Object}
 use Rattle.kmip_plan.specs.Chains.{bound}
 use Rattle.kmip_plan.specs.Plans.{IsLawful}
 use Rattle.kmip_plan.specs.declared.key.Key.{Key}
-use Rattle.kmip_client.specs.Clients.{AreSettled, ClientState, one_if}
+use Rattle.kmip_client.specs.Clients.{AreSettled, ClientState}
 use Rattle.kmip_client.specs.Held.{Held}
 use Rattle.kmip_client.specs.Knowledge.{chain_length, clash_verdict, is_working, verdict_of}
 use Rattle.kmip_client.specs.declared.clash.Clash.{Clash}
@@ -25,7 +25,7 @@ use Rattle.kmip_runs.specs.Private.{IsBrokenOff, exchanges_made}
 use Rattle.kmip_runs.specs.Keeping.{Kept, MakesLast}
 use Rattle.kmip_runs.specs.Lasting.{IsTried, KeepsMoments}
 use Rattle.kmip_runs.specs.PrivateCarried.{Carried, CarryingLaws, SavesProgress, Went}
-use Rattle.kmip_runs.specs.PrivateTurns.{MakesTurn}
+use Rattle.kmip_runs.specs.PrivateTurns.{MakesTurn, turn_count}
 use Rattle.kmip_runs.specs.Saved.{AreUnsaved, Grounds, HasMemory, IsInMemory, IsLeft, IsWhole, Situation, grounds_in, moment, text_at}
 use Rattle.kmip_runs.specs.declared.save_fault.SaveFault.{SaveFault}
 use Rattle.kmip_runs.specs.declared.save_fault.SaveFault.TheVariants as faults
@@ -114,8 +114,8 @@ finished_settled objects (key ∷ keys) (known ∷ knowns) held finished = (
 -- ---- one exchange
 
 -- what a turn promises in which memory did not run out, whether it asked or not
-pub took : (a b : Situation) (result : Result Stop SaveFault) (asked : Bool) (follows : Type 0) → IsInMemory result
-    → MakesTurn a.link a.client (Ok asked) b.link b.client follows → Went a b result (one_if asked)
+pub took : (a b : Situation) (result : Result Stop SaveFault) (asked : Option ℕ) (follows : Type 0) → IsInMemory result
+    → MakesTurn a.link a.client (Ok asked) b.link b.client follows → Went a b result (turn_count asked)
 took a b result asked follows memory turn = record {
   good = λ good. (turn.well good).good;
   onward = λ good. (turn.well good).onward;

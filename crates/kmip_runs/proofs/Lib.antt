@@ -34,4 +34,5 @@ pub mod WaitLemmas
 pub mod RefusalLemmas
 pub mod PatienceLemmas
 pub mod ForKeepers
-pub mod CrashLemmas
+pub mod CrashedRunLemmas
+pub mod CrashingRunsLemmas

@@ -1,9 +1,10 @@
--- Key by key, whether a run got on.
+-- Key by key, whether a run got on, and how many keys are told.
 use Rattle.std.proofs.Common.{◌≡◌, ◌≢◌, ◌∙◌, ◌<◌, ◌≤◌, ℕ, zero, suc, ◌+◌, List, [], ◌∷◌, Some, false, slice_get, slice_set, refl, sym, ap, subst, inl, inr, arith}
 use Rattle.std.proofs.lemmas.Bool.{cases_lt}
 use Rattle.kmip_plan.specs.declared.key.Key.{Key}
 use Rattle.kmip_client.specs.declared.knowledge.Knowledge.{Knowledge}
-use Rattle.kmip_runs.specs.PrivateSights.{gets_on, sight_at}
+use Rattle.kmip_client.specs.Clients.{is_told_at, one_if}
+use Rattle.kmip_runs.specs.PrivateSights.{gets_on, sight_at, told_before}
 use Rattle.kmip_runs.specs.declared.sight.Sight.{Sight}
 
 set_elsewhere : (sights : List Sight) (place other : ℕ) (next : Sight) → place ≢ other → slice_get (slice_set sights place next) other ≡ slice_get sights other
@@ -35,3 +36,7 @@ nowhere_more keys knowns first place seen here none before p s below is =
           let same : seen ≡ s = same_sight seen s (sym here ∙ sym (ap (λ n. slice_get first n) at) ∙ is) in
           subst (λ n. gets_on s (sight_at keys knowns n) ≡ false) (sym at) (subst (λ v. gets_on v (sight_at keys knowns place) ≡ false) same none)
     ]
+
+-- one place more is counted
+pub told_more : (place : ℕ) (knowns : List Knowledge) → told_before (place + 1) knowns ≡ told_before place knowns + one_if (is_told_at knowns place)
+told_more place knowns = let e : place + 1 ≡ suc place = omega arith in rw e refl

@@ -50,13 +50,13 @@ pub mod CarriesOut
 pub mod Keeping
 -- that a text could not be written
 pub mod Refusals
--- how long a run waits that does not get on
+-- how long a run waits after exchanges that bring nothing
 pub mod Waits
 -- private: what the parts of a run keep
 pub mod PrivateCarried
 -- private: what a turn promises, and the exchange of its message
 pub mod PrivateTurns
--- private: when a run gets on by an exchange
+-- private: what an exchange of a run brings
 pub mod PrivateSights
 -- private: what only the clauses of private functions cite
 pub mod Private

@@ -1,6 +1,6 @@
 -- Private: definitions that only clauses of private functions cite.
 -- Source: own (view): parts of the public definitions of this crate.
-use Rattle.std.specs.Prelude.{◌≡◌, ◌≤◌, ◌<◌, ◌+◌, ℕ, List, [], ◌∷◌, ◌++◌, length, Option, Some, None, Bool, true, false}
+use Rattle.std.specs.Prelude.{◌≡◌, ◌≤◌, ◌<◌, ◌+◌, ℕ, List, [], ◌∷◌, ◌++◌, length, Option, Some, None}
 use Rattle.std.specs.List.{All}
 use Rattle.kmip_plan.specs.declared.key.Key.{Key}
 use Rattle.kmip_client.specs.Asking.{IsAbout, after_ask, next_places, next_question}
@@ -91,10 +91,10 @@ pub record Rests (honest : Type 0) (c next : ClientState) (before after : Past) 
   pub next_is : next ≡ c
   pub past_stays : honest → after ≡ before
 
--- A turn, with a question or with none.
-abbrev pub TakesTurn : Type 0 → Bool → ClientState → ClientState → Past → Past → Type 0
-TakesTurn honest true c next before after = TurnsOnce honest c next before after
-TakesTurn honest false c next before after = Rests honest c next before after
+-- A turn, with a question about this number of keys or with none.
+abbrev pub TakesTurn : Type 0 → Option ℕ → ClientState → ClientState → Past → Past → Type 0
+TakesTurn honest (Some asked) c next before after = TurnsOnce honest c next before after
+TakesTurn honest None c next before after = Rests honest c next before after
 
 -- The next question was asked, and the client learnt that no answer came.
 pub record IsUnanswered (honest : Type 0) (c next : ClientState) (before after : Past) : Type 0 where

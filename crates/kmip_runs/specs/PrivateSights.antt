@@ -1,9 +1,9 @@
--- Private: what a run sees of the keys, and when it gets on by an exchange.
+-- Private: what a run sees of the keys, and what an exchange of it brings.
 -- Source: own (choice): the standard does not say when a client gets on.
-use Rattle.std.specs.Prelude.{◌≡◌, ℕ, Bool, true, false, ◌&&◌, ◌||◌, not, nat_lt, List, Some, slice_get}
+use Rattle.std.specs.Prelude.{◌≡◌, ◌≤◌, ◌+◌, ℕ, zero, suc, length, Bool, true, false, ◌&&◌, ◌||◌, not, nat_lt, List, Some, slice_get}
 use Rattle.std.specs.Option.{is_some}
 use Rattle.kmip_plan.specs.declared.key.Key.{Key}
-use Rattle.kmip_client.specs.Clients.{done_at, identifier_at, is_told_at, verdict_at}
+use Rattle.kmip_client.specs.Clients.{done_at, identifier_at, is_told_at, one_if, verdict_at}
 use Rattle.kmip_client.specs.declared.knowledge.Knowledge.{Knowledge}
 use Rattle.kmip_client.specs.declared.verdict.Verdict.{Verdict}
 use Rattle.kmip_client.specs.declared.verdict.Verdict.TheVariants.{Working, Finished, Conflict}
@@ -53,3 +53,19 @@ pub record GetsOn (keys : List Key) (knowns : List Knowledge) (before : List Sig
 abbrev pub GetsNowhere : List Key → List Knowledge → List Sight → Type 0
 GetsNowhere keys knowns before =
     (place : ℕ) (sight : Sight) → slice_get before place ≡ Some sight → gets_on sight (sight_at keys knowns place) ≡ false
+
+-- The number of keys at the first places whose status the last answer reported.
+abbrev pub told_before : ℕ → List Knowledge → ℕ
+told_before zero knowns = 0
+told_before (suc place) knowns = told_before place knowns + one_if (is_told_at knowns place)
+
+-- The number of keys whose status the last answer reported. The next question about each of them asks for
+-- a step.
+abbrev pub told_count : List Key → List Knowledge → ℕ
+told_count keys knowns = told_before (length keys) knowns
+
+-- Each of the keys that a message asked about, one at least, was answered and has another question. If nothing
+-- has grown, that is so if its answer reports its status, which was not reported before. So the number of
+-- keys whose status is reported rises by the number of keys that were asked about.
+abbrev pub IsEachAnswered : ℕ → ℕ → ℕ → Type 0
+IsEachAnswered asked before now = (1 ≤ asked) × (now ≡ before + asked)

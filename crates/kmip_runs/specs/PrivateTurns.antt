@@ -1,7 +1,8 @@
 -- Private: what a turn promises, and the exchange of its message.
 -- Source: own (view).
-use Rattle.std.specs.Prelude.{Bool, IfErr, IfOk, IsOk, None, OnErr, OnOk, Result, false, ℕ, ◌++◌, ◌≡◌}
-use Rattle.kmip_client.specs.Clients.{AreSettled, ClientState, one_if}
+use Rattle.std.specs.Prelude.{IfErr, IfOk, IsOk, None, OnErr, OnOk, Option, Result, Some, length, option_map, ℕ, ◌++◌, ◌≡◌}
+use Rattle.kmip_client.specs.Asking.{next_question}
+use Rattle.kmip_client.specs.Clients.{AreSettled, ClientState}
 use Rattle.kmip_client.specs.Justified.{JustifiedMessage}
 use Rattle.kmip_client.specs.Known.{facts}
 use Rattle.kmip_client.specs.declared.question.Question.{Question}
@@ -54,20 +55,31 @@ pub record Tries {V : Type 0} (made : V → ℕ) (old : Seen) (client : ClientSt
   -- Unless memory ran out, the link after it is what calls made of the link before.
   pub followed : OnOk done follows
 
+-- The number of keys that the client's next message asks about; none if there is no message.
+abbrev pub asked_count : ClientState → Option ℕ
+asked_count c = option_map (λ question. length question.parts) (next_question c)
+
+-- The number of messages of a turn that asked about this number of keys, if it sent one.
+abbrev pub turn_count : Option ℕ → ℕ
+turn_count None = 0
+turn_count (Some asked) = 1
+
 -- What a turn promises: it asks the next question, or there is none.
-pub record MakesTurn (old : Seen) (client : ClientState) (done : Result Bool TurnFault) (new : Seen) (next : ClientState) (follows : Type 0) : Type 0 where
+pub record MakesTurn (old : Seen) (client : ClientState) (done : Result (Option ℕ) TurnFault) (new : Seen) (next : ClientState) (follows : Type 0) : Type 0 where
   -- Of any link this holds.
-  pub tries : Tries one_if old client done new next follows
+  pub tries : Tries turn_count old client done new next follows
   -- Where all was good before, this holds.
   pub well : IsGood client old → TriesWell old client done new next
   -- Over a link that is honest for the names of the plan, this holds.
-  pub honestly : old.honest (is_planned client.keys) → TriesHonestly one_if old client done new next
+  pub honestly : old.honest (is_planned client.keys) → TriesHonestly turn_count old client done new next
   -- Where memory ran out, the client gave up the question at most.
   pub gives_up : IfErr done (IsGivenUp (old.honest (is_planned client.keys)) client next old.past new.past)
-  -- Else it asked its next question and learnt from what came, or had none.
+  -- Otherwise it returns the number of keys that its message asks about, or none.
+  pub asked : IfOk done (λ asked. asked ≡ asked_count client)
+  -- It asked its next question and learnt from what came, or had none.
   pub turned : IfOk done (λ asked. TakesTurn (old.honest (is_planned client.keys)) asked client next old.past new.past)
   -- It has none only where each key is settled.
-  pub settled : IfOk done (λ asked. asked ≡ false → AreSettled next.keys next.knowns)
+  pub settled : IfOk done (λ asked. asked ≡ None → AreSettled next.keys next.knowns)
 
 -- What the exchange of a question teaches, over a link that is honest for the names of the plan.
 pub record PutsHonestly (question : Question) (old : Seen) (client : ClientState) (done : Result (Unit {0}) TurnFault) (new : Seen) (next : ClientState) : Type 0 where

@@ -6,8 +6,8 @@ use Rattle.std.specs.Prelude.{ℕ, zero, suc, ◌*◌, ◌^◌, min, max}
 abbrev pub longest_wait : ℕ → ℕ
 longest_wait first = max first 10000
 
--- The wait after `count` exchanges in turn by which a run did not get on. It is none at first, then the
--- first wait, and twice as long each time, up to the longest.
+-- The wait after `count` exchanges that brought nothing, with nothing known that has grown between them. It is
+-- none at first, then the first wait, and twice as long each time, up to the longest.
 abbrev pub wait_after : ℕ → ℕ → ℕ
 wait_after first zero = 0
 wait_after first (suc count) = min (first * 2 ^ count) (longest_wait first)

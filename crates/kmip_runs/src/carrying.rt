@@ -1,9 +1,11 @@
 //! A plan carried out over a link, and saved after each exchange.
 ghost use Rattle.std.specs.Prelude.{◌≡◌, ◌≢◌, ◌≤◌, ◌<◌, ◌++◌, ◌∷◌, [], length, Ok, Err, IfErr, IsTrue, OnErr, OnOk, false};
+ghost use Rattle.std.specs.Option.{unwrap_or};
 ghost use Rattle.kmip_client.specs.Saving.{progress};
 ghost use Rattle.kmip_progress.specs.Texts.{progress_text};
 ghost use Rattle.kmip_runs.specs.CarriesOut.{CarriesOut, stage};
 ghost use Rattle.kmip_runs.specs.PrivateCarried.{CarryingLaws, MakesExchangesInTurn, MakesOneExchange, SavesProgress};
+ghost use Rattle.kmip_runs.specs.PrivateTurns.{asked_count};
 ghost use Rattle.kmip_runs.specs.Refusals.{HasRisen};
 ghost use Rattle.kmip_runs.specs.Saved.{HasMemory};
 
@@ -123,8 +125,8 @@ fn exchange_in_turn<L: Link, K: Keeper, P: Patience>(
     };
     let mut sights = begun;
     for made in 0..limit {
-        let (carried, exchanges) = exchange_once(alloc, client, link, keeper);
-        tell(client, &mut sights, patience, exchanges);
+        let (carried, exchanges, asked) = exchange_once(alloc, client, link, keeper);
+        tell(client, &mut sights, patience, exchanges, asked);
         if !is_at_limit(&carried) {
             return (carried, made + exchanges);
         }
@@ -135,7 +137,8 @@ fn exchange_in_turn<L: Link, K: Keeper, P: Patience>(
     (Ok(stop_of(client)), limit)
 }
 
-/// Makes one exchange, if any key is worked on, and saves what is then known.
+/// Makes one exchange, if any key is worked on, and saves what is then known. Returns why no other one
+/// is made, how many were made, and the number of keys that it asked about, 0 if memory ran out.
 ///
 /// # Errors
 /// Why its text was not saved.
@@ -144,7 +147,7 @@ fn exchange_once<L: Link, K: Keeper>(
     client: &mut Client<'_>,
     link: &mut L,
     keeper: &mut K,
-) -> (Result<Stop, SaveFault>, usize)
+) -> (Result<Stop, SaveFault>, usize, usize)
     ensures made { MakesOneExchange (record {
       client = client.old;
       link = L.seen link.old;
@@ -155,31 +158,38 @@ fn exchange_once<L: Link, K: Keeper>(
       keeper = K.kept keeper.new;
     }) result.0 result.1 }
     ensures followed { HasMemory result.0 → L.follows link.old link.new }
+    ensures asked { HasMemory result.0 → result.2 ≡ unwrap_or (asked_count client.old) 0 }
 {
     laws_below();
     // proof: a key that is settled is not worked on
     the_settled_are_not_worked_on();
-    match turn(alloc, client, link) {
-        Ok(true) => {}
-        Ok(false) => return (Ok(stop_of(client)), 0),
-        Err(fault) => return (Ok(Stop::NoMemory), fault.exchanges()),
-    }
+    let asked = match turn(alloc, client, link) {
+        Ok(Some(asked)) => asked,
+        Ok(None) => return (Ok(stop_of(client)), 0, 0),
+        Err(fault) => return (Ok(Stop::NoMemory), fault.exchanges(), 0),
+    };
     match save_progress(alloc, client, keeper) {
-        Ok(()) => (Ok(stop_of(client)), 1),
-        Err(fault) => (Err(fault), 1),
+        Ok(()) => (Ok(stop_of(client)), 1, asked),
+        Err(fault) => (Err(fault), 1, asked),
     }
 }
 
-/// Tells of one exchange, where one was made, whether the client got on by it.
-fn tell<P: Patience>(client: &Client<'_>, sights: &mut Sights, patience: &mut P, exchanges: usize)
+/// Reports what one exchange brought, if one was made; it asked about `asked` keys.
+fn tell<P: Patience>(
+    client: &Client<'_>,
+    sights: &mut Sights,
+    patience: &mut P,
+    exchanges: usize,
+    asked: usize,
+)
     requires { length sights.old.items.items ≡ length client.now.keys }
     ensures stays { P.has_given_up patience.new ≡ P.has_given_up patience.old }
     ensures unasked { P.asked patience.new ≡ P.asked patience.old }
     ensures as_many { length sights.new.items.items ≡ length sights.old.items.items }
 {
     if exchanges > 0 {
-        let got_on = sights.take(client);
-        patience.exchanged(client, got_on);
+        let news = sights.take(client, asked);
+        patience.exchanged(client, news);
     }
 }
 

@@ -61,8 +61,8 @@ pub fn drive<L: Link>(
     let _plan = client.plan();
     for made in 0..limit {
         match turn(alloc, client, link) {
-            Ok(true) => {}
-            Ok(false) => return (stop_of(client), made),
+            Ok(Some(_)) => {}
+            Ok(None) => return (stop_of(client), made),
             Err(fault) => return (Stop::NoMemory, made + fault.exchanges()),
         }
     }
@@ -97,7 +97,8 @@ fn laws_below()
     a_losing_turn_is_bounded();
 }
 
-/// The next message, and what comes of it; false where no key is worked on.
+/// Sends the next message, and learns from what comes back. Returns the number of keys that it asks
+/// about; none if no key is worked on.
 ///
 /// # Errors
 /// Where there is no memory; the client is then as it was, or the keys that were asked about are
@@ -106,16 +107,16 @@ pub(crate) fn turn<L: Link>(
     alloc: Global,
     client: &mut Client<'_>,
     link: &mut L,
-) -> Result<bool, TurnFault>
+) -> Result<Option<usize>, TurnFault>
     ensures { MakesTurn (L.seen link.old) client.old result (L.seen link.new) client.new
         (L.follows link.old link.new) }
 {
     laws_below();
     let Some(question) = client.ask(alloc)? else {
-        return Ok(false);
+        return Ok(None);
     };
     put(alloc, client, link, &question)?;
-    Ok(true)
+    Ok(Some(question.parts.as_slice().len()))
 }
 
 /// Puts the message over the link, and learns from what comes back.

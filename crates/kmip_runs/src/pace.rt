@@ -1,8 +1,9 @@
-//! Waits between the exchanges of a run that gets nowhere.
+//! Waits between the exchanges of a run.
 ghost use Rattle.std.specs.Prelude.{◌≡◌, ◌≤◌, ◌+◌, ℕ, None, not, false, IsTrue};
 ghost use Rattle.kmip_disk.specs.Calls.{HasRisenBy};
 ghost use Rattle.kmip_runs.specs.Waits.{longest_wait, wait_after};
 
+use crate::exchange_news::ExchangeNews;
 use crate::patience::Patience;
 use kmip_client::Client;
 use std::thread;
@@ -71,18 +72,23 @@ fn left_until<C: Clock>(clock: &C, since: Option<Instant>, most: u64) -> Option<
     Some(Duration::from_secs(most).saturating_sub(passed))
 }
 
-/// Waits before an exchange where the run did not get on by the one before it, longer each time. It
-/// gives up where the run has not got on for some time. That it sleeps for so long, and when it gives
-/// up, no clause says, as no clause says what a clock tells. The stored runs try both with a clock in
-/// memory.
+/// Waits before an exchange if the last one brought nothing, longer each time until something known
+/// grows. It does not wait if each key that the last exchange asked about was answered, and has
+/// another question. It gives up if nothing known has grown for some time. No clause says for how long
+/// it sleeps or when it gives up, as no clause says what a clock reports. The stored runs try both
+/// with a clock in memory.
 #[derive(Drop)]
 pub struct Pace<C> {
     clock: C,
     first: u64,
+    /// The wait after the last exchange that brought nothing, in milliseconds; 0 if something known has
+    /// grown since.
+    level: u64,
+    /// How long it waits before the next exchange, in milliseconds: `level`, or 0.
     wait: u64,
     /// After how many seconds it gives up; 0 for never.
     most: u64,
-    /// When the run got on last, or began, where the clock told it.
+    /// When something known grew last, or the run began, if the clock reported it.
     since: Option<Instant>,
     has_given_up: bool,
     /// How often it was asked whether to go on, up to 2^64 - 1.
@@ -96,7 +102,9 @@ impl<C: Clock> Pace<C> {
         // Its first wait is this one.
         ensures first { result.first ≡ first }
         // It does not wait before the first exchange.
-        ensures wait { result.wait ≡ wait_after first 0 }
+        ensures wait { result.wait ≡ 0 }
+        // No exchange has brought nothing yet.
+        ensures level { result.level ≡ wait_after first 0 }
         // It has these seconds after which it may give up.
         ensures most { result.most ≡ most }
         // It has not given up.
@@ -106,6 +114,7 @@ impl<C: Clock> Pace<C> {
         Pace {
             clock,
             first,
+            level: 0,
             wait: 0,
             most,
             since,
@@ -134,23 +143,36 @@ impl<C: Clock> Patience for Pace<C> {
 
     ghost asked = { λ pace. pace.asked };
 
-    fn exchanged(&mut self, _client: &Client<'_>, got_on: bool)
+    fn exchanged(&mut self, _client: &Client<'_>, news: ExchangeNews)
         // Nobody gives up by being told of an exchange.
         ensures stays { self.new.has_given_up ≡ self.old.has_given_up }
         // To be told is not to be asked.
         ensures unasked { self.new.asked ≡ self.old.asked }
         // Its first wait and its seconds stay.
         ensures settings { (self.new.first ≡ self.old.first) × (self.new.most ≡ self.old.most) }
-        // Where the run got on, there is no wait before the next exchange.
-        ensures got_on { IsTrue got_on → self.new.wait ≡ wait_after self.old.first 0 }
-        // Where it did not, the wait after some exchanges in turn becomes that after one more.
-        ensures stuck { got_on ≡ false → (count : ℕ)
-            → self.old.wait ≡ wait_after self.old.first count
-            → self.new.wait ≡ wait_after self.old.first (count + 1) }
+        // If something known has grown, the waits begin anew, and there is none before the next exchange.
+        ensures grew { news ≡ ExchangeNews.Grew
+            → (self.new.level ≡ wait_after self.old.first 0) × (self.new.wait ≡ 0) }
+        // If each key was answered, there is no wait before the next exchange, and the next wait is no shorter.
+        ensures answered { news ≡ ExchangeNews.Answered
+            → (self.new.level ≡ self.old.level) × (self.new.wait ≡ 0) }
+        // After an exchange that brought nothing, the wait after some of them becomes that after one more.
+        ensures stuck { news ≡ ExchangeNews.Nothing → (count : ℕ)
+            → self.old.level ≡ wait_after self.old.first count
+            → (self.new.level ≡ wait_after self.old.first (count + 1))
+            × (self.new.wait ≡ self.new.level) }
     {
-        self.wait = next_wait(self.wait, self.first, got_on);
-        if got_on {
-            self.since = Instant::now(&self.clock).ok();
+        match news {
+            ExchangeNews::Grew => {
+                self.level = 0;
+                self.wait = 0;
+                self.since = Instant::now(&self.clock).ok();
+            }
+            ExchangeNews::Answered => self.wait = 0,
+            ExchangeNews::Nothing => {
+                self.level = next_wait(self.level, self.first, false);
+                self.wait = self.level;
+            }
         }
     }
 
@@ -165,8 +187,8 @@ impl<C: Clock> Patience for Pace<C> {
         ensures endless { self.old.most ≡ 0 → self.new.has_given_up ≡ self.old.has_given_up }
         // Its first wait and its seconds stay.
         ensures settings { (self.new.first ≡ self.old.first) × (self.new.most ≡ self.old.most) }
-        // Its wait stays as it was.
-        ensures wait { self.new.wait ≡ self.old.wait }
+        // Its waits stay as they were.
+        ensures waits { (self.new.wait ≡ self.old.wait) × (self.new.level ≡ self.old.level) }
     {
         self.asked = self.asked.saturating_add(1);
         if self.has_given_up {

@@ -2,6 +2,7 @@
 ghost use Rattle.std.specs.Prelude.{◌≡◌, ℕ, Bool, not, IsTrue};
 ghost use Rattle.kmip_disk.specs.Calls.{HasRisenBy};
 
+use crate::exchange_news::ExchangeNews;
 use kmip_client::Client;
 
 /// Is told of each exchange of a run, waits before the next one, and says whether it is made.
@@ -13,8 +14,8 @@ pub trait Patience {
     ghost asked: { Self → ℕ };
 
     /// An exchange was made, and its text was given to the keeper, unless memory ran out. It is told
-    /// what the client knows now, and whether the client got on by that exchange.
-    fn exchanged(&mut self, client: &Client<'_>, got_on: bool)
+    /// what the client knows now, and what that exchange brought.
+    fn exchanged(&mut self, client: &Client<'_>, news: ExchangeNews)
         // Nobody gives up by being told.
         ensures stays { has_given_up self.new ≡ has_given_up self.old }
         // To be told is not to be asked.

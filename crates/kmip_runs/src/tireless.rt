@@ -1,6 +1,7 @@
 //! Never waits, and never gives up.
 ghost use Rattle.std.specs.Prelude.{false, true};
 
+use crate::exchange_news::ExchangeNews;
 use crate::patience::Patience;
 use kmip_client::Client;
 
@@ -16,7 +17,7 @@ impl Patience for Tireless {
 
     ghost asked = { λ patience. 2 ^ 64 - 1 };
 
-    fn exchanged(&mut self, _client: &Client<'_>, _got_on: bool) {}
+    fn exchanged(&mut self, _client: &Client<'_>, _news: ExchangeNews) {}
 
     fn go_on(&mut self) -> bool {
         true

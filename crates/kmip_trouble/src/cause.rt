@@ -19,7 +19,7 @@ impl<'a> Display for Cause<'a> {
             (Cannot::ReadOrigin, _) => {
                 write!(
                     f,
-                    "{error}; fix that, or give --believe to use the progress all the same"
+                    "{error}; fix that, or give --believe, which checks the progress against the server"
                 )
             }
             (Cannot::Connect, _) => write!(f, "{error}; give a shorter path"),
@@ -27,16 +27,16 @@ impl<'a> Display for Cause<'a> {
             (Cannot::Save, None) => {
                 write!(
                     f,
-                    "{error}; what was asked last may have taken effect: run again"
+                    "{error}; the last request may have taken effect: run again"
                 )
             }
             (Cannot::Save, Some(remedy)) => write!(
                 f,
-                "{error}; what was asked last may have taken effect: {remedy} and run again"
+                "{error}; the last request may have taken effect: {remedy} and run again"
             ),
             (Cannot::Last, _) => write!(
                 f,
-                "{error}; all is written, but a power cut may bring an older text back, which is true too"
+                "{error}; saved, but a power failure may restore the previous version, which is also correct"
             ),
             (Cannot::Measure, remedy) => write_unmeasured(error, remedy, f),
         }
@@ -56,6 +56,6 @@ fn write_unmeasured<W: fmt::Write>(
     match remedy {
         Some(remedy) => write!(f, "; {remedy}"),
         None if error.kind() == ErrorKind::OutOfMemory => Ok(()),
-        None => f.write_str("; see what stands there"),
+        None => f.write_str("; check the path"),
     }
 }

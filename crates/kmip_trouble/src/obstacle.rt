@@ -5,6 +5,7 @@ ghost use Rattle.kmip_json.specs.FaultJson.{is_plan_memory};
 use crate::another_server::AnotherServer;
 use crate::cannot::Cannot;
 use crate::causes::{tell_cause, tell_why};
+use crate::contradiction::Contradiction;
 use crate::place::Place;
 use crate::reporting::{print_documents, push_reason, push_told};
 use kmip_explaining::{line_of_fault, tell_refusal};
@@ -20,16 +21,19 @@ use std::net::{Ipv4Addr, Net, SocketAddr, SocketAddrV4};
 use std::str::from_utf8;
 
 /// Why a file has no text.
-const NO_TEXT: &str = "it is no UTF-8 text";
+const NO_TEXT: &str = "it is not UTF-8 text";
 
 /// Why a file does not say where a progress was kept.
-const NO_ORIGIN: &str = "it does not say where a progress was kept";
+const NO_ORIGIN: &str = "it does not say where a progress was saved";
 
 /// What to do about it.
-const WITHOUT_ORIGIN: &str = "remove it and give --believe to use the progress all the same";
+const WITHOUT_ORIGIN: &str = "remove it, and the run checks the progress against the server";
+
+/// Why a progress file cannot be used now, and what to do about it.
+const IN_USE: &str = "another run is using it: wait for its end, or give --lock-wait";
 
 /// What to do about a file that is not what it is to be.
-const LOOK_THERE: &str = "see what stands there";
+const LOOK_THERE: &str = "check that it is the right file";
 
 /// What keeps a command from its work.
 #[derive(Drop)]
@@ -49,6 +53,9 @@ pub enum Obstacle {
     /// No port is free for a server in this process.
     NoPort,
     AnotherServer(AnotherServer),
+    Contradicted(Contradiction),
+    /// The progress is refused for this fault, and why was reported.
+    NoProgress(ProgressFault),
     /// The progress file at the path was kept for a key with other attributes, as the text says.
     OtherAttributes(String, String),
 }
@@ -71,7 +78,10 @@ impl Obstacle {
                 self.explain(rt);
                 printed
             }
-            Obstacle::AnotherServer(_) | Obstacle::OtherAttributes(..) => {
+            Obstacle::AnotherServer(_)
+            | Obstacle::Contradicted(_)
+            | Obstacle::NoProgress(_)
+            | Obstacle::OtherAttributes(..) => {
                 self.print(rt)?;
                 self.explain(rt);
                 Ok(())
@@ -109,12 +119,14 @@ impl Obstacle {
                 );
             }
             Obstacle::NoPlan(path, plan, _) => tell_refusal(rt, path.as_str(), plan.as_str()),
-            Obstacle::InUse(_) => {}
+            Obstacle::InUse(path) => tell_why(rt, path, IN_USE),
             Obstacle::NoPort => tell_why_no_port(rt),
             Obstacle::AnotherServer(server) => server.explain(rt),
+            Obstacle::Contradicted(contradiction) => contradiction.explain(rt),
+            Obstacle::NoProgress(_) => {}
             Obstacle::OtherAttributes(path, difference) => {
                 let _ = rt.eprintln(format_args!(
-                    "{path} was kept for another plan: key {difference}; an object keeps what it was made with: give the key its old attributes, or another name"
+                    "{path} was saved for other attributes: key {difference}; the attributes of an object do not change: restore them in the plan, or give the key another name"
                 ));
             }
         }
@@ -138,11 +150,12 @@ impl Obstacle {
             Obstacle::AnotherServer(server) => {
                 rt.println(format_args!("progress of another server: {}", server.path))
             }
-            Obstacle::OtherAttributes(..) => {
-                let fault = ProgressFault::OtherPlan;
-                let (number, name) = (fault.number(), fault.name());
-                rt.println(format_args!("progress refused: {number} {name}"))
+            Obstacle::Contradicted(contradiction) => {
+                let path = &contradiction.path;
+                rt.println(format_args!("progress of another server: {path}"))
             }
+            Obstacle::NoProgress(fault) => print_progress(rt, *fault),
+            Obstacle::OtherAttributes(..) => print_progress(rt, ProgressFault::OtherPlan),
         }
     }
 
@@ -173,6 +186,8 @@ impl Obstacle {
             }
             Obstacle::NoPort => push_told(alloc, "cannot listen", None, None, text),
             Obstacle::AnotherServer(server) => server.push_document(alloc, text),
+            Obstacle::Contradicted(contradiction) => contradiction.push_document(alloc, text),
+            Obstacle::NoProgress(fault) => push_progress_fault(alloc, *fault, text),
             Obstacle::OtherAttributes(..) => {
                 push_progress_fault(alloc, ProgressFault::OtherPlan, text)
             }
@@ -195,6 +210,12 @@ pub fn push_refused_plan(
 {
     let line = line_of_fault(alloc, plan, fault)?;
     push_plan_fault(alloc, fault, line, text)
+}
+
+/// Prints that a progress is refused.
+fn print_progress(rt: &HostRuntime, fault: ProgressFault) -> io::Result<()> {
+    let (number, name) = (fault.number(), fault.name());
+    rt.println(format_args!("progress refused: {number} {name}"))
 }
 
 /// Prints why a text is no plan.

@@ -32,7 +32,7 @@ struct Heading<'h> {
     plan: &'h str,
     /// The words of the script, with `/` between them.
     words: &'h str,
-    /// How long a run waits first after an exchange by which it did not get on, in milliseconds.
+    /// How long a run waits after the first exchange that brings nothing, in milliseconds.
     wait: u64,
     /// After how many seconds it gives up; 0 for never.
     give_up: u64,
@@ -353,7 +353,8 @@ fn push_told(text: &mut String, case: &Case<'_>) -> Result<(), AllocError> {
     writeln!(text, "slept {slept} ms, to wait {wait} ms")
 }
 
-/// Writes by how many exchanges the runs got on, of how many, and whether patience gave up.
+/// Writes after how many exchanges something known had grown, of how many, and whether patience gave
+/// up.
 fn push_patience(text: &mut String, patience: &Patient<'_>) -> Result<(), AllocError> {
     let end = if patience.pace().has_given_up() {
         "gave up"

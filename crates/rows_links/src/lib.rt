@@ -20,7 +20,8 @@
 //!                          nothing: what is done with them is said by the calls behind it in its row.
 //!                          Behind it may stand ` over WORDS`, the script that the link follows, with `/`
 //!                          between its words, and ` waiting NUMBER`, for how many milliseconds it waits
-//!                          first behind an exchange without a reply, by a clock that stands still
+//!                          first after an exchange that brings nothing, by a clock that sleeping alone
+//!                          moves, and ` giving up NUMBER`, after how many seconds it gives up
 //!
 //!     look of PLAN         the keys of the plan in this file are looked at, over a link to a peer that
 //!                          answers as the further lines of the call say. Behind it may stand

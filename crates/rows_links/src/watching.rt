@@ -1,7 +1,7 @@
 //! A clock that moves by sleeping alone, and who counts the exchanges that it is told of.
 
 use kmip_client::Client;
-use kmip_runs::{LinkFault, Observer, Pace, Patience};
+use kmip_runs::{ExchangeNews, LinkFault, Observer, Pace, Patience};
 use std::cell::Cell;
 use std::io;
 use std::time::{Clock, Duration};
@@ -50,7 +50,7 @@ impl Observer for Count {
     }
 }
 
-/// Waits as a pace does, and counts by how many exchanges the runs got on.
+/// Waits as a pace does, and counts the exchanges after which something known had grown.
 #[derive(Drop)]
 pub(crate) struct Patient<'c> {
     pace: Pace<&'c Stopped>,
@@ -85,10 +85,12 @@ impl<'c> Patience for Patient<'c> {
 
     ghost asked = { λ patient. patient.pace.asked };
 
-    fn exchanged(&mut self, client: &Client<'_>, got_on: bool) {
+    fn exchanged(&mut self, client: &Client<'_>, news: ExchangeNews) {
         self.exchanges = self.exchanges.saturating_add(1);
-        self.got_on = self.got_on.saturating_add(usize::from(got_on));
-        self.pace.exchanged(client, got_on);
+        if matches!(news, ExchangeNews::Grew) {
+            self.got_on = self.got_on.saturating_add(1);
+        }
+        self.pace.exchanged(client, news);
     }
 
     fn go_on(&mut self) -> bool {

@@ -1,10 +1,10 @@
 //! What is counted of a run, and its text. The counts and the text were worked out by hand.
 
 use Operation::{Activate, Create, Destroy, GetAttributes, Locate, Revoke};
-use kmip_account::Metrics;
+use kmip_account::{LastTimes, LookCounts, LookMetrics, LookTimes, Metrics};
 use kmip_batch_items::Operation;
 use kmip_plan::read_plan;
-use kmip_plan_commands::RunTally;
+use kmip_plan_commands::{RunTally, Spent};
 use kmip_tally::{Course, Standing};
 use std::process::Abort;
 use std::test::Fail;
@@ -59,41 +59,50 @@ fn credits_what_was_asked_and_is_known(rt: HostRuntime) -> Result<(), Fail> {
 
 /// The metrics of a run that has not ended, by one that finished all keys before.
 const BEGUN: &str = "\
-# HELP kmipctl_keys Keys of the plan by what is known of them: finished, worked on, or in conflict.
+# HELP kmipctl_keys Keys of the plan by their status: finished, working (more is to be done), or in conflict.
 # TYPE kmipctl_keys gauge
-kmipctl_keys{verdict=\"finished\"} 12
-kmipctl_keys{verdict=\"working\"} 3
-kmipctl_keys{verdict=\"conflict\"} 1
+kmipctl_keys{plan=\"plan.toml\",verdict=\"finished\"} 12
+kmipctl_keys{plan=\"plan.toml\",verdict=\"working\"} 3
+kmipctl_keys{plan=\"plan.toml\",verdict=\"conflict\"} 1
 # HELP kmipctl_exchanges Exchanges of this run: answered, lost without a reply, or with a reply that cannot be read.
 # TYPE kmipctl_exchanges gauge
-kmipctl_exchanges{outcome=\"answered\"} 95
-kmipctl_exchanges{outcome=\"lost\"} 4
-kmipctl_exchanges{outcome=\"unreadable\"} 1
-# HELP kmipctl_refused Questions of this run that were refused.
+kmipctl_exchanges{plan=\"plan.toml\",outcome=\"answered\"} 95
+kmipctl_exchanges{plan=\"plan.toml\",outcome=\"lost\"} 4
+kmipctl_exchanges{plan=\"plan.toml\",outcome=\"unreadable\"} 1
+# HELP kmipctl_refused Requests of this run that the server refused.
 # TYPE kmipctl_refused gauge
-kmipctl_refused 7
-# HELP kmipctl_steps Steps of keys that this run asked for and knows to have taken effect.
+kmipctl_refused{plan=\"plan.toml\"} 7
+# HELP kmipctl_steps Steps of keys that this run requested and knows to have taken effect.
 # TYPE kmipctl_steps gauge
-kmipctl_steps 6
-# HELP kmipctl_run_milliseconds How long this run took, up to when this file was written.
-# TYPE kmipctl_run_milliseconds gauge
-kmipctl_run_milliseconds 61002
-# HELP kmipctl_run_in_progress 1 from the start of a run to its end, and after a run that was killed; else 0.
+kmipctl_steps{plan=\"plan.toml\"} 6
+# HELP kmipctl_run_seconds How long this run took, up to when this file was written.
+# TYPE kmipctl_run_seconds gauge
+kmipctl_run_seconds{plan=\"plan.toml\"} 61.002
+# HELP kmipctl_run_in_progress 1 from the start of a run to its end, and after a run that was killed; otherwise 0.
 # TYPE kmipctl_run_in_progress gauge
-kmipctl_run_in_progress 1
+kmipctl_run_in_progress{plan=\"plan.toml\"} 1
 # HELP kmipctl_plan_info 1 for the plan of this run, by the first 16 hexadecimal digits of the SHA-256 of its file.
 # TYPE kmipctl_plan_info gauge
-kmipctl_plan_info{digest=\"e3b0c44298fc1c14\"} 1
-# HELP kmipctl_last_finish_timestamp_seconds When a run last ended with all keys finished, in seconds since the start of 1970.
+kmipctl_plan_info{plan=\"plan.toml\",digest=\"e3b0c44298fc1c14\"} 1
+# HELP kmipctl_last_answer_timestamp_seconds When the server last replied to a run, in seconds since the start of 1970.
+# TYPE kmipctl_last_answer_timestamp_seconds gauge
+kmipctl_last_answer_timestamp_seconds{plan=\"plan.toml\"} 1795820401
+# HELP kmipctl_last_finish_timestamp_seconds When a run that the server replied to last ended with all keys finished, in seconds since the start of 1970.
 # TYPE kmipctl_last_finish_timestamp_seconds gauge
-kmipctl_last_finish_timestamp_seconds 1795820400
+kmipctl_last_finish_timestamp_seconds{plan=\"plan.toml\"} 1795820400
 ";
 
-/// The lines of the time, which are left out where it is not known.
+/// The lines of a time, which are left out if it is not known.
 const TIME_LINES: usize = 3;
 
-/// The text of these metrics.
-fn text_of(rt: &HostRuntime, last_finish: Option<u64>) -> Result<String, Fail> {
+/// The times in `BEGUN`.
+const KNOWN_TIMES: LastTimes = LastTimes {
+    answer: Some(1_795_820_401),
+    finish: Some(1_795_820_400),
+};
+
+/// The text of the metrics of a run of the plan at this path.
+fn text_of(rt: &HostRuntime, plan: &str, last: LastTimes) -> Result<String, Fail> {
     let tally = RunTally {
         exchanges: 100,
         lost: 4,
@@ -103,6 +112,7 @@ fn text_of(rt: &HostRuntime, last_finish: Option<u64>) -> Result<String, Fail> {
         steps: vec![in rt.alloc(); 0, 2, 4]?,
     };
     let metrics = Metrics {
+        plan,
         is_in_progress: true,
         standing: Standing {
             finished: 12,
@@ -111,7 +121,7 @@ fn text_of(rt: &HostRuntime, last_finish: Option<u64>) -> Result<String, Fail> {
         },
         tally: &tally,
         digest: "e3b0c44298fc1c14",
-        last_finish,
+        last,
     };
     Ok(metrics.text(rt.alloc())?)
 }
@@ -128,18 +138,44 @@ fn assert_true(rt: &impl Abort, condition: bool, case: &str) {
 
 #[test]
 fn tells_metrics(rt: HostRuntime) -> Result<(), Fail> {
-    let text = text_of(&rt, Some(1_795_820_400))?;
-    assert_true(&rt, text.as_str() == BEGUN, "with a time");
-    let text = text_of(&rt, None)?;
+    let text = text_of(&rt, "plan.toml", KNOWN_TIMES)?;
+    assert_true(&rt, text.as_str() == BEGUN, "with both times");
+    let last = LastTimes {
+        finish: None,
+        ..KNOWN_TIMES
+    };
+    let text = text_of(&rt, "plan.toml", last)?;
     let is_short = is_without_its_end(text.as_str(), BEGUN, TIME_LINES);
-    assert_true(&rt, is_short, "without a time");
+    assert_true(&rt, is_short, "without the time of a finish");
     Ok(())
 }
 
-/// A text, and the time of the last finish that it tells.
-const TIMES: [(&str, Option<u64>); 8] = [
+/// Paths of plans, and how they are written as the value of a label.
+const LABELS: [(&str, &str); 4] = [
+    ("/etc/kmipctl/a b.toml", "plan=\"/etc/kmipctl/a b.toml\""),
+    ("a\"b", "plan=\"a\\\"b\""),
+    ("a\\b", "plan=\"a\\\\b\""),
+    ("a\nb", "plan=\"a\\nb\""),
+];
+
+#[test]
+fn escapes_the_path_of_a_plan(rt: HostRuntime) -> Result<(), Fail> {
+    for (path, label) in &LABELS {
+        let text = text_of(&rt, path, KNOWN_TIMES)?;
+        let line = format!(in rt.alloc(); "\nkmipctl_refused{{{label}}} 7\n")?;
+        assert_true(&rt, text.as_str().contains(line.as_str()), label);
+    }
+    Ok(())
+}
+
+/// A text, and the time of the last finish that it has.
+const TIMES: [(&str, Option<u64>); 9] = [
     (BEGUN, Some(1_795_820_400)),
     ("kmipctl_last_finish_timestamp_seconds 0", Some(0)),
+    (
+        "kmipctl_last_finish_timestamp_seconds{plan=\"a b} 7\"} 5\n",
+        Some(5),
+    ),
     ("", None),
     ("kmipctl_steps 6\n", None),
     ("# TYPE kmipctl_last_finish_timestamp_seconds gauge\n", None),
@@ -153,9 +189,60 @@ const TIMES: [(&str, Option<u64>); 8] = [
 ];
 
 #[test]
-fn reads_the_last_finish(rt: HostRuntime) {
+fn reads_the_last_times(rt: HostRuntime) {
     for (text, wanted) in &TIMES {
-        let is_right = Metrics::last_finish_in(text) == *wanted;
+        let is_right = LastTimes::of_text(text).finish == *wanted;
         assert_true(&rt, is_right, text);
     }
+    let answer = LastTimes::of_text(BEGUN).answer;
+    assert_true(&rt, answer == KNOWN_TIMES.answer, "the last answer");
+}
+
+/// The metrics of a look.
+const LOOKED: &str = "\
+# HELP kmipctl_look_keys Keys of the plan by what the server said: finished, working (more is to be done), in conflict, or not told.
+# TYPE kmipctl_look_keys gauge
+kmipctl_look_keys{plan=\"plan.toml\",verdict=\"finished\"} 5
+kmipctl_look_keys{plan=\"plan.toml\",verdict=\"working\"} 3
+kmipctl_look_keys{plan=\"plan.toml\",verdict=\"conflict\"} 2
+kmipctl_look_keys{plan=\"plan.toml\",verdict=\"not_told\"} 1
+# HELP kmipctl_look_exchanges Exchanges of this look: answered, or lost without a reply that can be read.
+# TYPE kmipctl_look_exchanges gauge
+kmipctl_look_exchanges{plan=\"plan.toml\",outcome=\"answered\"} 18
+kmipctl_look_exchanges{plan=\"plan.toml\",outcome=\"lost\"} 4
+# HELP kmipctl_look_seconds How long this look took.
+# TYPE kmipctl_look_seconds gauge
+kmipctl_look_seconds{plan=\"plan.toml\"} 0.045
+# HELP kmipctl_look_last_answer_timestamp_seconds When the server last replied to a look, in seconds since the start of 1970.
+# TYPE kmipctl_look_last_answer_timestamp_seconds gauge
+kmipctl_look_last_answer_timestamp_seconds{plan=\"plan.toml\"} 1795820401
+# HELP kmipctl_look_last_finish_timestamp_seconds When a look last found all keys finished, in seconds since the start of 1970.
+# TYPE kmipctl_look_last_finish_timestamp_seconds gauge
+kmipctl_look_last_finish_timestamp_seconds{plan=\"plan.toml\"} 1795820400
+";
+
+#[test]
+fn tells_metrics_of_looks(rt: HostRuntime) -> Result<(), Fail> {
+    let counts = LookCounts {
+        finished: 5,
+        working: 3,
+        conflict: 2,
+        not_told: 1,
+    };
+    let metrics = LookMetrics {
+        plan: "plan.toml",
+        counts,
+        spent: Spent {
+            exchanges: 22,
+            lost: 4,
+            refused: 0,
+            seconds: 0,
+        },
+        milliseconds: 45,
+        last: LookTimes::of_text(LOOKED),
+    };
+    let text = metrics.text(rt.alloc())?;
+    assert_true(&rt, text.as_str() == LOOKED, "of a look");
+    assert_true(&rt, !counts.is_finished(), "not all are finished");
+    Ok(())
 }

@@ -6,11 +6,11 @@ use Rattle.kmip_look.proofs.looking.look.Goals as goal
 
 pub returns-clause-looks : goal.returns-clause-looks
 returns-clause-looks g c =
-    subst (λ keys. Looks (λ v. v.items) keys c.args.mark.now (g.L.Link.seen c.args.link.now) c.look_each.result (g.L.Link.seen c.look_each.new.link))
-    c.keys.ensures.value c.look_each.ensures.looks
+    subst (λ keys. Looks (λ v. v.items) keys c.args.mark.now (g.L.Link.seen c.args.link.now) c.look_at_keys.result (g.L.Link.seen c.look_at_keys.new.link))
+    c.keys.ensures.value c.look_at_keys.ensures.looks
 
 pub returns-clause-tried : goal.returns-clause-tried
 returns-clause-tried g c = λ names honest patient.
     subst
-    (λ keys. IfOk c.look_each.result (λ v. AllZip (IsTried c.args.mark.now (g.L.Link.seen c.args.link.now).past (g.L.Link.seen c.look_each.new.link).past) keys v.items))
-    c.keys.ensures.value (c.look_each.ensures.tried names honest patient)
+    (λ keys. IfOk c.look_at_keys.result (λ v. AllZip (IsTried c.args.mark.now (g.L.Link.seen c.args.link.now).past (g.L.Link.seen c.look_at_keys.new.link).past) keys v.items))
+    c.keys.ensures.value (c.look_at_keys.ensures.tried names honest patient)

@@ -1,6 +1,6 @@
 -- One exchange, saved or not.
 use Rattle.std.proofs.Common.{Ok, Err, subst, rules}
-use Rattle.kmip_client.specs.Clients.{one_if}
+use Rattle.kmip_runs.specs.PrivateTurns.{turn_count}
 use Rattle.kmip_protocol.specs.Past.{is_planned}
 use Rattle.kmip_runs.specs.Private.{TakesTurn}
 use Rattle.kmip_runs.specs.PrivateCarried.{Went}
@@ -10,9 +10,9 @@ use Rattle.kmip_runs.proofs.TurnedLemmas.{one_broken, one_rest, one_turn}
 use Rattle.kmip_runs.proofs.WentLemmas.{stop_is}
 use Rattle.kmip_runs.proofs.carrying.exchange_once.Goals as goal
 
-pub returns-in-Ok-false-clause-made : goal.returns-in-Ok-false-clause-made
-returns-in-Ok-false-clause-made g c =
-    let e = c.in-Ok-false.ensures in
+pub returns-in-Ok-None-clause-made : goal.returns-in-Ok-None-clause-made
+returns-in-Ok-None-clause-made g c =
+    let e = c.in-Ok-None.ensures in
     let client = c.args.client.now in
     let next = c.turn.new.client in
     let x = g.L.Link.seen c.args.link.now in
@@ -23,10 +23,10 @@ returns-in-Ok-false-clause-made g c =
       exchanges = record {
         carried =
             carried_none (record { client = client; link = x; keeper = i }) next y stop
-            (subst (λ asked. Went (record { client = client; link = x; keeper = i }) (record { client = next; link = y; keeper = i }) (Ok stop) (one_if asked)) c.in-Ok-false.field-0-test
-            (took (record { client = client; link = x; keeper = i }) (record { client = next; link = y; keeper = i }) (Ok stop) c.in-Ok-false.field-0 _
+            (subst (λ asked. Went (record { client = client; link = x; keeper = i }) (record { client = next; link = y; keeper = i }) (Ok stop) (turn_count asked)) c.in-Ok-None.field-0-is
+            (took (record { client = client; link = x; keeper = i }) (record { client = next; link = y; keeper = i }) (Ok stop) c.in-Ok-None.field-0 _
             (λ is. c.stop_of.ensures.in_memory (stop_is stop stops.NoMemory is)) e));
-        turned = one_rest _ stop client next x.past y.past c.stop_of.ensures.in_memory (subst (λ asked. TakesTurn (x.honest (is_planned client.keys)) asked client next x.past y.past) c.in-Ok-false.field-0-test e.turned);
+        turned = one_rest _ stop client next x.past y.past c.stop_of.ensures.in_memory (subst (λ asked. TakesTurn (x.honest (is_planned client.keys)) asked client next x.past y.past) c.in-Ok-None.field-0-is e.turned);
         counted = search rules;
         output = search rules;
         stops_for_its_reason = search rules;
@@ -64,7 +64,7 @@ returns-in-Err-clause-made g c =
 
 pub returns-in-Ok-clause-made : goal.returns-in-Ok-clause-made
 returns-in-Ok-clause-made g c =
-    let e = c.in-Ok-true.ensures in
+    let e = c.in-Ok-Some.ensures in
     let client = c.args.client.now in
     let next = c.turn.new.client in
     let x = g.L.Link.seen c.args.link.now in
@@ -78,10 +78,10 @@ returns-in-Ok-clause-made g c =
             carried_one c.laws_below.ensures (record { client = client; link = x; keeper = i }) (record { client = next; link = y; keeper = j }) stop tt c.stop_of-in-Ok.ensures.in_memory
             (λ remembers. let so = c.in-Ok.ensures.remembered remembers in (so.0, so.1))
             c.in-Ok.ensures.whole
-            (subst (λ asked. Went (record { client = client; link = x; keeper = i }) (record { client = next; link = y; keeper = j }) (Ok stop) (one_if asked)) c.in-Ok-true.field-0-test
-            (took (record { client = client; link = x; keeper = i }) (record { client = next; link = y; keeper = j }) (Ok stop) c.in-Ok-true.field-0 _
+            (subst (λ asked. Went (record { client = client; link = x; keeper = i }) (record { client = next; link = y; keeper = j }) (Ok stop) (turn_count asked)) c.in-Ok-Some.field-0-is
+            (took (record { client = client; link = x; keeper = i }) (record { client = next; link = y; keeper = j }) (Ok stop) c.in-Ok-Some.field-0 _
             (λ is. c.stop_of-in-Ok.ensures.in_memory (stop_is stop stops.NoMemory is)) e));
-        turned = one_turn _ stop client next x.past y.past c.stop_of-in-Ok.ensures.in_memory (subst (λ asked. TakesTurn (x.honest (is_planned client.keys)) asked client next x.past y.past) c.in-Ok-true.field-0-test e.turned);
+        turned = one_turn _ stop client next x.past y.past c.stop_of-in-Ok.ensures.in_memory (subst (λ asked. TakesTurn (x.honest (is_planned client.keys)) asked client next x.past y.past) c.in-Ok-Some.field-0-is e.turned);
         counted = search rules;
         output = search rules;
         stops_for_its_reason = search rules;
@@ -94,7 +94,7 @@ returns-in-Ok-clause-made g c =
 
 pub returns-in-Err-save_progress-clause-made : goal.returns-in-Err-save_progress-clause-made
 returns-in-Err-save_progress-clause-made g c =
-    let e = c.in-Ok-true.ensures in
+    let e = c.in-Ok-Some.ensures in
     let client = c.args.client.now in
     let next = c.turn.new.client in
     let x = g.L.Link.seen c.args.link.now in
@@ -108,9 +108,9 @@ returns-in-Err-save_progress-clause-made g c =
             carried_not (record { client = client; link = x; keeper = i }) (record { client = next; link = y; keeper = j }) fault
             (λ remembers. let so = c.in-Err-save_progress.ensures.remembered remembers in (so.0, so.2))
             c.in-Err-save_progress.ensures.whole
-            (subst (λ asked. Went (record { client = client; link = x; keeper = i }) (record { client = next; link = y; keeper = j }) (Err fault) (one_if asked)) c.in-Ok-true.field-0-test
-            (took (record { client = client; link = x; keeper = i }) (record { client = next; link = y; keeper = j }) (Err fault) c.in-Ok-true.field-0 _ (λ is. absurd cc) e));
-        turned = one_turn _ stops.Limit client next x.past y.past (λ is. absurd cc) (subst (λ asked. TakesTurn (x.honest (is_planned client.keys)) asked client next x.past y.past) c.in-Ok-true.field-0-test e.turned);
+            (subst (λ asked. Went (record { client = client; link = x; keeper = i }) (record { client = next; link = y; keeper = j }) (Err fault) (turn_count asked)) c.in-Ok-Some.field-0-is
+            (took (record { client = client; link = x; keeper = i }) (record { client = next; link = y; keeper = j }) (Err fault) c.in-Ok-Some.field-0 _ (λ is. absurd cc) e));
+        turned = one_turn _ stops.Limit client next x.past y.past (λ is. absurd cc) (subst (λ asked. TakesTurn (x.honest (is_planned client.keys)) asked client next x.past y.past) c.in-Ok-Some.field-0-is e.turned);
         counted = search rules;
         output = search rules;
         stops_for_its_reason = search rules;

@@ -1,6 +1,6 @@
 -- All that is reported was reached, so what is sound is safe.
 use Rattle.std.proofs.Common.{refl, rules}
-use Rattle.kmip_runs.proofs.CrashLemmas.{crashes_well}
+use Rattle.kmip_runs.proofs.CrashingRunsLemmas.{crashes_well}
 use Rattle.kmip_runs.proofs.crashing.campaign_with_crashes.Goals as goal
 
 pub returns-in-Ok : goal.returns-in-Ok

@@ -3,7 +3,7 @@ use Rattle.std.proofs.Common.{◌<◌, length, rules, suc, arith, subst, sym, �
 use Rattle.std.proofs.lemmas.Option.{slice_get-get_or}
 use Rattle.std.proofs.lemmas.Result.{err_from_is_err_and}
 use Rattle.kmip_runs.specs.PrivateCrashes.{AreCrashing, CrashStage, CrashesEach}
-use Rattle.kmip_runs.proofs.CrashLemmas.{crashing_all, crashing_more, crashing_none, crashing_nothing, crashing_off, batch_at, failed_so}
+use Rattle.kmip_runs.proofs.CrashingRunsLemmas.{crashing_all, crashing_more, crashing_none, crashing_nothing, crashing_off, batch_at, failed_so}
 use Rattle.kmip_runs.proofs.crashing.crash_each.Goals as goal
 
 pub loop-place-init : goal.loop-place-init

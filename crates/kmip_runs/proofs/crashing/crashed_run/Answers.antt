@@ -18,7 +18,8 @@ use Rattle.kmip_progress.specs.Reading.{read_text}
 use Rattle.kmip_runs.specs.declared.crashing_run.CrashingRun.{CrashingRun}
 use Rattle.kmip_runs.specs.declared.run.Run.{Run}
 use Rattle.kmip_runs.proofs.CampaignLemmas.{good_with, noted_ending}
-use Rattle.kmip_runs.proofs.CrashLemmas.{HasTalked, IsFine, cannot_leave, carried_stands, crashed_come, crashed_off, held_no_conflict, kept_so, left_is_fine, not_tired, on_itself, refused_come, says_left, talked, wanting}
+use Rattle.kmip_runs.proofs.CrashedRunLemmas.{HasTalked, IsFine, cannot_leave, carried_stands, crashed_come, held_no_conflict, kept_so, left_is_fine, not_tired, refused_come, says_left, talked}
+use Rattle.kmip_runs.proofs.CrashingRunsLemmas.{crashed_off, on_itself, wanting}
 use Rattle.kmip_runs.proofs.OrderLemmas.{has_ended}
 use Rattle.kmip_runs.proofs.crashing.crashed_run.Goals as goal
 

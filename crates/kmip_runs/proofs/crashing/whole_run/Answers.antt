@@ -2,7 +2,7 @@
 use Rattle.std.proofs.Common.{◌≡◌, ◌∙◌, [], None, refl, subst, sym}
 use Rattle.std.proofs.lemmas.Result.{err_from_is_err_and}
 use Rattle.kmip_runs.specs.PrivateCrashes.{CrashStage, CrashesOne}
-use Rattle.kmip_runs.proofs.CrashLemmas.{whole_off, whole_on, whole_one}
+use Rattle.kmip_runs.proofs.CrashingRunsLemmas.{whole_off, whole_on, whole_one}
 use Rattle.kmip_runs.proofs.crashing.whole_run.Goals as goal
 
 pub returns-in_err-one_run : goal.returns-in_err-one_run

@@ -1,7 +1,8 @@
 -- Turn by turn.
 use Rattle.std.proofs.Common.{◌≡◌, ◌≤◌, ◌<◌, ◌+◌, ℕ, ◌∙◌, refl, rules, subst, sym, arith}
 use Rattle.std.specs.Prelude.{⊤}
-use Rattle.kmip_client.specs.Clients.{ClientState, one_if}
+use Rattle.kmip_client.specs.Clients.{ClientState}
+use Rattle.kmip_runs.specs.PrivateTurns.{turn_count}
 use Rattle.kmip_protocol.specs.Past.{is_planned}
 use Rattle.kmip_protocol.specs.Seen.{Seen}
 use Rattle.kmip_runs.specs.Driving.{Keeps, Learnt, LearntUntil, Nearer, WentOn}
@@ -46,8 +47,8 @@ loop-made-init g c = record {
   followed = g.met.L.Link.itself c.args.link.now;
 }
 
-pub returns-in-Ok-false : goal.returns-in-Ok-false
-returns-in-Ok-false g c = record {
+pub returns-in-Ok-None : goal.returns-in-Ok-None
+returns-in-Ok-None g c = record {
   well = λ good. record {
     good = (c.turn.ensures.well (c.loop-made.invariant.driven.good good)).good;
     onward =
@@ -56,16 +57,16 @@ returns-in-Ok-false g c = record {
     -- a last turn that asked nothing
     losing = λ honest memory.
         let last =
-        subst (λ asked. ArePaid (one_if asked) (left_for c.loop-made.client (g.L.Link.seen c.loop-made.link).past) (left_for c.turn.new.client (g.L.Link.seen c.turn.new.link).past)
-        (g.L.Link.seen c.loop-made.link).disturbances (g.L.Link.seen c.turn.new.link).disturbances) c.in-Ok-false.field-0-test
-        (c.in-Ok-false.ensures.tries.paid (c.loop-made.invariant.driven.good good)
+        subst (λ asked. ArePaid (turn_count asked) (left_for c.loop-made.client (g.L.Link.seen c.loop-made.link).past) (left_for c.turn.new.client (g.L.Link.seen c.turn.new.link).past)
+        (g.L.Link.seen c.loop-made.link).disturbances (g.L.Link.seen c.turn.new.link).disturbances) c.in-Ok-None.field-0-is
+        (c.in-Ok-None.ensures.tries.paid (c.loop-made.invariant.driven.good good)
         (still_honest (g.L.Link.seen c.args.link.now) (g.L.Link.seen c.loop-made.link) c.args.client.now c.loop-made.client c.loop-made.invariant.driven.keeps (c.loop-made.invariant.driven.honest_still (is_planned c.args.client.now.keys)) honest)) in
         let first = c.loop-made.invariant.paid good honest in
         omega (arith, first, last);
     outlasts = λ honest memory enough.
         let still = (c.turn.ensures.well (c.loop-made.invariant.driven.good good)).good in
         finished_stop c.turn.new.client.keys c.turn.new.client.knowns c.stop_of.result
-        (paid_end c.laws_below.ensures c.turn.new.client (g.L.Link.seen c.turn.new.link) still (c.in-Ok-false.ensures.settled c.in-Ok-false.field-0-test))
+        (paid_end c.laws_below.ensures c.turn.new.client (g.L.Link.seen c.turn.new.link) still (c.in-Ok-None.ensures.settled c.in-Ok-None.field-0-is))
         c.stop_of.ensures.in_memory c.stop_of.ensures.stops_for_its_reason;
     no_conflict =
         good_no_conflict c.laws_below.ensures c.turn.new.client (g.L.Link.seen c.turn.new.link) c.stop_of.result (c.turn.ensures.well (c.loop-made.invariant.driven.good good)).good c.stop_of.ensures.stops_for_its_reason;
@@ -77,11 +78,11 @@ returns-in-Ok-false g c = record {
         known_end c.laws_below.ensures c.args.client.now c.loop-made.client c.turn.new.client (g.L.Link.seen c.args.link.now) (g.L.Link.seen c.loop-made.link)
         (g.L.Link.seen c.turn.new.link) c.loop-made.made c.loop-made.invariant.driven
         (λ holds.
-        let step = c.in-Ok-false.ensures.honestly holds in (
+        let step = c.in-Ok-None.ensures.honestly holds in (
           step.stays_honest,
           subst
-              (λ asked. Learnt c.loop-made.client.keys c.loop-made.client.batch (g.L.Link.seen c.loop-made.link).past (g.L.Link.seen c.turn.new.link).past c.loop-made.client.knowns c.turn.new.client.knowns (one_if asked))
-              c.in-Ok-false.field-0-test step.learnt,
+              (λ asked. Learnt c.loop-made.client.keys c.loop-made.client.batch (g.L.Link.seen c.loop-made.link).past (g.L.Link.seen c.turn.new.link).past c.loop-made.client.knowns c.turn.new.client.knowns (turn_count asked))
+              c.in-Ok-None.field-0-is step.learnt,
         )) honest in
         (ended.0, λ memory. ended.1);
     broken = λ is. absurd (c.stop_of.ensures.in_memory is);
@@ -90,11 +91,11 @@ returns-in-Ok-false g c = record {
         known_end c.laws_below.ensures c.args.client.now c.loop-made.client c.turn.new.client (g.L.Link.seen c.args.link.now) (g.L.Link.seen c.loop-made.link)
         (g.L.Link.seen c.turn.new.link) c.loop-made.made c.loop-made.invariant.driven
         (λ holds.
-        let step = c.in-Ok-false.ensures.honestly holds in (
+        let step = c.in-Ok-None.ensures.honestly holds in (
           step.stays_honest,
           subst
-              (λ asked. Learnt c.loop-made.client.keys c.loop-made.client.batch (g.L.Link.seen c.loop-made.link).past (g.L.Link.seen c.turn.new.link).past c.loop-made.client.knowns c.turn.new.client.knowns (one_if asked))
-              c.in-Ok-false.field-0-test step.learnt,
+              (λ asked. Learnt c.loop-made.client.keys c.loop-made.client.batch (g.L.Link.seen c.loop-made.link).past (g.L.Link.seen c.turn.new.link).past c.loop-made.client.knowns c.turn.new.client.knowns (turn_count asked))
+              c.in-Ok-None.field-0-is step.learnt,
         )) honest in
         let long = learnt_long c.args.client.now.keys c.args.client.now.batch (g.L.Link.seen c.args.link.now).past (g.L.Link.seen c.turn.new.link).past c.args.client.now.knowns c.turn.new.client.knowns c.loop-made.made ended.1 in
         let below : c.loop-made.made < c.args.limit = search rules in
@@ -110,12 +111,12 @@ returns-in-Ok-false g c = record {
       c.stop_of.ensures.in_memory c.loop-made.invariant.turned
       (subst
       (λ asked. TakesTurn ((g.L.Link.seen c.loop-made.link).honest (is_planned c.loop-made.client.keys)) asked c.loop-made.client c.turn.new.client (g.L.Link.seen c.loop-made.link).past (g.L.Link.seen c.turn.new.link).past)
-      c.in-Ok-false.field-0-test c.in-Ok-false.ensures.turned);
+      c.in-Ok-None.field-0-is c.in-Ok-None.ensures.turned);
   forgets_nothing =
       keeps_then c.args.client.now c.loop-made.client c.turn.new.client c.loop-made.invariant.driven.keeps c.turn.ensures.tries.keeps;
   stops_for_its_reason = search rules;
   limit = λ is.
-      absurd (settled_no_limit c.laws_below.ensures c.turn.new.client c.stop_of.result (c.in-Ok-false.ensures.settled c.in-Ok-false.field-0-test) c.stop_of.ensures.stops_for_its_reason is);
+      absurd (settled_no_limit c.laws_below.ensures c.turn.new.client c.stop_of.result (c.in-Ok-None.ensures.settled c.in-Ok-None.field-0-is) c.stop_of.ensures.stops_for_its_reason is);
   within = search rules;
   calmly = λ settling. record {
     settles = λ enough memory.
@@ -123,12 +124,12 @@ returns-in-Ok-false g c = record {
         let client = c.args.client.now in
         let first = c.loop-made.invariant.driven.near settling in
         let last =
-        subst (λ asked. Nearer c.loop-made.client c.turn.new.client (g.L.Link.seen c.loop-made.link) (g.L.Link.seen c.turn.new.link) (one_if asked)) c.in-Ok-false.field-0-test
-        (c.in-Ok-false.ensures.tries.nearer first.settling) in
+        subst (λ asked. Nearer c.loop-made.client c.turn.new.client (g.L.Link.seen c.loop-made.link) (g.L.Link.seen c.turn.new.link) (turn_count asked)) c.in-Ok-None.field-0-is
+        (c.in-Ok-None.ensures.tries.nearer first.settling) in
         let end =
         nearer_end l client c.loop-made.client c.turn.new.client (g.L.Link.seen c.args.link.now) (g.L.Link.seen c.loop-made.link) (g.L.Link.seen c.turn.new.link) c.loop-made.made
         (asks_one client c.loop-made.client c.loop-made.invariant.driven.keeps) first last
-        (c.in-Ok-false.ensures.settled c.in-Ok-false.field-0-test) in
+        (c.in-Ok-None.ensures.settled c.in-Ok-None.field-0-is) in
         let few = l.bounded (g.L.Link.seen c.args.link.now).past.room client.keys (g.L.Link.seen c.args.link.now).past.objects client.knowns c.plan-plan.ensures.lawful settling.ready in (
           finished_stop c.turn.new.client.keys c.turn.new.client.knowns c.stop_of.result end.3 c.stop_of.ensures.in_memory c.stop_of.ensures.stops_for_its_reason,
           end.1,
@@ -139,8 +140,8 @@ returns-in-Ok-false g c = record {
         let client = c.args.client.now in
         let first = c.loop-made.invariant.driven.near settling in
         let last =
-        subst (λ asked. Nearer c.loop-made.client c.turn.new.client (g.L.Link.seen c.loop-made.link) (g.L.Link.seen c.turn.new.link) (one_if asked)) c.in-Ok-false.field-0-test
-        (c.in-Ok-false.ensures.tries.nearer first.settling) in
+        subst (λ asked. Nearer c.loop-made.client c.turn.new.client (g.L.Link.seen c.loop-made.link) (g.L.Link.seen c.turn.new.link) (turn_count asked)) c.in-Ok-None.field-0-is
+        (c.in-Ok-None.ensures.tries.nearer first.settling) in
         subst (λ n. Nearer client c.turn.new.client (g.L.Link.seen c.args.link.now) (g.L.Link.seen c.turn.new.link) n) (and_none c.loop-made.made)
         (nearer_then client c.loop-made.client c.turn.new.client (g.L.Link.seen c.args.link.now) (g.L.Link.seen c.loop-made.link) (g.L.Link.seen c.turn.new.link) c.loop-made.made 0
         (asks_one client c.loop-made.client c.loop-made.invariant.driven.keeps) first last);
@@ -151,12 +152,12 @@ returns-in-Ok-false g c = record {
       let settling = (untouched_settles l client (g.L.Link.seen c.args.link.now) c.plan-plan.ensures.lawful start).0 in
       let first = c.loop-made.invariant.driven.near settling in
       let last =
-      subst (λ asked. Nearer c.loop-made.client c.turn.new.client (g.L.Link.seen c.loop-made.link) (g.L.Link.seen c.turn.new.link) (one_if asked)) c.in-Ok-false.field-0-test
-      (c.in-Ok-false.ensures.tries.nearer first.settling) in
+      subst (λ asked. Nearer c.loop-made.client c.turn.new.client (g.L.Link.seen c.loop-made.link) (g.L.Link.seen c.turn.new.link) (turn_count asked)) c.in-Ok-None.field-0-is
+      (c.in-Ok-None.ensures.tries.nearer first.settling) in
       let end =
       nearer_end l client c.loop-made.client c.turn.new.client (g.L.Link.seen c.args.link.now) (g.L.Link.seen c.loop-made.link) (g.L.Link.seen c.turn.new.link) c.loop-made.made
       (asks_one client c.loop-made.client c.loop-made.invariant.driven.keeps) first last
-      (c.in-Ok-false.ensures.settled c.in-Ok-false.field-0-test) in
+      (c.in-Ok-None.ensures.settled c.in-Ok-None.field-0-is) in
       let done =
       completed l client c.turn.new.client (g.L.Link.seen c.args.link.now) (g.L.Link.seen c.turn.new.link) c.loop-made.made c.plan-plan.ensures.lawful start end.0
       (c.turn.ensures.tries.keeps.keys_stay ∙ c.loop-made.invariant.driven.keeps.keys_stay) end.1 end.2 end.3 in (
@@ -170,7 +171,7 @@ returns-in-Ok-false g c = record {
   ended = λ names honest.
       c.turn.ensures.tries.ended names (c.loop-made.invariant.driven.honest_still names honest) ∙ c.loop-made.invariant.ended names honest;
   followed = λ memory.
-      g.met.L.Link.twice c.args.link.now c.loop-made.link c.turn.new.link c.loop-made.invariant.followed c.in-Ok-false.ensures.tries.followed;
+      g.met.L.Link.twice c.args.link.now c.loop-made.link c.turn.new.link c.loop-made.invariant.followed c.in-Ok-None.ensures.tries.followed;
 }
 
 pub returns-in-Err : goal.returns-in-Err
@@ -239,21 +240,21 @@ loop-made-preserved g c =
       driven = driven_then c.laws_below.ensures c.args.client.now c.loop-made.client c.turn.new.client (g.L.Link.seen c.args.link.now) (g.L.Link.seen c.loop-made.link)
           (g.L.Link.seen c.turn.new.link) c.loop-made.made 1 c.loop-made.invariant.driven
           (record {
-            good = λ good. (c.in-Ok-true.ensures.well good).good;
-            onward = λ good. (c.in-Ok-true.ensures.well good).onward;
+            good = λ good. (c.in-Ok-Some.ensures.well good).good;
+            onward = λ good. (c.in-Ok-Some.ensures.well good).onward;
             learns = λ honest.
-                let step = c.in-Ok-true.ensures.honestly honest in (
+                let step = c.in-Ok-Some.ensures.honestly honest in (
                   step.stays_honest,
                   subst
-                      (λ asked. Learnt c.loop-made.client.keys c.loop-made.client.batch (g.L.Link.seen c.loop-made.link).past (g.L.Link.seen c.turn.new.link).past c.loop-made.client.knowns c.turn.new.client.knowns (one_if asked))
-                      c.in-Ok-true.field-0-test step.learnt,
+                      (λ asked. Learnt c.loop-made.client.keys c.loop-made.client.batch (g.L.Link.seen c.loop-made.link).past (g.L.Link.seen c.turn.new.link).past c.loop-made.client.knowns c.turn.new.client.knowns (turn_count asked))
+                      c.in-Ok-Some.field-0-is step.learnt,
                 );
             takes_nothing_back = λ honest. (c.turn.ensures.honestly honest).takes_nothing_back;
             keeps = c.turn.ensures.tries.keeps;
             near = λ settling.
                 subst
-                (λ asked. Nearer c.loop-made.client c.turn.new.client (g.L.Link.seen c.loop-made.link) (g.L.Link.seen c.turn.new.link) (one_if asked))
-                c.in-Ok-true.field-0-test (c.in-Ok-true.ensures.tries.nearer settling);
+                (λ asked. Nearer c.loop-made.client c.turn.new.client (g.L.Link.seen c.loop-made.link) (g.L.Link.seen c.turn.new.link) (turn_count asked))
+                c.in-Ok-Some.field-0-is (c.in-Ok-Some.ensures.tries.nearer settling);
             honest_still = c.turn.ensures.tries.honest;
             further = λ good.
                 further_if c.loop-made.client.keys (g.L.Link.seen c.loop-made.link) (g.L.Link.seen c.turn.new.link) _ ⊤ (λ is. search rules) (c.turn.ensures.well good).further;
@@ -263,9 +264,9 @@ loop-made-preserved g c =
           c.turn.ensures.tries.ended names (c.loop-made.invariant.driven.honest_still names honest) ∙ c.loop-made.invariant.ended names honest;
       paid = λ good honest.
           paid_then c.loop-made.made 1 _ _ _ _ _ _ (c.loop-made.invariant.paid good honest)
-          (subst (λ asked. ArePaid (one_if asked) (left_for c.loop-made.client (g.L.Link.seen c.loop-made.link).past) (left_for c.turn.new.client (g.L.Link.seen c.turn.new.link).past)
-          (g.L.Link.seen c.loop-made.link).disturbances (g.L.Link.seen c.turn.new.link).disturbances) c.in-Ok-true.field-0-test
-          (c.in-Ok-true.ensures.tries.paid (c.loop-made.invariant.driven.good good)
+          (subst (λ asked. ArePaid (turn_count asked) (left_for c.loop-made.client (g.L.Link.seen c.loop-made.link).past) (left_for c.turn.new.client (g.L.Link.seen c.turn.new.link).past)
+          (g.L.Link.seen c.loop-made.link).disturbances (g.L.Link.seen c.turn.new.link).disturbances) c.in-Ok-Some.field-0-is
+          (c.in-Ok-Some.ensures.tries.paid (c.loop-made.invariant.driven.good good)
           (still_honest (g.L.Link.seen c.args.link.now) (g.L.Link.seen c.loop-made.link) c.args.client.now c.loop-made.client c.loop-made.invariant.driven.keeps (c.loop-made.invariant.driven.honest_still (is_planned c.args.client.now.keys)) honest)));
       turned =
           turned_more _ _ c.loop-made.made c.args.client.now c.loop-made.client c.turn.new.client (g.L.Link.seen c.args.link.now).past (g.L.Link.seen c.loop-made.link).past (g.L.Link.seen c.turn.new.link).past
@@ -274,8 +275,8 @@ loop-made-preserved g c =
           c.loop-made.invariant.turned
           (subst
           (λ asked. TakesTurn ((g.L.Link.seen c.loop-made.link).honest (is_planned c.loop-made.client.keys)) asked c.loop-made.client c.turn.new.client (g.L.Link.seen c.loop-made.link).past (g.L.Link.seen c.turn.new.link).past)
-          c.in-Ok-true.field-0-test c.in-Ok-true.ensures.turned);
-      followed = g.met.L.Link.twice c.args.link.now c.loop-made.link c.turn.new.link c.loop-made.invariant.followed c.in-Ok-true.ensures.tries.followed;
+          c.in-Ok-Some.field-0-is c.in-Ok-Some.ensures.turned);
+      followed = g.met.L.Link.twice c.args.link.now c.loop-made.link c.turn.new.link c.loop-made.invariant.followed c.in-Ok-Some.ensures.tries.followed;
     }
 
 pub returns : goal.returns

@@ -1,10 +1,11 @@
 -- Asking changes whose turn it is, and nothing else.
-use Rattle.std.proofs.Common.{arith, ◌≡◌, ◌∙◌, Option, Some, Result, Ok, Err, IfOk, IsErr, ap, inl, refl, rules, subst, sym}
+use Rattle.std.proofs.Common.{arith, ◌≡◌, ◌∙◌, List, Option, Some, option_map, length, Result, Ok, Err, IfOk, IsErr, ap, inl, refl, rules, subst, sym}
 use Rattle.std.proofs.lemmas.Result.{err_from_is_err_and}
 use Rattle.std.specs.Prelude.{⊤, IfSome, IsOk}
 use Rattle.kmip_client.specs.Asking.{IsAbout, next_places}
 use Rattle.kmip_client.specs.Clients.{AreSettled, ClientState}
 use Rattle.kmip_client.specs.Known.{facts}
+use Rattle.kmip_client.specs.declared.part.Part.{Part}
 use Rattle.kmip_client.specs.declared.question.Question.{Question}
 use Rattle.kmip_protocol.specs.Past.{is_planned}
 use Rattle.kmip_runs.specs.Private.{IsAnswered, IsBrokenOff, IsToBePut}
@@ -69,6 +70,7 @@ returns-in_err-question g c =
         takes_nothing_back = grown_itself link.past;
       };
       gives_up = rw (fault.1, fault.2) (inl same, λ honest. refl);
+      asked = if_err _ result failed;
       turned = if_err _ result failed;
       settled = if_err _ result failed;
     }
@@ -105,6 +107,7 @@ returns-in_default g c =
         takes_nothing_back = grown_itself link.past;
       };
       gives_up = tt;
+      asked = ap (option_map (λ (question : Question). length question.parts)) (sym c.in_default.is ∙ c.in_ok-question.ensures.question);
       turned = record {
         next_is = asked_nothing client c.ask.new.self turn (sym c.in_ok-question.ensures.question ∙ c.in_default.is);
         past_stays = λ honest. refl;
@@ -161,6 +164,7 @@ returns-in_err-put g c =
           rw (fault.1, fault.2)
           (given_up _ _ client asked next link.past new.past c.in-Some.question c.in_err-put.field-0.0 still turn
           (sym c.in_ok-question.ensures.question ∙ c.in-Some.is) (asked_about client _ c.in-Some.question c.in-Some.is c.in_ok-question.ensures.about) c.in_err-put.ensures.lost (λ honest. (c.in_err-put.ensures.honestly honest).sent));
+      asked = if_err _ result failed;
       turned = if_err _ result failed;
       settled = if_err _ result failed;
     }
@@ -208,6 +212,9 @@ returns g c =
             takes_nothing_back = learns.takes_nothing_back;
           };
       gives_up = tt;
+      asked =
+          ap (λ (parts : List Part). Some (length parts)) c.as_slice.ensures
+          ∙ ap (option_map (λ (question : Question). length question.parts)) (sym c.in-Some.is ∙ c.in_ok-question.ensures.question);
       turned = record {
         question = c.in-Some.question;
         question_is = sym c.in_ok-question.ensures.question ∙ c.in-Some.is;

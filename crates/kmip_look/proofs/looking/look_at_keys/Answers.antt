@@ -14,7 +14,7 @@ use Rattle.kmip_look.specs.declared.part.Part.TheVariants.{Tell}
 use Rattle.kmip_look.proofs.TriedLemmas.{all_tried, tried_before, tried_onward}
 use Rattle.kmip_look.proofs.GroupLemmas.{CalmSoFar, SoFar, calm_first, calm_next, calm_told, far_broken, far_first, far_next, far_said, far_sent, front_is, group_size, joined, none_there, one_left, zip_more}
 use Rattle.kmip_look.proofs.PastLemmas.{sends_none}
-use Rattle.kmip_look.proofs.looking.look_each.Goals as goal
+use Rattle.kmip_look.proofs.looking.look_at_keys.Goals as goal
 
 pub loop-rest-init : goal.loop-rest-init
 loop-rest-init g c =

@@ -2,7 +2,7 @@
 use Rattle.std.proofs.Common.{◌≡◌, ◌<◌, ◌≤◌, ℕ, length, false, IsTrue, Some, slice_get}
 use Rattle.kmip_runs.specs.PrivateSights.{GetsOn, gets_on, sight_at}
 use Rattle.kmip_runs.specs.declared.sight.Sight.{Sight}
-use Rattle.kmip_runs.proofs.sights.Sights.take.Given as goal
+use Rattle.kmip_runs.proofs.sights.Sights.see.Given as goal
 
 abbrev pub invariant-loop-place : goal.invariant-loop-place
 invariant-loop-place l = record {

@@ -8,7 +8,7 @@ use Rattle.kmip_look.specs.PrivateTrying.{IsTriedAt}
 use Rattle.kmip_look.specs.declared.looking.TheConstants.{MOST_TRIES}
 use Rattle.kmip_look.specs.declared.part.Part.TheVariants.{Tell}
 use Rattle.kmip_look.proofs.GroupLemmas.{CalmSoFar, SoFar}
-use Rattle.kmip_look.proofs.looking.look_each.Given as goal
+use Rattle.kmip_look.proofs.looking.look_at_keys.Given as goal
 
 abbrev pub invariant-loop-rest : goal.invariant-loop-rest
 invariant-loop-rest g l = record {

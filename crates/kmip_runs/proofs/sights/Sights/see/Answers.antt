@@ -2,8 +2,8 @@
 use Rattle.std.proofs.Common.{◌≡◌, ◌∙◌, Some, length, slice_get, refl, sym, arith, rules}
 use Rattle.std.proofs.lemmas.Option.{slice_get_read, slice_get_within}
 use Rattle.kmip_runs.proofs.SightLemmas.{nowhere_more, rest_more}
-use Rattle.kmip_runs.proofs.sights.Sights.take.Goals as goal
-use Rattle.kmip_runs.proofs.sights.Sights.take.Goals.{then-take, else-take}
+use Rattle.kmip_runs.proofs.sights.Sights.see.Goals as goal
+use Rattle.kmip_runs.proofs.sights.Sights.see.Goals.{then-take, else-take}
 
 pub loop-place-preserved : goal.loop-place-preserved
 loop-place-preserved c =

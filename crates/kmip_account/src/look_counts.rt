@@ -1,0 +1,19 @@
+//! How many keys of a plan have which status, as a look sees it.
+
+/// How many keys of a plan have which status, as a look sees it.
+#[derive(Clone, Copy, Debug, PartialEq, Eq)]
+pub struct LookCounts {
+    pub finished: u64,
+    /// Keys of which steps are to be done.
+    pub working: u64,
+    pub conflict: u64,
+    /// Keys whose status the server did not report.
+    pub not_told: u64,
+}
+
+impl LookCounts {
+    /// Whether each key is finished.
+    pub fn is_finished(&self) -> bool {
+        self.working == 0 && self.conflict == 0 && self.not_told == 0
+    }
+}

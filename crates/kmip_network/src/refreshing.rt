@@ -1,0 +1,226 @@
+//! A run that first asks the server about what its progress knows.
+ghost use Rattle.std.specs.Prelude.{IsTrue};
+ghost use Rattle.kmip_messages.specs.Members.{may_have};
+
+use crate::agreeing::Agreeing;
+use crate::disagreeing::{contradiction, report_unanswered};
+use crate::ending::push_end;
+use crate::last_answer::LastAnswer;
+use crate::look_pause::LookPause;
+use crate::look_then_run::LookThenRun;
+use crate::look_watcher::LookWatcher;
+use crate::looking::{MARK_BYTES, new_mark, printed, tell_given_up};
+use crate::running::{first_wait, tell_end};
+use kmip_account::{Account, Findings, Teller, Watch};
+use kmip_choices::{Format, RunOptions};
+use kmip_look::{Pause, Why};
+use kmip_message_commands::{CommandFault, ExitStatus, finished};
+use kmip_plan_commands::{RunEnd, RunInput, begin, push_run_end};
+use kmip_protocol::Link;
+use kmip_refresh::{
+    Agreement, Beginning, KeyLook, Refresh, RefreshOutcome, Refreshed, run_refreshed,
+};
+use kmip_run_files::{MachineKeeper, Start};
+use kmip_runs::Observed;
+use kmip_trouble::{Obstacle, Trouble, print_documents, standard_output};
+use kmip_ttlv::NoMemory;
+use std::cell::Cell;
+use std::io::BufWriter;
+
+/// What a run that first looks is given.
+#[derive(Clone, Copy)]
+pub(crate) struct Refreshing<'a> {
+    pub(crate) options: &'a RunOptions,
+    pub(crate) start: &'a Start<'a>,
+    /// At how many keys it looks.
+    pub(crate) count: usize,
+    pub(crate) account: &'a Account<'a>,
+}
+
+impl<'a> Refreshing<'a> {
+    /// Prints how the run ended, and reports why.
+    fn end(
+        &self,
+        input: &RunInput<'_>,
+        keeper: &MachineKeeper<'_>,
+        watch: &mut Watch<'_>,
+        ended: Result<Refreshed<'_>, NoMemory>,
+        unbegun: Option<Trouble>,
+    ) -> Result<ExitStatus, Trouble> {
+        if let Some(trouble) = unbegun {
+            return Err(trouble);
+        }
+        let refreshed = match ended {
+            Ok(refreshed) => refreshed,
+            Err(NoMemory) => return self.out_of_memory(),
+        };
+        let looks = refreshed.looks.as_slice();
+        match &refreshed.outcome {
+            RefreshOutcome::Contradicted => Err(self.contradiction(looks)?),
+            RefreshOutcome::Unanswered(end) => {
+                let status = self.print(input, keeper, watch, end)?;
+                report_unanswered(self.account, looks);
+                Ok(status)
+            }
+            RefreshOutcome::NotBegun => self.out_of_memory(), // why it was not begun is told above
+            RefreshOutcome::Ran(end) => {
+                let status = self.print(input, keeper, watch, end)?;
+                tell_end(self.account, keeper, watch, status);
+                Ok(status)
+            }
+        }
+    }
+
+    /// The trouble that the server contradicts the progress.
+    fn contradiction(&self, looks: &[KeyLook]) -> Result<Trouble, Trouble> {
+        let alloc = self.account.rt().alloc();
+        let Ok(client) = begin(alloc, self.account.plan(), self.start.saved()) else {
+            return Err(Trouble::from(NoMemory)); // the text was read before
+        };
+        let path = self.options.progress.as_str();
+        let server = self.start.server()?;
+        let contradiction = contradiction(alloc, path, server, &client, looks)?;
+        Ok(Trouble::from(Obstacle::Contradicted(contradiction)))
+    }
+
+    /// Prints the end of a run in the form that was asked for.
+    fn print(
+        &self,
+        input: &RunInput<'_>,
+        keeper: &MachineKeeper<'_>,
+        watch: &mut Watch<'_>,
+        end: &RunEnd<'_>,
+    ) -> Result<ExitStatus, Trouble> {
+        let rt = self.account.rt();
+        let mut text = Vec::new(rt.alloc());
+        match self.options.format {
+            Format::Text => {
+                let made = push_run_end(rt.alloc(), input.report, input.path, end, &mut text);
+                let mut writer = BufWriter::new(rt.alloc(), standard_output(rt))?;
+                let made = match made {
+                    Ok(()) => Ok(end.is_refused()),
+                    Err(NoMemory) => Err(NoMemory),
+                };
+                let ended = printed(made, text.as_slice(), &mut writer);
+                Ok(finished(ended, &mut writer))
+            }
+            Format::Json => {
+                let failure = keeper.failure();
+                let made = push_end(rt.alloc(), watch, input.path, failure, end, &mut text);
+                Ok(print_documents(rt, made, text.as_slice()))
+            }
+        }
+    }
+
+    /// Memory ran out.
+    fn out_of_memory(&self) -> Result<ExitStatus, Trouble> {
+        let rt = self.account.rt();
+        match self.options.format {
+            Format::Text => {
+                let mut writer = BufWriter::new(rt.alloc(), standard_output(rt))?;
+                Ok(finished(Err(CommandFault::NoMemory), &mut writer))
+            }
+            Format::Json => Ok(print_documents(rt, Err(NoMemory), &[])),
+        }
+    }
+}
+
+/// Asks the server about each key that the progress knows, and carries out the plan over this link if the
+/// server agrees. If the server is silent, it is asked again, until the run gives up.
+///
+/// # Errors
+/// If the server contradicts the progress, or the run cannot begin.
+pub(crate) fn run_after_look<L: Link + Drop>(
+    refreshing: &Refreshing<'_>,
+    input: &RunInput<'_>,
+    keeper: &mut MachineKeeper<'_>,
+    findings: &mut Findings,
+    link: L,
+) -> Result<ExitStatus, Trouble>
+    requires { IsTrue (may_have input.now.batch) }
+{
+    let (account, options) = (refreshing.account, refreshing.options);
+    let (rt, log) = (account.rt(), account.log());
+    let (mark, has_begun) = (Cell::new([0; MARK_BYTES]), Cell::new(false));
+    let last = LastAnswer::none_yet(rt);
+    let look = LookWatcher::new(log, &last, &mark, refreshing.count);
+    let observer = LookThenRun::new(look, Teller::new(account), &has_begun);
+    let mut link = Observed::new(link, observer);
+    let mut watch = Watch::new(account, findings, first_wait(options), options.give_up);
+    let mut pause = LookPause::new(rt, log, &last, first_wait(options), options.give_up);
+    let mut beginning = Agreeing::new(account, refreshing.start, &has_begun);
+    for _ in 0..u64::MAX {
+        mark.set(new_mark(rt)?);
+        let (ended, paused, begun) = attempt(
+            refreshing,
+            input,
+            &mark,
+            (pause, beginning),
+            &mut link,
+            keeper,
+            &mut watch,
+        );
+        pause = paused;
+        beginning = begun;
+        if is_silent(&ended) && pause.again() {
+            continue;
+        }
+        if pause.has_given_up() {
+            tell_given_up(rt, options.give_up);
+        }
+        return refreshing.end(input, keeper, &mut watch, ended, beginning.into_trouble());
+    }
+    Ok(ExitStatus::Refused) // the server was silent 2^64 - 1 times
+}
+
+/// Looks at the keys under this mark, and makes the run if the server agrees.
+fn attempt<'b, L: Link, P: Pause, B: Beginning>(
+    refreshing: &'b Refreshing<'_>,
+    input: &RunInput<'_>,
+    mark: &Cell<[u8; MARK_BYTES]>,
+    parts: (P, B),
+    link: &mut L,
+    keeper: &mut MachineKeeper<'_>,
+    watch: &mut Watch<'_>,
+) -> (Result<Refreshed<'b>, NoMemory>, P, B)
+    requires { IsTrue (may_have input.now.batch) }
+{
+    let mark = mark.get();
+    let (pause, beginning) = parts;
+    let mut refresh = Refresh {
+        mark: &mark,
+        pause,
+        beginning,
+    };
+    let ended = run_refreshed(
+        refreshing.account.rt().alloc(),
+        refreshing.account.plan(),
+        input,
+        refreshing.start.saved(),
+        &mut refresh,
+        link,
+        keeper,
+        watch,
+    );
+    refreshing.account.log().end_line();
+    (ended, refresh.pause, refresh.beginning)
+}
+
+/// Whether some key got no answer because no reply came, so that the server may be asked again.
+fn is_silent(ended: &Result<Refreshed<'_>, NoMemory>) -> bool {
+    match ended {
+        Ok(
+            Refreshed {
+                looks,
+                outcome: RefreshOutcome::Unanswered(_),
+            },
+        ) => looks.iter().any(|look| is_unheard(look)),
+        Ok(_) | Err(NoMemory) => false,
+    }
+}
+
+/// Whether no reply about the key came.
+fn is_unheard(look: &KeyLook) -> bool {
+    look.agreement == Agreement::Unanswered
+        && matches!(look.looked.why, Why::NoReply | Why::NotAsked)
+}

@@ -1,0 +1,4 @@
+pub mod KnownLemmas
+pub mod AgreementLemmas
+pub mod MomentLemmas
+pub mod LookLemmas

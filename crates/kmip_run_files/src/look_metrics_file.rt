@@ -1,0 +1,66 @@
+//! The file that a collector of metrics reads of a look.
+
+use crate::metrics_place::MetricsPlace;
+use crate::origin::now;
+use kmip_account::{ExchangeLog, LookCounts, LookMetrics, LookTimes};
+use kmip_choices::LookOptions;
+use std::io;
+
+/// The file that a collector of metrics reads of a look. A failure to write it changes nothing of the look: it is
+/// reported on standard error.
+#[derive(Drop)]
+pub struct LookMetricsFile<'a> {
+    rt: &'a HostRuntime,
+    place: MetricsPlace<'a>,
+    /// The path of the plan, as the command line has it.
+    plan: &'a str,
+}
+
+impl<'a> LookMetricsFile<'a> {
+    /// That of a look; none if none is asked for, or it cannot be used, which is reported.
+    pub fn of(rt: &'a HostRuntime, options: &'a LookOptions) -> Option<LookMetricsFile<'a>> {
+        let path = match &options.metrics {
+            Some(path) => path.as_str(),
+            None => return None,
+        };
+        let place = MetricsPlace::of(rt, path, options.plan.as_str(), None)?;
+        Some(LookMetricsFile {
+            rt,
+            place,
+            plan: options.plan.as_str(),
+        })
+    }
+
+    /// Writes the metrics of a look that has ended.
+    pub fn write(&self, log: &ExchangeLog<'_>, counts: LookCounts) {
+        if let Err(error) = self.write_text(log, counts) {
+            self.place.report(&error);
+        }
+    }
+
+    fn write_text(&self, log: &ExchangeLog<'_>, counts: LookCounts) -> io::Result<()> {
+        let before = match self.place.text()? {
+            Some(text) => LookTimes::of_text(text.as_str()),
+            None => LookTimes::of_text(""),
+        };
+        let now = now(self.rt)?;
+        let answer = match log.seconds_since_answer() {
+            Some(seconds) => Some(now.saturating_sub(seconds)),
+            None => before.answer,
+        };
+        let finish = if counts.is_finished() {
+            Some(now)
+        } else {
+            before.finish
+        };
+        let metrics = LookMetrics {
+            plan: self.plan,
+            counts,
+            spent: log.spent(),
+            milliseconds: log.milliseconds(),
+            last: LookTimes { answer, finish },
+        };
+        let text = metrics.text(self.rt.alloc())?;
+        self.place.write(text.as_str())
+    }
+}
