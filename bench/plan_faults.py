@@ -137,7 +137,18 @@ REFUSED = [
     ('a usage twice, and an unknown one', plan(key(usage='["sign", "sign", 5]')), '8 BadUsage at key 1',
      f':5: key 1 "a": the usage has 5: it may have {USAGES}'),
     ('an unknown usage in an array of several lines', plan(key(), key(name='"b"', usage='[\n"sign",\n"crypt"\n]')),
-     '8 BadUsage at key 2', f':11: key 2 "b": the usage has "crypt": it may have {USAGES}'),
+     '8 BadUsage at key 2', f':13: key 2 "b": the usage has "crypt": it may have {USAGES}'),
+    ('a usage twice in an array of several lines', plan(key(usage='[\n"sign", "verify", # ]\n\n"sign",\n]')),
+     '8 BadUsage at key 1', f':8: key 1 "a": the usage has "sign" twice: it may have {USAGES}'),
+    ('no usage, over several lines', plan(key(), key(name='"b"', usage='[\n5]')), '8 BadUsage at key 2',
+     f':12: key 2 "b": the usage has 5: it may have {USAGES}'),
+    ('an unknown usage in an array that begins the key', plan(key(), 'usage = [\n"sign",\n"crypt",\n"verify"]\n'
+     + key(name='"b"', usage=None)), '8 BadUsage at key 2', f':10: key 2 "b": the usage has "crypt": it may have {USAGES}'),
+    ('an unknown usage in a text over two lines', plan(key(usage='[\n"""a\nb""", "sign"]')), '8 BadUsage at key 1',
+     f':7: key 1 "a": the usage has "a\\nb": it may have {USAGES}'),
+    ('an unknown usage in a key in one array of several lines',
+     'key = [\n{' + key(usage='["sign",\n"crypt"]').replace('\n', ', ')[:-2].replace('["sign", ', '["sign",\n') + '},\n]\n',
+     '8 BadUsage at key 1', f': key 1 "a": the usage has "crypt": it may have {USAGES}'),
     ('an unknown target', plan(key(target='"gone"')), '9 BadTarget at key 1',
      f':6: key 1 "a": the target is "gone": it may be {TARGETS}'),
     ('a reason that is a compromise', plan(key(target='"revoked"', reason='"key-compromise"')), '10 BadReason at key 1',
@@ -239,6 +250,9 @@ UNSUITED = [
     ('an AES key that is to authenticate', plan(key(), key(name='"b"', usage='["decrypt", "mac-verify"]')),
      printed('a') + printed('b', usage='00000108'),
      [':11: key 2 "b": the usage "mac-verify" does not suit AES: use encrypt, decrypt, wrap-key or unwrap-key']),
+    ('an AES key that is to authenticate, over several lines',
+     plan(key(), key(name='"b"', usage='[\n"decrypt",\n"mac-verify", "sign"\n]')), printed('a') + printed('b', usage='00000109'),
+     [':13: key 2 "b": the usage "mac-verify" does not suit AES: use encrypt, decrypt, wrap-key or unwrap-key']),
 ]
 
 # A fault, for the commands beside `check`.

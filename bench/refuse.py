@@ -55,6 +55,9 @@ LONGEST = 90
 NO_MEMORY = "no memory\n"
 NO_MEMORY_DOCUMENT = '{"fault":"no memory"}\n'
 
+# Why a command may do all as undisturbed: what it had no memory for, it would have told on standard error.
+UNTOLD = "had no memory for what it would tell"
+
 # The progress of a plan whose key k1 was destroyed, as object 1.
 FINISHED = "kmip-progress 2\nk1 destroyed 1 4 31\nend 1\n"
 
@@ -246,6 +249,14 @@ class Simulation(Command):
         return {"".join(blocks[:number]) for number in range(len(blocks) + 1)}
 
 
+class Asking(Command):
+    """The command `look` or `probe` against a server in the same process."""
+
+    def excuse(self, run):
+        """It may lack memory for what it would tell on standard error, and then does all else as undisturbed."""
+        return super().excuse(run) or UNTOLD
+
+
 class Carrying(Command):
     """The command `run` against a server in the same process."""
 
@@ -300,7 +311,7 @@ class Carrying(Command):
             return None
         if self.is_untold:
             return "left a line of standard error out"
-        return super().excuse(run) or "had no memory for what it would tell"
+        return super().excuse(run) or UNTOLD
 
     def fronts(self):
         return {""}
@@ -488,8 +499,8 @@ def commands_of(tools):
         Carrying(tools, destroyed, "--verbose"),
         Carrying(tools, destroyed, begun=FINISHED, shown=", all done before"),
         Command(tools, ["list", "--plan", destroyed, "--progress", finished], shown="list"),
-        Command(tools, ["look", "--plan", plan, "--loopback"], shown="look --loopback", status=1),
-        Command(tools, probe, shown="probe --loopback"),
+        Asking(tools, ["look", "--plan", plan, "--loopback"], shown="look --loopback", status=1),
+        Asking(tools, probe, shown="probe --loopback"),
         Serving(tools, messages),
         Serving(tools, messages, "--at-once", 2),
         Command(tools, ["check", "--plan", plan, "--json"], shown="check --json"),
@@ -497,8 +508,8 @@ def commands_of(tools):
         sim("--json", active, loses, ["--json"]),
         Carrying(tools, destroyed, "--json"),
         Command(tools, ["list", "--plan", destroyed, "--progress", finished, "--json"], shown="list --json"),
-        Command(tools, ["look", "--plan", plan, "--loopback", "--json"], shown="look --loopback --json", status=1),
-        Command(tools, [*probe, "--json"], shown="probe --loopback --json"),
+        Asking(tools, ["look", "--plan", plan, "--loopback", "--json"], shown="look --loopback --json", status=1),
+        Asking(tools, [*probe, "--json"], shown="probe --loopback --json"),
     ]
 
 

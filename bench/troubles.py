@@ -520,10 +520,10 @@ class Troubles:
 
     def terminals(self):
         """The line of progress: it begins at the start of a line, erases what stands behind it, and no more."""
-        wanted = ('\r0 of 1 keys, 0 exchanges, at most 5 more, T s\x1b[K'
-                  '\r0 of 1 keys, 1 exchange, at most 5 more, T s\x1b[K'
-                  '\r0 of 1 keys, 2 exchanges, at most 3 more, T s\x1b[K'
-                  '\r1 of 1 keys, 3 exchanges, at most 0 more, T s\x1b[K\r\n')
+        wanted = ('\r0 of 2 steps, 0 exchanges, at most 5 more, T s\x1b[K'
+                  '\r0 of 2 steps, 1 exchange, at most 5 more, T s\x1b[K'
+                  '\r1 of 2 steps, 2 exchanges, at most 3 more, T s\x1b[K'
+                  '\r2 of 2 steps, 3 exchanges, at most 0 more, T s\x1b[K\r\n')
         port = self.serve()
         where = ('--connect', f'127.0.0.1:{port}')
         self.start()
@@ -541,18 +541,18 @@ class Troubles:
         self.look('a run that first looks, at a terminal',
                   (self.at_terminal('xterm', where, ('--refresh',)), looked * 2 + '\r\n'))
         self.start()
-        wanted = ('\r0 of 1 keys, 0 exchanges, at most 5 more, T s\x1b[K'
-                  '\r0 of 1 keys, 1 exchange, at most 5 more, T s\x1b[K'
-                  '\r0 of 1 keys, 1 refused, 2 exchanges, T s\x1b[K\r\n'
+        wanted = ('\r0 of 2 steps, 0 exchanges, at most 5 more, T s\x1b[K'
+                  '\r0 of 2 steps, 1 exchange, at most 5 more, T s\x1b[K'
+                  '\r0 of 2 steps, 1 refused, 2 exchanges, T s\x1b[K\r\n'
                   'k1: Create refused 1 time, last reason 7 (Invalid Field)\r\n')
         where = ('--connect', f'127.0.0.1:{peer_with(refusing_create(7))}')
         self.look('the line of progress, of a refusal', (self.at_terminal('xterm', where, ('--limit', '2')), wanted))
         listener, port = bound()
         self.start()
-        wanted = ('\r0 of 1 keys, 0 exchanges, at most 5 more, T s\x1b[K\r\n'
+        wanted = ('\r0 of 2 steps, 0 exchanges, at most 5 more, T s\x1b[K\r\n'
                   f'no reply from 127.0.0.1:{port}: the connection was refused; trying again\r\n'
-                  '\r0 of 1 keys, 1 lost, 1 exchange, T s\x1b[K'
-                  '\r0 of 1 keys, 2 lost, 2 exchanges, T s\x1b[K\r\n'
+                  '\r0 of 2 steps, 1 lost, 1 exchange, T s\x1b[K'
+                  '\r0 of 2 steps, 2 lost, 2 exchanges, T s\x1b[K\r\n'
                   'no reply in 2 exchanges\r\n')
         where = ('--connect', f'127.0.0.1:{port}')
         self.look('the line of progress, of losses', (self.at_terminal('xterm', where, ('--limit', '2')), wanted))
@@ -572,10 +572,10 @@ class Troubles:
         with open(trace) as traced:
             written = re.findall(r'write\(2, "(.*)", (\d+)\) += \2$', traced.read(), re.M)
         lines = [re.sub(r', \d+ s', ', T s', text) for text, _ in written]
-        self.look(what, (lines, [r'\r0 of 1 keys, 0 exchanges, at most 5 more, T s\33[K',
-                                 r'\r0 of 1 keys, 1 exchange, at most 5 more, T s\33[K',
-                                 r'\r0 of 1 keys, 2 exchanges, at most 3 more, T s\33[K',
-                                 r'\r1 of 1 keys, 3 exchanges, at most 0 more, T s\33[K', r'\n']))
+        self.look(what, (lines, [r'\r0 of 2 steps, 0 exchanges, at most 5 more, T s\33[K',
+                                 r'\r0 of 2 steps, 1 exchange, at most 5 more, T s\33[K',
+                                 r'\r1 of 2 steps, 2 exchanges, at most 3 more, T s\33[K',
+                                 r'\r2 of 2 steps, 3 exchanges, at most 0 more, T s\33[K', r'\n']))
 
     def end(self):
         for server in self.servers:

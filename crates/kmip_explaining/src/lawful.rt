@@ -54,22 +54,24 @@ pub(crate) fn is_never_revoked(target: &str) -> bool {
     matches!(target, "created" | "active" | "discarded")
 }
 
-/// The first element that names no usage.
-pub(crate) fn no_usage(usages: &Array) -> Option<&Value> {
-    usages
-        .as_slice()
-        .iter()
-        .find(|value| !value.as_str().is_some_and(is_usage))
+/// The index of the first element that names no usage.
+pub(crate) fn no_usage(usages: &Array) -> Option<usize> {
+    for (index, value) in usages.as_slice().iter().enumerate() {
+        if !value.as_str().is_some_and(is_usage) {
+            return Some(index);
+        }
+    }
+    None
 }
 
-/// The first word that stands in the array before.
-pub(crate) fn twice(usages: &Array) -> Option<&str> {
+/// The index of the first word that stands in the array before.
+pub(crate) fn twice(usages: &Array) -> Option<usize> {
     let usages = usages.as_slice();
     for (index, value) in usages.iter().enumerate() {
         let word = value.as_str()?;
         let earlier = usages.iter().take(index);
         if earlier.filter_map(Value::as_str).any(|other| other == word) {
-            return Some(word);
+            return Some(index);
         }
     }
     None

@@ -2,6 +2,7 @@
 
 use kmip_ttlv::NoMemory;
 use std::alloc::{AllocError, AllocFailed, Global};
+use toml::value::Array;
 use toml::{Table, Value};
 
 /// The most bytes that are read again for the place of one fault (own).
@@ -19,6 +20,8 @@ pub(crate) enum Sought<'a> {
     Key(usize),
     /// A field of the key at a place.
     Field(usize, &'a str),
+    /// The element with an index from 0 of an array that is a field of the key at a place.
+    Element(usize, &'a str, usize),
 }
 
 impl<'a> Sought<'a> {
@@ -31,6 +34,17 @@ impl<'a> Sought<'a> {
                 Some(key) => field_at(key, field).is_some(),
                 None => false,
             },
+            Sought::Element(place, field, index) => {
+                elements_at(table, place, field).is_some_and(|elements| index < elements.len())
+            }
+        }
+    }
+
+    /// What begins with the statement that has what is sought.
+    fn statement(self) -> Sought<'a> {
+        match self {
+            Sought::Element(place, field, _) => Sought::Field(place, field),
+            Sought::Top(_) | Sought::Key(_) | Sought::Field(..) => self,
         }
     }
 }
@@ -44,6 +58,11 @@ pub(crate) fn key_at(table: &Table, place: usize) -> Option<&Value> {
 /// The field of a key; none where the key is no table.
 pub(crate) fn field_at<'a>(key: &'a Value, field: &str) -> Option<&'a Value> {
     key.as_table()?.get(field)
+}
+
+/// The elements of an array that is a field of the key at a place from 1.
+fn elements_at<'a>(table: &'a Table, place: usize, field: &str) -> Option<&'a Array> {
+    field_at(key_at(table, place)?, field)?.as_array()
 }
 
 /// The name of a key, where it is a text.
@@ -103,18 +122,44 @@ impl<'a> Fronts<'a> {
     /// Whether the front that ends with the line of this index has what is sought; none where it is no
     /// TOML, as where it ends within an array.
     fn has(&mut self, index: usize, sought: Sought<'a>) -> Result<Option<bool>, Unplaced> {
-        let Some(end) = self.ends.get(index) else {
-            return Ok(None);
-        };
-        let Some(front) = self.text.get(..*end) else {
-            return Ok(None);
-        };
-        self.left = self.left.checked_sub(front.len()).ok_or(Unplaced::TooLong)?;
-        match toml::table_from_str(self.alloc, front) {
+        match self.front(index) {
+            Some(front) => self.is_in(front, sought),
+            None => Ok(None),
+        }
+    }
+
+    /// The front that ends with the line of this index.
+    fn front(&self, index: usize) -> Option<&'a str> {
+        self.text.get(..*self.ends.get(index)?)
+    }
+
+    /// Whether a text has what is sought; none if it is not TOML.
+    fn is_in(&mut self, text: &str, sought: Sought<'a>) -> Result<Option<bool>, Unplaced> {
+        self.left = self.left.checked_sub(text.len()).ok_or(Unplaced::TooLong)?;
+        match toml::table_from_str(self.alloc, text) {
             Ok(table) => Ok(Some(sought.is_in(&table))),
             Err(fault) if fault.is_memory() => Err(Unplaced::NoMemory),
             Err(_) => Ok(None),
         }
+    }
+
+    /// The index of the first line, from `begins` on, up to which an array has this element. A front that ends within
+    /// the array is read with the bracket that closes it.
+    fn element(&mut self, begins: usize, element: Sought<'a>) -> Result<Option<usize>, Unplaced> {
+        for index in begins..self.ends.len() {
+            let Some(front) = self.front(index) else {
+                return Ok(None);
+            };
+            let mut closed = String::from_str(self.alloc, front)?;
+            closed.push_str("\n]")?;
+            if self.is_in(closed.as_str(), element)? == Some(true) {
+                return Ok(Some(index));
+            }
+            if let Some(has) = self.is_in(front, element)? {
+                return Ok(if has { Some(index) } else { None });
+            }
+        }
+        Ok(None)
     }
 
     /// The last front of those from `low` on and before `high` that is TOML, by its index, and whether
@@ -172,7 +217,7 @@ impl<'a> Fronts<'a> {
     fn is_alone(&mut self, before: Option<usize>) -> Result<bool, Unplaced> {
         match (self.sought, before) {
             (Sought::Top(_), _) => Ok(true),
-            (Sought::Key(_), _) | (Sought::Field(..), None) => Ok(false),
+            (Sought::Key(_) | Sought::Element(..), _) | (Sought::Field(..), None) => Ok(false),
             (Sought::Field(place, _), Some(before)) => {
                 Ok(self.has(before, Sought::Key(place))? == Some(true))
             }
@@ -182,6 +227,7 @@ impl<'a> Fronts<'a> {
 
 /// The line, from 1, at which that begins in the text which is sought; none where it cannot be told, as
 /// in an array of keys over several lines. The lines are halved, so that few fronts of the text are read.
+/// Of an element whose line cannot be told it is the line of the array.
 ///
 /// # Errors
 /// Where there is no memory.
@@ -190,10 +236,22 @@ pub(crate) fn line_of(
     text: &str,
     sought: Sought<'_>,
 ) -> Result<Option<usize>, NoMemory> {
-    let mut fronts = Fronts::new(alloc, text, sought)?;
-    match fronts.beginning() {
-        Ok(Some(index)) => Ok(index.checked_add(1)),
-        Ok(None) | Err(Unplaced::TooLong) => Ok(None),
+    let mut fronts = Fronts::new(alloc, text, sought.statement())?;
+    let Some(begins) = within_bounds(fronts.beginning())? else {
+        return Ok(None);
+    };
+    let index = match sought {
+        Sought::Element(..) => within_bounds(fronts.element(begins, sought))?.unwrap_or(begins),
+        Sought::Top(_) | Sought::Key(_) | Sought::Field(..) => begins,
+    };
+    Ok(index.checked_add(1))
+}
+
+/// What was found; none if too much had to be read.
+fn within_bounds(found: Result<Option<usize>, Unplaced>) -> Result<Option<usize>, NoMemory> {
+    match found {
+        Ok(index) => Ok(index),
+        Err(Unplaced::TooLong) => Ok(None),
         Err(Unplaced::NoMemory) => Err(NoMemory),
     }
 }

@@ -152,6 +152,13 @@ impl<'a> Refused<'a> {
         Some((word, lengths_of(word)?))
     }
 
+    /// The index of the usage of that key that is at fault: the first element that is none, else the
+    /// first word that stands there before.
+    fn wrong_usage(self) -> Option<usize> {
+        let usages = self.field("usage")?.as_array()?;
+        no_usage(usages).or_else(|| twice(usages))
+    }
+
     /// What of the text is at fault; none where nothing is there.
     fn sought(self) -> Option<Sought<'a>> {
         match self.fault {
@@ -168,7 +175,10 @@ impl<'a> Refused<'a> {
                 Some(_) => Some(Sought::Field(*place, "length")),
                 None => Some(Sought::Field(*place, "algorithm")),
             },
-            PlanFault::BadUsage(place) => Some(Sought::Field(*place, "usage")),
+            PlanFault::BadUsage(place) => match self.wrong_usage() {
+                Some(index) => Some(Sought::Element(*place, "usage", index)),
+                None => Some(Sought::Field(*place, "usage")),
+            },
             PlanFault::BadTarget(place) => Some(Sought::Field(*place, "target")),
             PlanFault::BadReason(place) => Some(Sought::Field(*place, "reason")),
         }
@@ -277,15 +287,13 @@ impl<'a> Refused<'a> {
         let Some(Value::Array(usages)) = self.field("usage") else {
             return self.push_wrong("usage", USAGES, out);
         };
-        if let Some(value) = no_usage(usages) {
-            out.push_str("the usage has ")?;
-            push_value(out, Some(value))?;
-        } else if let Some(word) = twice(usages) {
-            out.push_str("the usage has ")?;
-            push_quoted(out, word)?;
-            out.push_str(" twice")?;
-        } else {
+        let Some(index) = self.wrong_usage() else {
             return self.push_wrong("usage", USAGES, out);
+        };
+        out.push_str("the usage has ")?;
+        push_value(out, usages.as_slice().get(index))?;
+        if no_usage(usages).is_none() {
+            out.push_str(" twice")?;
         }
         write!(out, ": it may have {USAGES}")
     }

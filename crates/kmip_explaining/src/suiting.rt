@@ -30,14 +30,14 @@ pub fn warn_of_usages(rt: &HostRuntime, path: &str, plan: &str) -> Result<(), No
         let Some(key) = key_at(&table, place) else {
             return Ok(());
         };
-        let Some(word) = unsuited(key) else {
+        let Some(unsuited) = unsuited(key) else {
             continue;
         };
         if left == 0 {
             return Ok(());
         }
         left -= 1;
-        let line = warning(alloc, path, plan, place, key, word)?;
+        let line = warning(alloc, path, plan, place, key, unsuited)?;
         let _ = rt.eprintln(line.as_str());
     }
     Ok(())
@@ -50,12 +50,12 @@ fn warning(
     plan: &str,
     place: usize,
     key: &Value,
-    word: &str,
+    (index, word): (usize, &str),
 ) -> Result<String, NoMemory> {
     let algorithm = field_at(key, "algorithm")
         .and_then(Value::as_str)
         .unwrap_or("");
-    let line = line_of(alloc, plan, Sought::Field(place, "usage"))?;
+    let line = line_of(alloc, plan, Sought::Element(place, "usage", index))?;
     let mut out = String::from_str(alloc, "warning: ")?;
     push_place(&mut out, path, line)?;
     push_key(&mut out, place, name_of(key))?;
@@ -67,15 +67,17 @@ fn warning(
     Ok(out)
 }
 
-/// The first usage of a key that does not suit its algorithm.
-fn unsuited(key: &Value) -> Option<&str> {
+/// The first usage of a key that does not suit its algorithm, with its index.
+fn unsuited(key: &Value) -> Option<(usize, &str)> {
     let algorithm = field_at(key, "algorithm")?.as_str()?;
     let usages = field_at(key, "usage")?.as_array()?;
-    usages
-        .as_slice()
-        .iter()
-        .filter_map(Value::as_str)
-        .find(|word| !suits(algorithm, word))
+    for (index, value) in usages.as_slice().iter().enumerate() {
+        match value.as_str() {
+            Some(word) if !suits(algorithm, word) => return Some((index, word)),
+            Some(_) | None => {}
+        }
+    }
+    None
 }
 
 /// Whether a usage suits an algorithm: AES enciphers, and HMAC-SHA256 authenticates.

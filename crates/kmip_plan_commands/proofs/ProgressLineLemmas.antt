@@ -1,13 +1,21 @@
--- The line that says how far a run is has at most 60 columns.
-use Rattle.std.proofs.Common.{◌≤◌, ◌-◌, ◌==◌, ℕ, nat_le, Bool, true, false, ◌&&◌, List, [], length, codes, inl, inr, lit≤, arith, if◌then◌else◌}
+-- The line that says how far a run is has at most 60 columns, and what it counts is small.
+use Rattle.std.proofs.Common.{◌≤◌, ◌-◌, ◌*◌, ◌==◌, ℕ, nat_le, Bool, true, false, ◌&&◌, List, [], ◌∷◌, length, codes, inl, inr, lit≤, arith, if◌then◌else◌}
 use Rattle.std.proofs.lemmas.Bool.{cases_Bool, leb-true}
 use Rattle.std.proofs.lemmas.List.{length-append}
+use Rattle.kmip_plan.specs.Chains.{chain}
+use Rattle.kmip_plan.specs.declared.key.Key.{Key}
+use Rattle.kmip_plan.specs.declared.target.Target.{Target}
+use Rattle.kmip_plan.specs.declared.target.Target.TheVariants as targets
+use Rattle.kmip_client.specs.Knowledge.{chain_length}
+use Rattle.kmip_client.specs.Verdicts.{AreWithin}
 use Rattle.kmip_plan_commands.specs.ProgressLineText.{
   count_part,
   exchanges_word,
-  keys_part,
   most_columns,
   standing_text,
+  steps_of,
+  steps_part,
+  sum_of,
   trouble_text,
   with_most,
   with_part,
@@ -35,18 +43,33 @@ with_trouble_narrow : (line after : List ℕ) (count : ℕ) → IsNarrow line �
 with_trouble_narrow line after count narrow =
     choice_narrow (count == 0) line _ narrow (with_part_narrow line (count_part (codes ", ") count after) narrow)
 
-trouble_narrow : (finished keys : ℕ) (spent : Spent) → IsNarrow (trouble_text finished keys spent)
-trouble_narrow finished keys spent =
+trouble_narrow : (done steps : ℕ) (spent : Spent) → IsNarrow (trouble_text done steps spent)
+trouble_narrow done steps spent =
     with_trouble_narrow _ (codes " refused") spent.refused
-    (with_trouble_narrow _ (codes " lost") spent.lost (with_part_narrow [] (keys_part finished keys) (lit≤ tt)))
+    (with_trouble_narrow _ (codes " lost") spent.lost (with_part_narrow [] (steps_part done steps) (lit≤ tt)))
 
 with_most_narrow : (line : List ℕ) (spent : Spent) (most : ℕ) → IsNarrow line → IsNarrow (with_most line spent most)
 with_most_narrow line spent most narrow =
     choice_narrow ((spent.lost == 0) && (spent.refused == 0)) _ line
     (with_part_narrow line (count_part (codes ", at most ") most (codes " more")) narrow) narrow
 
-pub standing_narrow : (finished keys : ℕ) (spent : Spent) (most : ℕ) → length (standing_text finished keys spent most) ≤ most_columns
-standing_narrow finished keys spent most =
+pub standing_narrow : (done steps : ℕ) (spent : Spent) (most : ℕ) → length (standing_text done steps spent most) ≤ most_columns
+standing_narrow done steps spent most =
     with_part_narrow _ (count_part (codes ", ") spent.seconds (codes " s"))
     (with_most_narrow _ spent most
-    (with_part_narrow _ (count_part (codes ", ") spent.exchanges (exchanges_word spent.exchanges)) (trouble_narrow finished keys spent)))
+    (with_part_narrow _ (count_part (codes ", ") spent.exchanges (exchanges_word spent.exchanges)) (trouble_narrow done steps spent)))
+
+chain_few : (target : Target) → length (chain target) ≤ 4
+chain_few targets.Created = lit≤ tt
+chain_few targets.Active = lit≤ tt
+chain_few targets.Revoked = lit≤ tt
+chain_few targets.Destroyed = lit≤ tt
+chain_few targets.Discarded = lit≤ tt
+
+-- no more steps are counted than four for each key
+pub sum_few : (keys : List Key) (counts : List ℕ) → AreWithin keys counts → sum_of counts ≤ 4 * length keys
+sum_few [] [] within = lit≤ tt
+sum_few [] (count ∷ counts) within = elim within [ ]
+sum_few (key ∷ keys) [] within = elim within [ ]
+sum_few (key ∷ keys) (count ∷ counts) (within, rest) =
+    omega (arith, within, chain_few key.target, sum_few keys counts rest)

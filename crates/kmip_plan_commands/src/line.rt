@@ -1,14 +1,16 @@
 //! How far a run is, while it works.
-ghost use Rattle.std.specs.Prelude.{◌≡◌, ◌≤◌, length, IfOk, OnOk, string_bytes};
+ghost use Rattle.std.specs.Prelude.{◌≡◌, ◌≤◌, ◌*◌, length, IfOk, OnOk, string_bytes};
 ghost use Rattle.kmip_client.specs.Bounding.{most_left};
-ghost use Rattle.kmip_client.specs.Verdicts.{verdicts_of};
-ghost use Rattle.kmip_runs.specs.Reporting.{finished_count};
+ghost use Rattle.kmip_client.specs.Verdicts.{counts_of, AreWithin};
+ghost use Rattle.kmip_plan.specs.Limits.{most_keys};
 ghost use Rattle.kmip_plan_commands.specs.ProgressLineText.{
   count_part,
   exchanges_word,
-  keys_part,
   most_columns,
   standing_text,
+  steps_of,
+  steps_part,
+  sum_of,
   trouble_text,
   with_most,
   with_part,
@@ -17,7 +19,7 @@ ghost use Rattle.kmip_plan_commands.specs.ProgressLineText.{
 
 use crate::spent::Spent;
 use kmip_client::Client;
-use kmip_runs::finished_count;
+use kmip_plan::{Key, chain_length};
 use kmip_ttlv::NoMemory;
 use std::alloc::Global;
 
@@ -25,7 +27,7 @@ use std::alloc::Global;
 const MOST_COLUMNS: usize = 60;
 
 /// The line that says how far a run is, by what its client knows and what it has spent. It says how
-/// many keys are finished, how many exchanges were lost and how many questions were refused, if any. It
+/// many steps are done, how many exchanges were lost and how many questions were refused, if any. It
 /// says how many exchanges were made, and for how many seconds the run has gone on. As long as nothing
 /// was lost or refused, it also says how many more exchanges are made at most. What the line has no
 /// room for is left out.
@@ -33,33 +35,49 @@ const MOST_COLUMNS: usize = 60;
 /// # Errors
 /// Where there is no memory.
 pub fn progress_line(alloc: Global, client: &Client<'_>, spent: Spent) -> Result<String, NoMemory>
-    // The line is exactly the stated text of what was spent, of how many keys the report counts as
-    // finished, and of the most exchanges that may be left by what the client knows.
+    // The line is exactly the stated text of what was spent, of how many steps of the plan are known to
+    // be done, and of the most exchanges that may be left by what the client knows.
     ensures text { IfOk result (λ line. string_bytes line ≡ standing_text
-        (finished_count (verdicts_of client.now.keys client.now.knowns)) (length client.now.keys)
+        (sum_of (counts_of client.now.knowns)) (steps_of client.now.keys)
         spent (most_left client.now.keys client.now.knowns)) }
     // It has at most 60 columns.
     ensures narrow { IfOk result (λ line. length (string_bytes line) ≤ most_columns) }
 {
-    let verdicts = client.verdicts(alloc)?;
-    let finished = finished_count(verdicts.as_slice());
-    let most = client.most_left();
-    line_of(alloc, finished, client.plan().count(), spent, most)
+    let counts = client.counts(alloc)?;
+    let plan = client.plan();
+    let (done, steps) = steps_of(plan.keys(), counts.as_slice());
+    line_of(alloc, done, steps, spent, client.most_left())
 }
 
-/// The line for this many keys, and at most this many more exchanges.
+/// How many steps of these keys are done, by the count of each, and how many there are.
+fn steps_of(keys: &[Key], counts: &[usize]) -> (usize, usize)
+    requires few { length keys.now ≤ most_keys }
+    requires as_many { length counts.now ≡ length keys.now }
+    requires within { AreWithin keys.now counts.now }
+    ensures done { result.0 ≡ sum_of counts.now }
+    ensures steps { result.1 ≡ steps_of keys.now }
+{
+    let (mut done, mut steps) = (0, 0);
+    for place in 0..keys.len() {
+        done += counts[place];
+        steps += chain_length(&keys[place]);
+    }
+    (done, steps)
+}
+
+/// The line for this many steps, and at most this many more exchanges.
 fn line_of(
     alloc: Global,
-    finished: usize,
-    keys: usize,
+    done: usize,
+    steps: usize,
     spent: Spent,
     most: usize,
 ) -> Result<String, NoMemory>
     ensures text { IfOk result (λ line. string_bytes line
-        ≡ standing_text finished keys spent most) }
+        ≡ standing_text done steps spent most) }
     ensures narrow { IfOk result (λ line. length (string_bytes line) ≤ most_columns) }
 {
-    let mut line = trouble_text(alloc, finished, keys, spent)?;
+    let mut line = trouble_text(alloc, done, steps, spent)?;
     let word = exchanges_word(spent.exchanges);
     push_count(alloc, &mut line, ", ", spent.exchanges as u64, word)?;
     push_most(alloc, &mut line, spent, most)?;
@@ -67,29 +85,24 @@ fn line_of(
     Ok(line)
 }
 
-/// How many keys are finished, and what went wrong.
-fn trouble_text(
-    alloc: Global,
-    finished: usize,
-    keys: usize,
-    spent: Spent,
-) -> Result<String, NoMemory>
-    ensures { IfOk result (λ line. string_bytes line ≡ trouble_text finished keys spent) }
+/// How many steps are done, and what went wrong.
+fn trouble_text(alloc: Global, done: usize, steps: usize, spent: Spent) -> Result<String, NoMemory>
+    ensures { IfOk result (λ line. string_bytes line ≡ trouble_text done steps spent) }
 {
     let mut line = String::new(alloc);
-    let part = keys_part(alloc, finished, keys)?;
+    let part = steps_part(alloc, done, steps)?;
     push_part(&mut line, part.as_str())?;
     push_trouble(alloc, &mut line, spent.lost, " lost")?;
     push_trouble(alloc, &mut line, spent.refused, " refused")?;
     Ok(line)
 }
 
-/// How many keys are finished.
-#[tactic(auto, unfolding(crate::specs::ProgressLineText::keys_part))]
-fn keys_part(alloc: Global, finished: usize, keys: usize) -> Result<String, NoMemory>
-    ensures { IfOk result (λ text. string_bytes text ≡ keys_part finished keys) }
+/// How many steps are done, and how many there are.
+#[tactic(auto, unfolding(crate::specs::ProgressLineText::steps_part))]
+fn steps_part(alloc: Global, done: usize, steps: usize) -> Result<String, NoMemory>
+    ensures { IfOk result (λ text. string_bytes text ≡ steps_part done steps) }
 {
-    let text = format!(in alloc; "{finished} of {keys} keys")?;
+    let text = format!(in alloc; "{done} of {steps} steps")?;
     Ok(text)
 }
 

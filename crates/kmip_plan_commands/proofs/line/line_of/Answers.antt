@@ -6,5 +6,5 @@ use Rattle.kmip_plan_commands.proofs.line.line_of.Goals as goal
 
 pub returns-clause-narrow : goal.returns-clause-narrow
 returns-clause-narrow c =
-    let told : string_bytes c.push_count-2.new.line ≡ standing_text c.args.finished c.args.keys c.args.spent c.args.most = search rules in
-    rw told (standing_narrow c.args.finished c.args.keys c.args.spent c.args.most)
+    let told : string_bytes c.push_count-2.new.line ≡ standing_text c.args.done c.args.steps c.args.spent c.args.most = search rules in
+    rw told (standing_narrow c.args.done c.args.steps c.args.spent c.args.most)
