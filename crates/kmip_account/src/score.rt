@@ -97,6 +97,7 @@ impl Score {
             refused: spent.refused as u64,
             milliseconds,
             steps,
+            unanswered: None,
         })
     }
 }

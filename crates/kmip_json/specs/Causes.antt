@@ -9,6 +9,8 @@ use Rattle.kmip_runs.specs.declared.stop.Stop.{Stop}
 use Rattle.kmip_json.specs.declared.cause.Cause.{Cause}
 use Rattle.kmip_json.specs.declared.cause.Cause.TheVariants.{Unreachable, Refused, Conflict}
 use Rattle.kmip_plan_commands.specs.declared.run_tally.RunTally.{RunTally}
+use Rattle.kmip_plan_commands.specs.declared.unanswered.Unanswered.{Unanswered}
+use Rattle.kmip_plan_commands.specs.declared.unanswered.Unanswered.TheVariants as unanswered
 
 -- The word for a cause.
 abbrev pub cause_word : Cause → List ℕ
@@ -21,12 +23,19 @@ abbrev pub is_conflict : Verdict → Bool
 is_conflict (verdicts.Conflict clash) = true
 is_conflict verdict = false
 
+-- What stands in the way of a look before a run.
+abbrev pub look_cause : Option Unanswered → Option Cause
+look_cause None = None
+look_cause (Some unanswered.NoReply) = Some Unreachable
+look_cause (Some unanswered.Refused) = Some Refused
+
 -- What stands in the way of a run that ended so: nothing where each key is finished. Else it is the first of
--- these: a key in conflict, a question that was refused, an exchange that brought no reply.
+-- these: a key in conflict, a question that was refused, an exchange that brought no reply, a look before the
+-- run that got no answer.
 abbrev pub cause_of : Stop → List Verdict → RunTally → Option Cause
 cause_of stop verdicts tally =
     if is_all_finished stop then None
     else if list_any is_conflict verdicts then Some Conflict
     else if nat_lt 0 tally.refused then Some Refused
     else if nat_lt 0 tally.lost then Some Unreachable
-    else None
+    else look_cause tally.unanswered

@@ -2,7 +2,7 @@
 ghost use Rattle.std.specs.Prelude.{◌≡◌, ◌++◌, ◌-◌, ◌^◌, OnOk, drop, map, min, slice_index, sum};
 ghost use Rattle.std.specs.List.{list_any};
 ghost use Rattle.kmip_plan_commands.specs.Standings.{standing_of};
-ghost use Rattle.kmip_json.specs.Causes.{cause_of, is_conflict};
+ghost use Rattle.kmip_json.specs.Causes.{cause_of, is_conflict, look_cause};
 ghost use Rattle.kmip_json.specs.RunJson.{end_line, run_line, run_key_lines, run_lines, run_lines_by, all_steps};
 
 use crate::cause::{Cause, word_of_cause};
@@ -11,7 +11,7 @@ use crate::key_members::members_of_key;
 use crate::member::Member;
 use kmip_client::{Client, Verdict};
 use kmip_plan::Key;
-use kmip_plan_commands::{KeyStanding, RunTally, standings};
+use kmip_plan_commands::{KeyStanding, RunTally, Unanswered, standings};
 use kmip_progress::Known;
 use kmip_runs::{Stop, finished_count};
 use kmip_ttlv::NoMemory;
@@ -163,7 +163,18 @@ fn cause_of(stop: Stop, verdicts: &[Verdict], tally: &RunTally) -> Option<Cause>
     } else if tally.lost > 0 {
         Some(Cause::Unreachable)
     } else {
-        None
+        look_cause(tally.unanswered)
+    }
+}
+
+/// What stands in the way of a look before a run.
+fn look_cause(unanswered: Option<Unanswered>) -> Option<Cause>
+    ensures { result ≡ look_cause unanswered }
+{
+    match unanswered {
+        None => None,
+        Some(Unanswered::NoReply) => Some(Cause::Unreachable),
+        Some(Unanswered::Refused) => Some(Cause::Refused),
     }
 }
 

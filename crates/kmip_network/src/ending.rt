@@ -4,14 +4,15 @@ ghost use Rattle.kmip_plan_commands.specs.RunText.{is_end_refused};
 
 use kmip_account::Watch;
 use kmip_json::{push_progress_fault, push_run};
-use kmip_plan_commands::RunEnd;
+use kmip_plan_commands::{RunEnd, Unanswered};
 use kmip_trouble::{Cannot, push_told};
 use kmip_ttlv::NoMemory;
 use std::alloc::Global;
 use std::io::Error;
 
-/// Appends the documents of the end of a run that was watched, whose progress is kept at the path. Says
-/// whether something was refused, not kept or left unfinished.
+/// Appends the documents of the end of a run that was watched, whose progress is kept at the path, and
+/// of a look before it that was perhaps not answered. Says whether something was refused, not kept or left
+/// unfinished.
 ///
 /// Where the progress could not be kept, it is the document of that, with the word of the system.
 ///
@@ -23,6 +24,7 @@ pub(crate) fn push_end(
     path: &str,
     failure: Option<&Error>,
     end: &RunEnd<'_>,
+    unanswered: Option<Unanswered>,
     text: &mut Vec<u8>,
 ) -> Result<bool, NoMemory>
     ensures { IfOk result (λ r. r ≡ is_end_refused end.now) }
@@ -31,7 +33,8 @@ pub(crate) fn push_end(
         RunEnd::Refused(fault) => push_progress_fault(alloc, *fault, text)?,
         RunEnd::Unwritten => push_unwritten(alloc, path, failure, text)?,
         RunEnd::Stopped { client, stop, .. } => {
-            let tally = watch.tally(client)?;
+            let mut tally = watch.tally(client)?;
+            tally.unanswered = unanswered;
             push_run(alloc, client, *stop, &tally, text)?;
         }
     }

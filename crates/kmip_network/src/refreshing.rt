@@ -15,7 +15,7 @@ use kmip_account::{Account, Findings, Teller, Watch};
 use kmip_choices::{Format, RunOptions};
 use kmip_look::{Pause, Why};
 use kmip_message_commands::{CommandFault, ExitStatus, finished};
-use kmip_plan_commands::{RunEnd, RunInput, begin, push_run_end};
+use kmip_plan_commands::{RunEnd, RunInput, Unanswered, begin, push_run_end};
 use kmip_protocol::Link;
 use kmip_refresh::{
     Agreement, Beginning, KeyLook, Refresh, RefreshOutcome, Refreshed, run_refreshed,
@@ -58,13 +58,14 @@ impl<'a> Refreshing<'a> {
         match &refreshed.outcome {
             RefreshOutcome::Contradicted => Err(self.contradiction(looks)?),
             RefreshOutcome::Unanswered(end) => {
-                let status = self.print(input, keeper, watch, end)?;
+                let unanswered = unanswered(looks);
+                let status = self.print(input, keeper, watch, end, unanswered)?;
                 report_unanswered(self.account, looks);
                 Ok(status)
             }
             RefreshOutcome::NotBegun => self.out_of_memory(), // why it was not begun is told above
             RefreshOutcome::Ran(end) => {
-                let status = self.print(input, keeper, watch, end)?;
+                let status = self.print(input, keeper, watch, end, None)?;
                 tell_end(self.account, keeper, watch, status);
                 Ok(status)
             }
@@ -83,13 +84,14 @@ impl<'a> Refreshing<'a> {
         Ok(Trouble::from(Obstacle::Contradicted(contradiction)))
     }
 
-    /// Prints the end of a run in the form that was asked for.
+    /// Prints the end of a run, and of the look before it, in the form that was asked for.
     fn print(
         &self,
         input: &RunInput<'_>,
         keeper: &MachineKeeper<'_>,
         watch: &mut Watch<'_>,
         end: &RunEnd<'_>,
+        unanswered: Option<Unanswered>,
     ) -> Result<ExitStatus, Trouble> {
         let rt = self.account.rt();
         let mut text = Vec::new(rt.alloc());
@@ -106,7 +108,15 @@ impl<'a> Refreshing<'a> {
             }
             Format::Json => {
                 let failure = keeper.failure();
-                let made = push_end(rt.alloc(), watch, input.path, failure, end, &mut text);
+                let made = push_end(
+                    rt.alloc(),
+                    watch,
+                    input.path,
+                    failure,
+                    end,
+                    unanswered,
+                    &mut text,
+                );
                 Ok(print_documents(rt, made, text.as_slice()))
             }
         }
@@ -217,6 +227,22 @@ fn is_silent(ended: &Result<Refreshed<'_>, NoMemory>) -> bool {
         ) => looks.iter().any(|look| is_unheard(look)),
         Ok(_) | Err(NoMemory) => false,
     }
+}
+
+/// Why a look got no answer about some key; none if the replies cannot be read.
+fn unanswered(looks: &[KeyLook]) -> Option<Unanswered> {
+    if looks.iter().any(|look| is_refused(look)) {
+        Some(Unanswered::Refused)
+    } else if looks.iter().any(|look| is_unheard(look)) {
+        Some(Unanswered::NoReply)
+    } else {
+        None
+    }
+}
+
+/// Whether the server refused to say something about the key.
+fn is_refused(look: &KeyLook) -> bool {
+    look.agreement == Agreement::Unanswered && matches!(look.looked.why, Why::Refused(_))
 }
 
 /// Whether no reply about the key came.

@@ -167,6 +167,7 @@ fn run_in_json<L: Link>(
             input.path,
             keeper.failure(),
             &end,
+            None,
             &mut documents,
         ),
         Err(NoMemory) => Err(NoMemory),

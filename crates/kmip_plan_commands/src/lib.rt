@@ -42,6 +42,7 @@ mod sim_input;
 mod simulating;
 mod spent;
 mod telling;
+mod unanswered;
 
 pub use batch::batch_of;
 pub use beginning::begin;
@@ -63,3 +64,4 @@ pub use sim_ending::push_sim_end;
 pub use sim_input::SimInput;
 pub use simulating::{run_sim, sim, sim_bytes};
 pub use spent::Spent;
+pub use unanswered::Unanswered;

@@ -1,5 +1,7 @@
 //! What is counted of a run.
 
+use crate::unanswered::Unanswered;
+
 /// What is counted of a run beside what its client knows.
 #[derive(Drop, Debug)]
 pub struct RunTally {
@@ -16,4 +18,6 @@ pub struct RunTally {
     /// How many steps of each key this run asked for and knows to have taken effect, in the order of
     /// the plan.
     pub steps: Vec<u64>,
+    /// Why a look before the run got no answer about some key, if it got none.
+    pub unanswered: Option<Unanswered>,
 }

@@ -110,6 +110,7 @@ fn text_of(rt: &HostRuntime, plan: &str, last: LastTimes) -> Result<String, Fail
         refused: 7,
         milliseconds: 61_002,
         steps: vec![in rt.alloc(); 0, 2, 4]?,
+        unanswered: None,
     };
     let metrics = Metrics {
         plan,

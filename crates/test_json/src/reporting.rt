@@ -106,6 +106,7 @@ fn push_tallied(
         refused: 0,
         milliseconds: 412,
         steps: vec![in alloc; 2u64]?,
+        unanswered: None,
     };
     push_run(alloc, &client, Stop::Limit, &tally, text)
 }
