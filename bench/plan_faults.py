@@ -147,7 +147,7 @@ REFUSED = [
     ('an unknown usage in a text over two lines', plan(key(usage='[\n"""a\nb""", "sign"]')), '8 BadUsage at key 1',
      f':7: key 1 "a": the usage has "a\\nb": it may have {USAGES}'),
     ('an unknown usage in a key in one array of several lines',
-     'key = [\n{' + key(usage='["sign",\n"crypt"]').replace('\n', ', ')[:-2].replace('["sign", ', '["sign",\n') + '},\n]\n',
+     'key = [\n{' + key(usage='["sign",@"crypt"]').replace('\n', ', ')[:-2].replace('@', '\n') + '},\n]\n',
      '8 BadUsage at key 1', f': key 1 "a": the usage has "crypt": it may have {USAGES}'),
     ('an unknown target', plan(key(target='"gone"')), '9 BadTarget at key 1',
      f':6: key 1 "a": the target is "gone": it may be {TARGETS}'),
