@@ -10,6 +10,7 @@ what went wrong. The last line has `0 wrong`, and the exit status is 0, where al
 on 127.0.0.1 and in the folder only.
 """
 
+import json
 import os
 import pty
 import re
@@ -144,6 +145,10 @@ def refusing_create(reason):
         return refusal(operation, identity, reason) if operation == CREATE else located(identity)
 
     return answering(answer)
+
+
+def refusing_all(operation, identity):
+    return refusal(operation, identity, 12)
 
 
 def having_two(operation, identity):
@@ -577,6 +582,21 @@ class Troubles:
                                  r'\r1 of 2 steps, 2 exchanges, at most 3 more, T s\33[K',
                                  r'\r2 of 2 steps, 3 exchanges, at most 0 more, T s\33[K', r'\n']))
 
+    def unanswered_looks(self):
+        """A run that first looks and gets no answer: the last document says what stood in the way."""
+        known = 'kmip-progress 2\nk1 active - 1 31\nend 1\n'
+        for what, behaviour, cause in [
+                ('no reply to the look before a run', silent, 'unreachable'),
+                ('a look before a run that is refused', answering(refusing_all), 'refused'),
+                ('a reply to it that cannot be read', answering(stranger), None)]:
+            self.start()
+            self.put('progress', known)
+            where = ('--connect', f'127.0.0.1:{peer_with(behaviour)}', '--refresh', '--timeout', '1', '--give-up', '2')
+            status, printed, _ = self.ended(where, '--json')
+            last = json.loads(printed.splitlines()[-1])
+            self.look(f'{what}, in JSON', (status, 1), (self.text('progress'), known),
+                      ([last[name] for name in ('end', 'exchanges', 'lost', 'refused', 'cause')], ['Limit', 0, 0, 0, cause]))
+
     def end(self):
         for server in self.servers:
             server.kill()
@@ -598,6 +618,7 @@ def main():
         troubles.many_words()
         troubles.terminals()
         troubles.writes()
+        troubles.unanswered_looks()
     finally:
         troubles.end()
     print(f'{troubles.cases} cases: {troubles.wrong} wrong, {troubles.skipped} skipped')
