@@ -348,7 +348,7 @@ class Causes:
         with open(self.path('input')) as given:
             self.case('input that does not prolong a file', (*words, '--after', 'plan.toml'),
                       CHECKED.replace('k1', 'k2') + 'prolongs not\n',
-                      ['standard input: "k1" of plan.toml is not there: each of its keys keeps its place'],
+                      ['standard input: "k1" of plan.toml is missing: the earlier keys must come first, in the same order'],
                       stdin=given)
 
     def named_as_input(self):

@@ -2,7 +2,7 @@
 
 use crate::placing::{Sought, field_at, key_at, line_of};
 use crate::refusing::tell_refusal;
-use crate::valuing::{KEEPS_ITS_PLACE, push_key, push_place, push_quoted, push_value};
+use crate::valuing::{KEEP_THE_ORDER, push_key, push_place, push_quoted, push_value};
 use kmip_plan::{Key, Plan, read_plan};
 use kmip_ttlv::NoMemory;
 use std::alloc::{AllocError, Global};
@@ -189,7 +189,7 @@ fn push_gone(
     push_place(out, new.path, None)?;
     push_value(out, old.field(index, "name"))?;
     let earlier = old.path;
-    write!(out, " of {earlier} is not there: {KEEPS_ITS_PLACE}")
+    write!(out, " of {earlier} is missing: {KEEP_THE_ORDER}")
 }
 
 /// Appends the place of a key's field, and the key.
@@ -215,10 +215,10 @@ fn push_head(
 fn push_moved(old: &Judged<'_>, before: usize, out: &mut String) -> Result<(), AllocError> {
     let place = before.saturating_add(1);
     let earlier = old.path;
-    write!(out, "it was key {place} in {earlier}: {KEEPS_ITS_PLACE}")
+    write!(out, "it was key {place} in {earlier}: {KEEP_THE_ORDER}")
 }
 
-/// Appends what a field was, and that it may not change so.
+/// Appends what a field was, and that it must not change so.
 fn push_changed(
     new: &Judged<'_>,
     old: &Judged<'_>,
@@ -238,7 +238,7 @@ fn push_changed(
             out.push_str(" does not lead to it")
         }
         Change::Algorithm | Change::Length | Change::Usage | Change::Reason => {
-            out.push_str("it may not change")
+            out.push_str("it must not change")
         }
     }
 }

@@ -2,7 +2,7 @@
 
 use crate::placing::{Sought, line_of};
 use crate::refused_progress::RefusedProgress;
-use crate::valuing::{KEEPS_ITS_PLACE, push_key, push_place, push_quoted};
+use crate::valuing::{KEEP_THE_ORDER, push_key, push_place, push_quoted};
 use kmip_objects::standard::{
     REVOCATION_AFFILIATION_CHANGED, REVOCATION_CESSATION_OF_OPERATION,
     REVOCATION_PRIVILEGE_WITHDRAWN, REVOCATION_SUPERSEDED, REVOCATION_UNSPECIFIED,
@@ -160,12 +160,12 @@ impl<'a> Recalled<'a> {
             Some(now) => {
                 self.push_head(alloc, now, name, "name", out)?;
                 let before = index.saturating_add(1);
-                write!(out, "it was key {before} in {from}: {KEEPS_ITS_PLACE}")?;
+                write!(out, "it was key {before} in {from}: {KEEP_THE_ORDER}")?;
             }
             None => {
                 push_place(out, self.path, None)?;
                 push_quoted(out, name)?;
-                write!(out, " of {from} is not there: {KEEPS_ITS_PLACE}")?;
+                write!(out, " of {from} is missing: {KEEP_THE_ORDER}")?;
             }
         }
         Ok(())
@@ -197,12 +197,12 @@ impl<'a> Recalled<'a> {
                 let before = noted.reason_word();
                 write!(
                     out,
-                    "the reason is \"{now}\", and was \"{before}\" in {from}: it may not change"
+                    "the reason is \"{now}\", and was \"{before}\" in {from}: it must not change"
                 )?;
             }
             Unlike::Done => write!(
                 out,
-                "{done} of its steps are done in {from}: there are not as many to \"{target}\""
+                "{done} of its steps are done in {from}: that is more than lead to \"{target}\""
             )?,
         }
         Ok(())

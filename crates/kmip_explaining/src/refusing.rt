@@ -249,7 +249,7 @@ impl<'a> Refused<'a> {
             Some(Value::Array(keys)) => keys.len(),
             Some(_) | None => 0,
         };
-        write!(out, "there are {count} keys: a plan may have 1000 at most")
+        write!(out, "there are {count} keys: a plan has at most 1000")
     }
 
     /// Appends that a field is missing, or that the key is no table, which has none.
@@ -268,7 +268,7 @@ impl<'a> Refused<'a> {
     fn push_wrong(self, field: &str, lawful: &str, out: &mut String) -> Result<(), AllocError> {
         write!(out, "the {field} is ")?;
         push_value(out, self.field(field))?;
-        write!(out, ": it may be {lawful}")
+        write!(out, ": it must be {lawful}")
     }
 
     /// Appends what is wrong with the algorithm, or with the length where the algorithm is lawful.
@@ -278,7 +278,7 @@ impl<'a> Refused<'a> {
         };
         out.push_str("the length is ")?;
         push_value(out, self.field("length"))?;
-        write!(out, ": for {algorithm} it may be {lengths}")
+        write!(out, ": for {algorithm} it must be {lengths}")
     }
 
     /// Appends what is wrong with the usage: the first element that is none, else the first word that
@@ -295,7 +295,7 @@ impl<'a> Refused<'a> {
         if no_usage(usages).is_none() {
             out.push_str(" twice")?;
         }
-        write!(out, ": it may have {USAGES}")
+        write!(out, ": use {USAGES}")
     }
 
     /// Appends what is wrong with the reason, or that the target has none.
@@ -304,7 +304,10 @@ impl<'a> Refused<'a> {
             Some(Value::String(target)) if is_never_revoked(target.as_str()) => {
                 out.push_str("the reason is ")?;
                 push_value(out, self.field("reason"))?;
-                write!(out, ": a key whose target is \"{target}\" has none")
+                write!(
+                    out,
+                    ": a key whose target is \"{target}\" must not have one"
+                )
             }
             Some(_) | None => self.push_wrong("reason", REASONS, out),
         }
@@ -317,11 +320,11 @@ impl<'a> Refused<'a> {
             if key_at(self.table, earlier).and_then(name_of) == name {
                 return write!(
                     out,
-                    "key {earlier} has this name already: each key needs its own"
+                    "key {earlier} has the same name: each key needs its own"
                 );
             }
         }
-        out.push_str("another key has this name already: each key needs its own")
+        out.push_str("another key has the same name: each key needs its own")
     }
 }
 
@@ -329,10 +332,10 @@ impl<'a> Refused<'a> {
 fn push_unknown(word: &str, place: usize, out: &mut String) -> Result<(), AllocError> {
     push_quoted(out, word)?;
     if place == 0 {
-        out.push_str(" is no field of a plan: it may have [[key]] alone")
+        out.push_str(" is not a field of a plan, which has only [[key]]")
     } else {
         out.push_str(
-            " is no field of a key: it may have name, algorithm, length, usage, target and reason",
+            " is not a field of a key: the fields are name, algorithm, length, usage, target and reason",
         )
     }
 }

@@ -8,7 +8,7 @@ use toml::value::Array;
 const MOST_SHOWN: usize = 64;
 
 /// What of the keys of an earlier plan stays.
-pub(crate) const KEEPS_ITS_PLACE: &str = "each of its keys keeps its place";
+pub(crate) const KEEP_THE_ORDER: &str = "the earlier keys must come first, in the same order";
 
 /// Appends a text in quotation marks, with what does not print escaped. Of a long one the front stands
 /// there, and two dots behind it.
