@@ -344,7 +344,7 @@ class Trial:
         script, other = self.written('script', 'pass\n'), self.written('other.toml', plan(B))
         further = self.written('further.script', 'prolong\n')
         refused, told = f'plan refused: {FAULT}\n', f'{faulty}{WHY}\n'
-        gone = f'{other}: "a" of {sound} is not there: {STAYS}\n'
+        gone = f'{other}: "a" of {sound} is missing: {STAYS}\n'
         progress = os.path.join(self.folder, 'progress')
         self.look('a sound plan', ['check', '--plan', sound], printed('a'), '', 0)
         self.look('a plan that prolongs itself', ['check', '--plan', sound, '--after', sound],

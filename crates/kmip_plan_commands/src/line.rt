@@ -35,8 +35,8 @@ const MOST_COLUMNS: usize = 60;
 /// # Errors
 /// Where there is no memory.
 pub fn progress_line(alloc: Global, client: &Client<'_>, spent: Spent) -> Result<String, NoMemory>
-    // The line is exactly the stated text of what was spent, of how many steps of the plan are known to
-    // be done, and of the most exchanges that may be left by what the client knows.
+    // The line is exactly the stated text: of the steps that are known to be done, of all steps of the plan,
+    // of what was spent, and of the most exchanges that may be left.
     ensures text { IfOk result (λ line. string_bytes line ≡ standing_text
         (sum_of (counts_of client.now.knowns)) (steps_of client.now.keys)
         spent (most_left client.now.keys client.now.knowns)) }
