@@ -2,30 +2,13 @@
 
 use crate::reasons::push_reason;
 use kmip_batch_items::{Attrs, Outcome};
+use kmip_look_command::usage_text;
 use kmip_objects::standard::OBJECT_TYPE_SYMMETRIC_KEY;
 use kmip_plan::{Key, algorithm_word};
 use kmip_trace::push_outcome;
 use kmip_ttlv::{NoMemory, Text, plain_text};
 use std::alloc::Global;
 use std::str::from_utf8;
-
-/// The bits of a Cryptographic Usage Mask, and their words.
-///
-/// Source: KMIP 2.1, Enumerations, Cryptographic Usage Mask. That of Export is of KMIP 1.
-const USAGES: [(i32, &str); 9] = [
-    (0x1, " sign"),
-    (0x2, " verify"),
-    (0x4, " encrypt"),
-    (0x8, " decrypt"),
-    (0x10, " wrap-key"),
-    (0x20, " unwrap-key"),
-    (0x40, " export"),
-    (0x80, " mac-generate"),
-    (0x100, " mac-verify"),
-];
-
-/// The largest mask of these bits.
-const MOST_USAGES: i32 = 0x1FF;
 
 /// Appends how an operation about the key of this name went: a refusal with its reason, and that the
 /// attributes are of another name, or of none.
@@ -161,23 +144,14 @@ fn push_length(alloc: Global, length: i32, text: &mut String) -> Result<(), NoMe
 /// # Errors
 /// If memory runs out.
 pub fn usage_words(alloc: Global, usage: i32) -> Result<String, NoMemory> {
-    let mut words = String::new(alloc);
-    push_usage(alloc, usage, &mut words)?;
+    let words = usage_text(alloc, usage)?;
     let words = String::from_str(alloc, words.as_str().trim_start())?;
     Ok(words)
 }
 
 /// Appends the words of a usage mask, each after a space, and the mask in hexadecimal if it has other bits.
 fn push_usage(alloc: Global, usage: i32, text: &mut String) -> Result<(), NoMemory> {
-    for (bit, word) in &USAGES {
-        if usage & *bit != 0 {
-            text.push_str(word)?;
-        }
-    }
-    if !(1..=MOST_USAGES).contains(&usage) {
-        let mask = hex::encode(alloc, &usage.to_be_bytes())?;
-        text.push_str(" of mask ")?;
-        text.push_str(mask.as_str())?;
-    }
+    let words = usage_text(alloc, usage)?;
+    text.push_str(words.as_str())?;
     Ok(())
 }

@@ -250,7 +250,7 @@ and whether it is finished, what is to do, or why it is in conflict:
   k1 active 17 Active finished
   k2 revoked 18 Active to do: Revoke
   k3 active - none to do: Create Activate
-  k4 created 22 PreActive conflict attributes: AES 128 0000000c
+  k4 created 22 PreActive conflict attributes: AES 128 encrypt decrypt
   finished 1 of 4
 If no reply comes, the line has `not told: no reply`.
 

@@ -1,17 +1,18 @@
 -- What `look` writes: how each key of a plan stands on the server, and how many are finished.
 -- Source: own (text): what the program prints. The names of states are KMIP 2.1, Object Attributes, State.
-use Rattle.std.specs.Prelude.{ℕ, ℤ, ◌==◌, Bool, List, [], ◌∷◌, ◌++◌, length, drop, codes, Option, Some, None, if◌then◌else◌}
+use Rattle.std.specs.Prelude.{ℕ, ℤ, ◌==◌, Bool, List, [], ◌∷◌, ◌++◌, length, take, drop, codes, Option, Some, None, bit_and, if◌then◌else◌}
 use Rattle.std.specs.Fmt.{decimal, signed_decimal}
 use Rattle.std.specs.Int.{w32, cast_unsigned, to_be_bytes}
 use Rattle.std.specs.List.{flat_map}
 use Rattle.hex.specs.Hex.{encode_lower}
 use Rattle.kmip_objects.specs.Lifecycle.{step_word}
+use Rattle.kmip_objects.specs.Ranges.{is_usage}
 use Rattle.kmip_objects.specs.declared.key_state.KeyState.{KeyState}
 use Rattle.kmip_objects.specs.declared.standard.TheConstants.{OBJECT_TYPE_SYMMETRIC_KEY}
 use Rattle.kmip_objects.specs.declared.step.Step.{Step}
 use Rattle.kmip_plan.specs.Chains.{chain}
 use Rattle.kmip_plan.specs.TargetWords.{target_word}
-use Rattle.kmip_plan.specs.Words.{algorithm_word}
+use Rattle.kmip_plan.specs.Words.{algorithm_word, usages}
 use Rattle.kmip_plan.specs.declared.key.Key.{Key}
 use Rattle.kmip_client.specs.Knowledge.{verdict_of}
 use Rattle.kmip_client.specs.declared.clash.Clash.TheVariants as clashes
@@ -64,15 +65,33 @@ abbrev pub length_text : Option ℤ → List ℕ
 length_text None = codes " -"
 length_text (Some bits) = codes " " ++ signed_decimal bits
 
--- The usage mask that was told, in eight hexadecimal digits, and a dash where none was.
-abbrev pub usage_text : Option ℤ → List ℕ
-usage_text None = codes " -"
-usage_text (Some mask) = codes " " ++ encode_lower (to_be_bytes w32 (cast_unsigned w32 mask))
+-- The usages that have a word, each with its bit of the Cryptographic Usage Mask, in the order of the bits: those
+-- of plans, and Export, which is of KMIP 1.
+abbrev pub named_usages : List (List ℕ × ℕ)
+named_usages = take 6 usages ++ (codes "export", 64) ∷ drop 6 usages
+
+-- A space and the word of a usage, if its bit is in the mask; else nothing.
+abbrev pub usage_word : ℕ → List ℕ × ℕ → List ℕ
+usage_word bits usage = if bit_and bits usage.1 == 0 then [] else 32 ∷ usage.0
+
+-- The whole mask in eight hexadecimal digits, if it has a bit that no usage has, or no bit; else nothing.
+abbrev pub mask_text : ℤ → List ℕ
+mask_text mask =
+    if is_usage mask then [] else codes " of mask " ++ encode_lower (to_be_bytes w32 (cast_unsigned w32 mask))
+
+-- A usage mask in words, a space before each.
+abbrev pub usage_text : ℤ → List ℕ
+usage_text mask = flat_map (usage_word (cast_unsigned w32 mask)) named_usages ++ mask_text mask
+
+-- The usage mask that was told, in words, and a dash if none was.
+abbrev pub told_usage : Option ℤ → List ℕ
+told_usage None = codes " -"
+told_usage (Some mask) = usage_text mask
 
 -- What was told of an object that is not as the plan wants it, a space before each: its type where that is
 -- another, its algorithm, its length and its usage mask.
 abbrev pub shown_text : Shown → List ℕ
-shown_text shown = type_text shown.object_type ++ algorithm_text shown.algorithm ++ length_text shown.length ++ usage_text shown.usage
+shown_text shown = type_text shown.object_type ++ algorithm_text shown.algorithm ++ length_text shown.length ++ told_usage shown.usage
 
 -- The same, where something was told.
 abbrev pub attributes_text : Option Shown → List ℕ

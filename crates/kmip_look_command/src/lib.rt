@@ -8,7 +8,9 @@ mod line;
 mod running;
 mod seen;
 mod text;
+mod usage;
 
 pub use running::{look_bytes, run_look};
 pub use seen::{named_algorithm, named_state, why_text};
 pub use text::{push_looked, verdicts_on};
+pub use usage::usage_text;

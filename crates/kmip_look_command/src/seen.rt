@@ -14,12 +14,13 @@ ghost use Rattle.kmip_look_command.specs.LookText.{
   shown_text,
   state_text,
   told_state,
+  told_usage,
   type_text,
-  usage_text,
   why_text,
 };
 ghost use Rattle.kmip_trace.specs.Names.{state_of};
 
+use crate::usage::usage_text;
 use kmip_look::{Shown, Why};
 use kmip_objects::standard::OBJECT_TYPE_SYMMETRIC_KEY;
 use kmip_plan::algorithm_word;
@@ -174,17 +175,16 @@ fn push_length(alloc: Global, length: Option<i32>, text: &mut Vec<u8>) -> Result
     Ok(())
 }
 
-/// Appends the usage mask, in eight hexadecimal digits.
+/// Appends the usage mask, in words.
 fn push_usage(alloc: Global, usage: Option<i32>, text: &mut Vec<u8>) -> Result<(), NoMemory>
-    ensures { OnOk result (text.new.items ≡ text.old.items ++ usage_text usage) }
+    ensures { OnOk result (text.new.items ≡ text.old.items ++ told_usage usage) }
 {
     let Some(mask) = usage else {
         text.extend_from_slice(b" -")?;
         return Ok(());
     };
-    let digits = hex::encode(alloc, &mask.to_be_bytes())?;
-    text.extend_from_slice(b" ")?;
-    text.extend_from_slice(digits.as_bytes())?;
+    let words = usage_text(alloc, mask)?;
+    text.extend_from_slice(words.as_bytes())?;
     Ok(())
 }
 
