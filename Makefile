@@ -12,7 +12,7 @@
 # make refuse     refuses each growth of memory of the program and of test_memory in turn (needs cc, python3)
 # make faults     gives the program plans with each fault, and wants the line that says where and why (needs python3)
 # make hostile    gives the program lines of ten megabytes, under limits of memory
-# make storm      carries 200 plans, by up to four runs at once, over a network that loses and cuts; kills, looks, probes (needs rustc)
+# make storm      carries 200 plans, by up to four runs at once, over a network that loses and cuts; kills, looks, refreshes, probes (needs rustc)
 # make peers      runs it against peers that answer nothing, rubbish or too late (needs python3)
 # make turns      lets several clients at once talk to it, some of which stall, close or read nothing (needs python3)
 # make troubles   runs it against servers that give trouble, and compares what it tells of that (needs python3)

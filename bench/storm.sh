@@ -1,12 +1,12 @@
 #!/usr/bin/env bash
 # Carries 200 random plans through a network that loses, repeats, delays and cuts messages, and kills the
-# runs. It looks at the keys meanwhile, and probes servers through it: bench/storm/main.rs says how. Sockets
-# on 127.0.0.1 only.
+# runs. It looks at the keys meanwhile, changes the server behind each finished plan and refreshes, and probes
+# servers through it: bench/storm/main.rs says how. Sockets on 127.0.0.1 only.
 #
 #     bench/storm.sh PROGRAM [PLANS [SEED]]
 #
 # Needs rustc. The last line has `0 wrong`, and the exit status is 0, where every plan was finished
-# within its bound, every step took effect once and in turn, and no look or probe said what is not so.
+# within its bound, every step took effect once and in turn, and no look, refresh or probe said what is not so.
 set -euo pipefail
 
 program=$(realpath "$1")

@@ -4,7 +4,7 @@ use crate::breaker::{Breach, Breaker};
 use std::collections::HashMap;
 use std::io::{self, Read, Write};
 use std::net::{Shutdown, TcpListener, TcpStream};
-use std::sync::atomic::{AtomicBool, AtomicU64, AtomicUsize, Ordering};
+use std::sync::atomic::{AtomicBool, AtomicU16, AtomicU64, AtomicUsize, Ordering};
 use std::sync::{Arc, Mutex};
 use std::thread;
 use std::time::Duration;
@@ -13,7 +13,7 @@ use std::time::Duration;
 pub struct Random(u64);
 
 impl Random {
-    fn new(seed: u64) -> Random {
+    pub fn new(seed: u64) -> Random {
         Random(seed | 1)
     }
 
@@ -24,7 +24,7 @@ impl Random {
         self.0
     }
 
-    fn below(&mut self, most: u64) -> u64 {
+    pub fn below(&mut self, most: u64) -> u64 {
         (self.next() >> 16) % most
     }
 }
@@ -44,7 +44,8 @@ pub enum Weather {
 
 /// What the proxy and the storm share.
 pub struct Shared {
-    server: u16,
+    /// The port of the server behind the proxy.
+    server: AtomicU16,
     pub is_calm: AtomicBool,
     /// Of how many exchanges nine are disturbed in a storm.
     sides: AtomicU64,
@@ -64,7 +65,7 @@ pub struct Shared {
 impl Shared {
     pub fn new(server: u16, seed: u64) -> Shared {
         Shared {
-            server,
+            server: AtomicU16::new(server),
             is_calm: AtomicBool::new(false),
             sides: AtomicU64::new(16),
             carried: AtomicUsize::new(0),
@@ -74,6 +75,16 @@ impl Shared {
             counts: Mutex::new(HashMap::new()),
             breaker: Mutex::new(Breaker::new(None, "")),
         }
+    }
+
+    /// The port of the server behind the proxy.
+    pub fn server(&self) -> u16 {
+        self.server.load(Ordering::SeqCst)
+    }
+
+    /// Another server is behind the proxy. Nothing may be under way.
+    pub fn exchange(&self, server: u16) {
+        self.server.store(server, Ordering::SeqCst);
     }
 
     /// A storm that disturbs nine exchanges of so many, over which the server seems to break a rule
@@ -136,7 +147,7 @@ impl Shared {
 
     /// The server's reply to a request.
     fn served(&self, request: &[u8]) -> io::Result<Vec<u8>> {
-        let mut stream = TcpStream::connect(("127.0.0.1", self.server))?;
+        let mut stream = TcpStream::connect(("127.0.0.1", self.server()))?;
         stream.write_all(request)?;
         read_message(&mut stream)?.ok_or_else(|| io::Error::from(io::ErrorKind::UnexpectedEof))
     }
@@ -144,7 +155,7 @@ impl Shared {
     /// Lets only a part of a request come to the server.
     fn deliver_part(&self, part: &[u8]) -> io::Result<()> {
         let _replies = self.replies.lock().unwrap();
-        let mut stream = TcpStream::connect(("127.0.0.1", self.server))?;
+        let mut stream = TcpStream::connect(("127.0.0.1", self.server()))?;
         stream.write_all(part)?;
         stream.shutdown(Shutdown::Write)?;
         let mut rest = Vec::new();
@@ -171,7 +182,7 @@ impl Shared {
 }
 
 /// The next message of a stream; none at its end.
-fn read_message(stream: &mut TcpStream) -> io::Result<Option<Vec<u8>>> {
+pub fn read_message(stream: &mut TcpStream) -> io::Result<Option<Vec<u8>>> {
     let mut head = [0; 8];
     let mut held = 0;
     while held < 8 {

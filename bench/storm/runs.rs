@@ -3,11 +3,13 @@
 
 use crate::looks::Looks;
 use crate::network::{Shared, Weather};
+use crate::refreshes::{CONTRADICTED, Refreshes, are_at_targets, held};
+use crate::serve;
 use std::collections::HashMap;
 use std::fs;
 use std::io::{self, BufReader, Read, Write};
 use std::path::{Path, PathBuf};
-use std::process::{Child, Command, Stdio};
+use std::process::{Child, Command, Output, Stdio};
 use std::sync::atomic::Ordering;
 use std::thread;
 use std::time::Duration;
@@ -21,6 +23,9 @@ pub const TARGETS: [(&str, &[u8]); 5] = [
     ("discarded", &[0x01, 0x14]),
 ];
 
+/// The state after each operation, as the server tells it: pre-active, active, deactivated and destroyed.
+pub const OPERATIONS_STATES: [(u8, u32); 4] = [(0x01, 1), (0x12, 2), (0x13, 3), (0x14, 5)];
+
 /// A plan: the names of its keys, and the target of each.
 pub type Plan = Vec<(String, usize)>;
 
@@ -33,7 +38,7 @@ fn random_plan(shared: &Shared, number: u64) -> Plan {
 }
 
 /// The text of a plan.
-fn text_of(plan: &Plan) -> String {
+pub fn text_of(plan: &Plan) -> String {
     let mut text = String::new();
     for (name, target) in plan {
         text += &format!(
@@ -45,7 +50,7 @@ fn text_of(plan: &Plan) -> String {
 }
 
 /// How many exchanges a plan may need: two more for each key than its target has steps.
-fn bound(plan: &Plan) -> usize {
+pub fn bound(plan: &Plan) -> usize {
     plan.iter().map(|(_, target)| TARGETS[*target].1.len() + 2).sum()
 }
 
@@ -66,14 +71,15 @@ fn remove_files(folder: &Path) {
     }
 }
 
-/// A run of a plan, whose messages ask about so many keys at most as the storm draws.
-fn start(
+/// A run of a plan, with one more option or none. Its messages ask about so many keys at most as the storm draws.
+pub fn start(
     shared: &Shared,
     program: &Path,
     folder: &Path,
     progress: &Path,
     port: u16,
     limit: usize,
+    option: Option<&str>,
 ) -> io::Result<Child> {
     let batch = 1 + shared.below(8);
     Command::new(program)
@@ -85,6 +91,7 @@ fn start(
         .arg(format!("127.0.0.1:{port}"))
         .args(["--limit", &limit.to_string(), "--batch", &batch.to_string()])
         .args(["--timeout", &shared.patience().to_string(), "--wait", "1"])
+        .args(option)
         .stdout(Stdio::piped())
         .stderr(Stdio::null())
         .spawn()
@@ -111,15 +118,30 @@ struct Tally {
     wrong: u64,
 }
 
-/// Kills a run that has not ended.
-fn end_run(run: &mut Child, tally: &mut Tally) -> io::Result<()> {
+/// Kills a run that has not ended, and looks at the output of one that has.
+fn end_run(shared: &Shared, plan: &Plan, mut run: Child, tally: &mut Tally) -> io::Result<()> {
     if run.try_wait()?.is_some() {
         tally.ends += 1;
-    } else {
-        run.kill()?;
-        tally.kills += 1;
+        return judge(shared, plan, &run.wait_with_output()?, tally);
     }
+    run.kill()?;
     run.wait()?;
+    tally.kills += 1;
+    Ok(())
+}
+
+/// Says what is wrong with a run that ended. The server contradicts none, and has each key at its target if the run
+/// succeeded.
+fn judge(shared: &Shared, plan: &Plan, output: &Output, tally: &mut Tally) -> io::Result<()> {
+    let text = String::from_utf8_lossy(&output.stdout);
+    if text.starts_with(CONTRADICTED) {
+        println!("wrong: a contradiction of the same server: {text}");
+        tally.wrong += 1;
+    }
+    if output.status.success() && !are_at_targets(&held(shared.server())?, plan) {
+        println!("wrong: a run that succeeds, but not all keys are finished: {text}");
+        tally.wrong += 1;
+    }
     Ok(())
 }
 
@@ -154,7 +176,13 @@ fn disturb_file(
     Ok(())
 }
 
-/// Carries one plan through a storm and then to its end, by one to four runs at once.
+/// One of four runs of the plan itself is begun with `--refresh`.
+fn refresh_or_none(shared: &Shared) -> Option<&'static str> {
+    (shared.below(4) == 0).then_some("--refresh")
+}
+
+/// Carries one plan through a storm and then to its end, by one to four runs at once. Returns the different
+/// progress files that there were. The last one is finished.
 fn carry_plan(
     shared: &Shared,
     program: &Path,
@@ -163,7 +191,7 @@ fn carry_plan(
     plan: &Plan,
     tally: &mut Tally,
     looks: &mut Looks,
-) -> io::Result<()> {
+) -> io::Result<Vec<String>> {
     remove_files(folder);
     let files = progress_files(folder, 1 + shared.below(MOST_RUNS));
     tally.together += u64::from(files.len() > 1);
@@ -171,12 +199,13 @@ fn carry_plan(
     let mut old = Vec::new();
     shared.is_calm.store(false, Ordering::SeqCst);
     for _ in 0..2 + shared.below(6) {
-        let start = |progress: &PathBuf| start(shared, program, folder, progress, port, 10_000);
-        let mut runs = files.iter().map(start).collect::<io::Result<Vec<Child>>>()?;
+        let start =
+            |progress: &PathBuf| start(shared, program, folder, progress, port, 10_000, refresh_or_none(shared));
+        let runs = files.iter().map(start).collect::<io::Result<Vec<Child>>>()?;
         looks.begin(shared, program, folder, port, plan)?;
         thread::sleep(Duration::from_micros(500 + shared.below(40_000)));
-        for run in &mut runs {
-            end_run(run, tally)?;
+        for run in runs {
+            end_run(shared, plan, run, tally)?;
         }
         for progress in &files {
             disturb_file(shared, plan, progress, &mut old, tally)?;
@@ -187,7 +216,17 @@ fn carry_plan(
     shared.end_storm(port)?;
     shared.is_calm.store(true, Ordering::SeqCst);
     finish(shared, program, folder, &files, port, plan, tally)?;
-    looks.end_in_calm(shared, program, folder, port, plan)
+    looks.end_in_calm(shared, program, folder, port, plan)?;
+    Ok(all_different(old, fs::read_to_string(&files[0])?))
+}
+
+/// The different ones of old progress files, with a last one.
+fn all_different(mut old: Vec<String>, last: String) -> Vec<String> {
+    old.sort();
+    old.dedup();
+    old.retain(|text| *text != last);
+    old.push(last);
+    old
 }
 
 /// Finishes a plan in a calm by its runs, all at once. One alone needs no more exchanges than the plan's bound, and
@@ -202,10 +241,11 @@ fn finish(
     tally: &mut Tally,
 ) -> io::Result<()> {
     let limit = if files.len() > 1 { 2 * bound(plan) } else { bound(plan) };
-    let start = |progress: &PathBuf| start(shared, program, folder, progress, port, limit);
+    let start = |progress: &PathBuf| start(shared, program, folder, progress, port, limit, refresh_or_none(shared));
     let runs = files.iter().map(start).collect::<io::Result<Vec<Child>>>()?;
     for run in runs {
         let output = run.wait_with_output()?;
+        judge(shared, plan, &output, tally)?;
         if !output.status.success() {
             println!("wrong: not finished within {limit}:");
             print!("{}", String::from_utf8_lossy(&output.stdout));
@@ -260,20 +300,25 @@ fn effects(program: &Path, replies: &[Vec<u8>]) -> io::Result<HashMap<String, Ve
     Ok(effects)
 }
 
-/// Carries plans through storms, and says how much was wrong.
+/// Carries plans through storms, each to a server of its own, and says how much was wrong.
 pub fn carry_plans(
     shared: &Shared,
     program: &Path,
     folder: &Path,
     port: u16,
     plans: u64,
+    seed: u64,
 ) -> io::Result<u64> {
     let mut tally = Tally::default();
     let mut looks = Looks::default();
+    let mut refreshes = Refreshes::new(shared, program, folder, port);
     let mut all = Vec::new();
     for number in 0..plans {
         let plan = random_plan(shared, number);
-        carry_plan(shared, program, folder, port, &plan, &mut tally, &mut looks)?;
+        let server = serve(program)?;
+        shared.exchange(server.port);
+        let files = carry_plan(shared, program, folder, port, &plan, &mut tally, &mut looks)?;
+        refreshes.refresh_plan(seed_of(seed, number), &plan, &server, &files)?;
         all.extend(plan);
     }
     let replies = shared.replies.lock().unwrap();
@@ -291,7 +336,12 @@ pub fn carry_plans(
     }
     report(shared, plans, all.len(), replies.len(), &tally);
     println!("{} looks, {} keys told and {} not told", looks.made, looks.told, looks.untold);
-    Ok(tally.wrong + looks.wrong)
+    Ok(tally.wrong + looks.wrong + refreshes.report())
+}
+
+/// The seed of what is drawn for a plan after it is finished.
+fn seed_of(seed: u64, number: u64) -> u64 {
+    seed.wrapping_mul(0x9e37_79b9_7f4a_7c15) ^ (number + 1).wrapping_mul(0xbf58_476d_1ce4_e5b9)
 }
 
 /// Says what went on.
