@@ -21,11 +21,9 @@ import sys
 import threading
 import time
 
-CREATE, LOCATE = 1, 8
-RESPONSE, RESPONSE_HEADER, VERSION, MAJOR, MINOR = 0x42007b, 0x42007a, 0x420069, 0x42006a, 0x42006b
-TIME_STAMP, BATCH_COUNT, BATCH_ITEM, OPERATION, ITEM_ID = 0x420092, 0x42000d, 0x42000f, 0x42005c, 0x420093
-STATUS, REASON, PAYLOAD, UNIQUE_IDENTIFIER = 0x42007f, 0x42007e, 0x42007c, 0x420094
-STRUCTURE, INTEGER, ENUMERATION, TEXT, BYTES, DATE = 1, 2, 5, 7, 8, 9
+sys.dont_write_bytecode = True
+
+from messages import CREATE, located, message, questions_in, refusal, reply
 
 # What takes longer than so many seconds never ends, or is not given up. A busy machine takes seconds to start a
 # program, or to bring a file to the disk.
@@ -42,62 +40,6 @@ NO_KMIP = 'the server did not reply in KMIP'
 def key(name, length=256, target='active'):
     return (f'[[key]]\nname = "{name}"\nalgorithm = "AES"\nlength = {length}\n'
             f'usage = ["encrypt", "decrypt"]\ntarget = "{target}"\n\n')
-
-
-def item(tag, kind, value):
-    """An item of TTLV."""
-    return tag.to_bytes(3, 'big') + bytes([kind]) + len(value).to_bytes(4, 'big') + value + bytes(-len(value) % 8)
-
-
-def number(tag, kind, value):
-    return item(tag, kind, value.to_bytes(4, 'big'))
-
-
-def items_in(data):
-    """The items that some bytes are, each with its tag and its value: items too where it is a Structure."""
-    found = []
-    while data:
-        size = int.from_bytes(data[4:8], 'big')
-        value = data[8:8 + size]
-        found.append((int.from_bytes(data[:3], 'big'), items_in(value) if data[3] == STRUCTURE else value))
-        data = data[8 + size + -size % 8:]
-    return found
-
-
-def questions_in(request):
-    """The operation and the id of each question of a request."""
-    [(_, parts)] = items_in(request)
-    batch = [dict(value) for tag, value in parts if tag == BATCH_ITEM]
-    return [(int.from_bytes(part[OPERATION], 'big'), part[ITEM_ID]) for part in batch]
-
-
-def reply(items, version=(2, 1)):
-    """The bytes of a reply with these Batch Items."""
-    numbers = number(MAJOR, INTEGER, version[0]) + number(MINOR, INTEGER, version[1])
-    header = item(VERSION, STRUCTURE, numbers) + item(TIME_STAMP, DATE, bytes(8)) + number(BATCH_COUNT, INTEGER, len(items))
-    return item(RESPONSE, STRUCTURE, item(RESPONSE_HEADER, STRUCTURE, header) + b''.join(items))
-
-
-def refusal(operation, identity, reason):
-    parts = number(OPERATION, ENUMERATION, operation) + item(ITEM_ID, BYTES, identity)
-    parts += number(STATUS, ENUMERATION, 1)
-    if reason is not None:
-        parts += number(REASON, ENUMERATION, reason)
-    return item(BATCH_ITEM, STRUCTURE, parts)
-
-
-def located(identity, *uids):
-    parts = number(OPERATION, ENUMERATION, LOCATE) + item(ITEM_ID, BYTES, identity) + number(STATUS, ENUMERATION, 0)
-    found = b''.join(item(UNIQUE_IDENTIFIER, TEXT, uid.encode()) for uid in uids)
-    return item(BATCH_ITEM, STRUCTURE, parts + item(PAYLOAD, STRUCTURE, found))
-
-
-def message(stream):
-    """The next message: the last four bytes of its head say how long the rest is."""
-    head = stream.recv(8, socket.MSG_WAITALL)
-    if len(head) < 8:
-        raise OSError('the stream has ended')
-    return head + stream.recv(int.from_bytes(head[4:], 'big'), socket.MSG_WAITALL)
 
 
 def silent(peer):
