@@ -23,7 +23,8 @@ import time
 
 sys.dont_write_bytecode = True
 
-from messages import CREATE, located, message, questions_in, refusal, reply
+from messages import ACTIVATE, CREATE, DESTROY, Picky, located, message, objects_of, questions_in, refusal, reply
+from nine_keys import BATCHES, CASE, NINE, Key
 
 # What takes longer than so many seconds never ends, or is not given up. A busy machine takes seconds to start a
 # program, or to bring a file to the disk.
@@ -94,6 +95,15 @@ def having_two(operation, identity):
 
 def stranger(operation, identity):
     return located(b'\x08other')
+
+
+def picking(picky):
+    """What a peer does that refuses some questions, and has the others answered."""
+    def behaviour(peer):
+        while True:
+            peer.sendall(picky.reply_to(message(peer)))
+
+    return behaviour
 
 
 def handing_on(port):
@@ -413,6 +423,53 @@ class Troubles:
         self.case('answers to what was not asked', peer_with(answering(stranger)), ['k1: Locate not answered 2 times'],
                   'stop Limit 2', '--limit', '2', '--wait', '0')
 
+    def told(self, port, *more):
+        """The lines that a run against a port tells, the last one that it prints, and its status."""
+        status, printed, said = self.ended(('--connect', f'127.0.0.1:{port}'), '--wait', '0', *more)
+        return said.splitlines(), printed.splitlines()[-1], status
+
+    def beside_finished(self, batch):
+        """Nothing is told of a key that was finished before, also where the run asked nothing about it."""
+        for keys in [Key('k1', 'active'), Key('k2', 'active'), CASE], [*NINE[:7], Key('k8', 'active'), CASE]:
+            port, first = self.serve(), [key.text() for key in keys[:-2]]
+            self.start(*first)
+            self.ended(('--connect', f'127.0.0.1:{port}'))
+            self.put('plan.toml', ''.join([*first, *(key.text() for key in keys[-2:])]))
+            last = 'not requested yet' if batch == '1' else 'last reply to Locate: found none'
+            self.look(f'a run of one exchange, {len(first)} of {len(keys)} keys finished before, {batch} keys a message',
+                      (self.told(port, '--batch', batch, '--limit', '1'), (
+                          [f'{keys[-2].name}: last reply to Locate: found none', f'{CASE.name}: {last}'], 'stop Limit 1', 1)))
+
+    def refused_destroys(self, batch):
+        """A Destroy that is refused is told with how often, and a refusal that the server contradicts later is not told."""
+        limit = {'1': '60', '8': '12'}[batch]
+        refuses = {'is refused': lambda operation, name, time: 12 if operation == DESTROY else None,
+                   'is refused, and found to be done': lambda operation, name, time: 12 if operation == DESTROY or (
+                       operation == ACTIVATE and name == CASE.name) else None}
+        for what, rule in refuses.items():
+            picky = Picky(self.serve(), rule, done=() if what == 'is refused' else (DESTROY,))
+            self.start(*map(Key.text, NINE))
+            told = self.told(peer_with(picking(picky)), '--batch', batch, '--limit', limit)
+            often = {(operation, name): count for (operation, name), count in picky.refused.items()
+                     if operation not in picky.done}
+            words = {ACTIVATE: 'Activate', DESTROY: 'Destroy'}
+            lines = [f'{key.name}: {words[operation]} refused {count} times, last reason 12 (Permission Denied)'
+                     for key in NINE for (operation, name), count in often.items() if name == key.name]
+            self.look(f'a Destroy that {what}, {batch} keys a message', (told, (lines, f'stop Limit {limit}', 1)),
+                      (min(often.values()) > 1, True), (len(lines), 1 if picky.done else 2))
+
+    def found_after_refusal(self, batch):
+        """A Create that was refused is not told once a Locate finds the object: what the server says last is."""
+        rule = lambda operation, name, time: 100 if operation == CREATE and name == CASE.name else None
+        port = self.serve()
+        self.start(Key('k1', 'active').text(), CASE.text())
+        # Of both keys a Locate and a Create; then an Activate of the first, and a Locate of the second one.
+        limit = {'1': '6', '8': '3'}[batch]
+        told = self.told(peer_with(picking(Picky(port, rule, done=(CREATE,)))), '--batch', batch, '--limit', limit)
+        [(uid, _)] = objects_of(port, [CASE.name])[CASE.name]
+        self.look(f'a Create that is refused, and found to be done, {batch} keys a message',
+                  (told, ([f'{CASE.name}: last reply to Locate: found {uid.decode()}'], f'stop Limit {limit}', 1)))
+
     def conflicts(self):
         port = self.serve()
         first = [key('disk-array-1'), key('disk-array-2', 128), key('disk-array-3', target='destroyed')]
@@ -536,6 +593,10 @@ def main():
         troubles.is_slow()
         troubles.other_reasons()
         troubles.refused_keys()
+        for batch in BATCHES:
+            troubles.beside_finished(batch)
+            troubles.refused_destroys(batch)
+            troubles.found_after_refusal(batch)
         troubles.conflicts()
         troubles.many_words()
         troubles.terminals()
