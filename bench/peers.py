@@ -525,6 +525,10 @@ class Peers:
         said, _, port = printed.partition(' ')
         is_port = port[-1:] == '\n' and port[:-1].isdecimal() and 0 < int(port) < 65536
         self.look('a server of no connections', (status == 0, status), (said == 'listening' and is_port, printed))
+        # The number of connections is one of four bytes.
+        status, printed, _, _ = self.ended([*words[:-1], str(2 ** 32)])
+        self.look('a server of more connections than it may have', (status == 2, status),
+                  (printed.startswith(f"error: invalid value '{2 ** 32}' for '--connections <N>'"), printed))
 
     def taken_port(self):
         with socket.socket() as taken:

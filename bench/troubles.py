@@ -10,6 +10,7 @@ what went wrong. The last line has `0 wrong`, and the exit status is 0, where al
 on 127.0.0.1 and in the folder only.
 """
 
+import json
 import os
 import pty
 import re
@@ -169,6 +170,17 @@ def until(condition):
         time.sleep(0.01)
 
 
+def within(value, least, most=LONGEST):
+    """A fact: that this number is within these bounds."""
+    return value, min(max(value, least), most)
+
+
+def number_in(pattern, text):
+    """The number that a pattern finds in a text; -1 if it finds none."""
+    found = re.search(pattern, text, re.M)
+    return float(found[1]) if found else -1
+
+
 def without_times(line):
     """A line of standard error without its times: seconds since the start, of silence, and of an exchange."""
     line = re.sub(r'^\d+\.\d{3} ', 'T ', line)
@@ -301,6 +313,15 @@ class Troubles:
                   [f'{refused}; trying again', 'T Locate k1: no reply, the connection was refused (T ms)',
                    'T Locate k1: no reply, the connection was refused (T ms)', 'no reply in 2 exchanges'],
                   'stop Limit 2', '--limit', '2', '--wait', '0', '--verbose')
+        self.start()
+        start = time.monotonic()
+        self.case('it, with a first wait of 500 ms', port, [f'{refused}; trying again', 'no reply in 3 exchanges'],
+                  'stop Limit 3', '--limit', '3', '--wait', '500')
+        # One wait of 500 ms and one that is twice as long.
+        self.look('it waits for 1.5 s in all', within(time.monotonic() - start, 1.4))
+        self.start()
+        self.case('it, asked more often than by default', port, [f'{refused}; trying again', 'no reply in 10001 exchanges'],
+                  'stop Limit 10001', '--limit', '10001', '--wait', '0')
         listener.close()
         self.start()
         missing = 'No such file or directory (os error 2)'
@@ -311,10 +332,10 @@ class Troubles:
     def still_silent(self):
         """What is told of a server that is silent for long: within an exchange, and from one to the next."""
         listener, refusing = bound()
-        rows = [('a peer that hangs for long', peer_with(silent), ('--timeout', '40', '--limit', '1'), 'stop Limit 1',
+        rows = [('a peer that hangs for long', peer_with(silent), ('--timeout', '40', '--limit', '1'), 300, 'stop Limit 1',
                  ['still no reply from PEER (waiting for T s); giving up in T s',
                   'no reply from PEER: timed out after 40 s', 'no reply in 1 exchange']),
-                ('a port where nobody listens for long', refusing, ('--give-up', '36'), 'stop Limit',
+                ('a port where nobody listens for long', refusing, ('--give-up', '36'), 36, 'stop Limit',
                  ['no reply from PEER: the connection was refused; trying again',
                   'still no reply from PEER (connection refused N times in T s); giving up in T s',
                   'no reply in N exchanges', 'gave up: nothing new for 36 s'])]
@@ -323,19 +344,22 @@ class Troubles:
                    'no reply from PEER: timed out after 33 s; trying again', 'gave up: no answer came for 10 s'])]
         self.start()
         running = []
-        for what, port, words, stop, told in rows:
+        for what, port, words, give_up, stop, told in rows:
             command = [self.program, 'run', '--plan', 'plan.toml', '--progress', what.replace(' ', '-')]
-            running.append((what, port, [*command, *words], stop, told))
+            running.append((what, port, [*command, *words], give_up, stop, told))
         for what, port, words, told in looks:
-            running.append((what, port, [self.program, 'look', '--plan', 'plan.toml', *words], 'finished 0 of 1', told))
+            running.append((what, port, [self.program, 'look', '--plan', 'plan.toml', *words], 10, 'finished 0 of 1', told))
         started = [subprocess.Popen([*words, '--connect', f'127.0.0.1:{port}'], cwd=self.folder, text=True,
                                     stdin=subprocess.DEVNULL, stdout=subprocess.PIPE, stderr=subprocess.PIPE)
-                   for _, port, words, _, _ in running]
-        for (what, port, _, stop, told), one in zip(running, started):
+                   for _, port, words, *_ in running]
+        for (what, port, _, give_up, stop, told), one in zip(running, started):
             printed, said = one.communicate(timeout=EVER)
             lines = [without_times(line.replace(f'127.0.0.1:{port}', 'PEER')) for line in said.splitlines()]
             lines = [re.sub(r'in \d+ exchanges', 'in N exchanges', line) for line in lines]
-            self.look(what, (lines, told), (printed.splitlines()[-1].startswith(stop), True), (one.returncode, 1))
+            # It is told after 30 s of silence, and when the run is given up: so long after nothing new became known.
+            silent, left = number_in(r'(?:waiting for|times in) (\d+) s', said), number_in(r'giving up in (\d+) s', said)
+            self.look(what, (lines, told), (printed.splitlines()[-1].startswith(stop), True), (one.returncode, 1),
+                      within(silent, 30, 40), within(left, max(give_up - silent - 2, 0), max(give_up - silent, 0)))
         listener.close()
 
     def gives_up(self):
@@ -368,18 +392,30 @@ class Troubles:
 
         status, printed, said = self.ended(('--connect', f'127.0.0.1:{port}'), first='no reply from', then=listen)
         lines = [without_times(line.replace(f'127.0.0.1:{port}', 'PEER')) for line in said.splitlines()]
+        # By the waits of a run the last refusal is less than a second before the reply: the time is since the first one.
         self.look('a server that comes late', (lines, [refused, 'PEER answers again after T s']), (status, 0),
-                  (printed.splitlines()[1:2], ['finished 1 of 1']))
+                  (printed.splitlines()[1:2], ['finished 1 of 1']), within(number_in(r'after (\d+) s$', said), 1))
 
     def is_slow(self):
-        """A run that gets on all the time is not given up, however long it takes: longer than it may not get on."""
+        """A run that gets on all the time ends well, however long it takes: longer than `--give-up`, and than the time limit of
+        an exchange. Its times are those of the whole run: in each line, in JSON and in the metrics."""
         self.start(*(key(f'k{number}') for number in range(1, 6)))
         port = peer_with(handing_on_slowly(self.serve(), 0.4))
         start = time.monotonic()
-        status, printed, said = self.ended(('--connect', f'127.0.0.1:{port}'), '--give-up', '5')
-        self.look('a slow server', (status, 0), (said, ''),
-                  (printed.splitlines()[-2:], ['finished 5 of 5', 'stop AllFinished 15']),
-                  (time.monotonic() - start > 5, True))
+        status, printed, said = self.ended(('--connect', f'127.0.0.1:{port}'), '--give-up', '5', '--timeout', '4', '--verbose',
+                                           '--json', '--metrics', 'run.prom')
+        took = time.monotonic() - start
+        end = json.loads(printed.splitlines()[-1])
+        counts = [end[name] for name in ('end', 'finished', 'exchanges', 'lost')]
+        lines = [re.fullmatch(r'(\d+\.\d{3}) \w+ k\d: .* \((\d+) ms\)', line) for line in said.splitlines()]
+        self.look('a slow server', (status, 0), (counts, ['AllFinished', 5, 15, 0]), (took > 5, True),
+                  (len(lines), 15), (all(lines), True))
+        times = [float(line[1]) for line in lines if line]
+        self.look('each line of an exchange has the time since the start of the run', (times, sorted(times)),
+                  *(within(seconds, 0.4 * number, took) for number, seconds in enumerate(times, 1)))
+        self.look('and how long the exchange took', *(within(int(line[2]), 400, 4000) for line in lines if line))
+        self.look('in JSON and in the metrics is how long the run took', within(end['milliseconds'], 6000, 1000 * took),
+                  within(number_in(r'^kmipctl_run_seconds\S* (\S+)$', self.text('run.prom')), 6, took))
 
     def other_reasons(self):
         """A peer that refuses connections, then speaks TLS: each reason is told."""
@@ -495,7 +531,11 @@ class Troubles:
                   ['T Locate k1: found none (T ms)', 'T Create k1: created as 1 (T ms)',
                    'T Activate k1: activated 1 (T ms)'], 'stop AllFinished 3', '--verbose', status=0, where=('--loopback',))
 
-    def at_terminal(self, term, *more, before=(), words=None):
+    def at_terminal(self, term, *more, **how):
+        """What a run writes to a terminal that is called so, without its times."""
+        return re.sub(r', \d+ s\x1b', ', T s\x1b', self.written(term, *more, **how))
+
+    def written(self, term, *more, before=(), words=None):
         """What a run, behind these words, writes to a terminal that is called so, as it comes."""
         environment = {name: value for name, value in os.environ.items() if name != 'TERM'}
         if term is not None:
@@ -515,7 +555,7 @@ class Troubles:
             written += piece
         os.close(master)
         running.wait()
-        return re.sub(r', \d+ s\x1b', ', T s\x1b', written.decode())
+        return written.decode()
 
     def terminals(self):
         """The line of progress: it begins at the start of a line, erases what stands behind it, and no more."""
@@ -527,6 +567,11 @@ class Troubles:
         where = ('--connect', f'127.0.0.1:{port}')
         self.start()
         self.look('the line of progress', (self.at_terminal('xterm', where, ()), wanted))
+        self.start()
+        slow = ('--connect', f'127.0.0.1:{peer_with(handing_on_slowly(self.serve(), 0.7))}')
+        times = [int(seconds) for seconds in re.findall(r', (\d+) s\x1b', self.written('xterm', slow, ()))]
+        self.look('the line of progress has the time since the start of the run', (len(times), 4),
+                  *(within(seconds, int(0.7 * number)) for number, seconds in enumerate(times)))
         self.start()
         self.look('all is done already', (self.at_terminal('xterm', ('--connect', f'127.0.0.1:{self.serve()}'), ('--limit', '0')), ''))
         for term in ('dumb', '', None):
