@@ -354,6 +354,7 @@ class Causes:
             os.chmod(self.path(name), 0)
             for words in commands:
                 self.case(f'{" ".join(words)}, which may not read {name}', words, printed, [told])
+            os.chmod(self.path(name), 0o600)
             self.look(f'nothing is changed if {name} may not be read', (self.text('plan.progress'), ALL_KNOWN),
                       (sorted(os.listdir(self.folder)), before))
         self.denied_folders(run, listing, unread)
@@ -371,6 +372,7 @@ class Causes:
         for words in (run, listing):
             self.case(f'{words[0]} of a progress in a folder that may not be searched', (*words[:-1], 'closed/plan.progress'),
                       unread.replace('plan', 'closed/plan'), [f'closed/plan.progress: {DENIED}'])
+        os.chmod(self.path('closed'), 0o700)
         self.look('nothing is changed in it', (os.listdir(self.path('closed')), ['plan.progress']),
                   (self.text('closed/plan.progress'), ALL_KNOWN))
         self.start()

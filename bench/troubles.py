@@ -568,11 +568,6 @@ class Troubles:
         self.start()
         self.look('the line of progress', (self.at_terminal('xterm', where, ()), wanted))
         self.start()
-        slow = ('--connect', f'127.0.0.1:{peer_with(handing_on_slowly(self.serve(), 0.7))}')
-        times = [int(seconds) for seconds in re.findall(r', (\d+) s\x1b', self.written('xterm', slow, ()))]
-        self.look('the line of progress has the time since the start of the run', (len(times), 4),
-                  *(within(seconds, int(0.7 * number)) for number, seconds in enumerate(times)))
-        self.start()
         self.look('all is done already', (self.at_terminal('xterm', ('--connect', f'127.0.0.1:{self.serve()}'), ('--limit', '0')), ''))
         for term in ('dumb', '', None):
             self.start(key('k2'))
@@ -601,6 +596,14 @@ class Troubles:
         where = ('--connect', f'127.0.0.1:{port}')
         self.look('the line of progress, of losses', (self.at_terminal('xterm', where, ('--limit', '2')), wanted))
         listener.close()
+
+    def slow_terminal(self):
+        """At a server that takes 0.7 s for each reply."""
+        self.start()
+        slow = ('--connect', f'127.0.0.1:{peer_with(handing_on_slowly(self.serve(), 0.7))}')
+        times = [int(seconds) for seconds in re.findall(r', (\d+) s\x1b', self.written('xterm', slow, ()))]
+        self.look('the line of progress has the time since the start of the run', (len(times), 4),
+                  *(within(seconds, int(0.7 * number)) for number, seconds in enumerate(times)))
 
     def writes(self):
         """The line of progress is written at once each time, so that a kill leaves no half of a sequence."""
@@ -645,6 +648,7 @@ def main():
         troubles.conflicts()
         troubles.many_words()
         troubles.terminals()
+        troubles.slow_terminal()
         troubles.writes()
     finally:
         troubles.end()
