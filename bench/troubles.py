@@ -357,9 +357,9 @@ class Troubles:
             lines = [without_times(line.replace(f'127.0.0.1:{port}', 'PEER')) for line in said.splitlines()]
             lines = [re.sub(r'in \d+ exchanges', 'in N exchanges', line) for line in lines]
             # It is told after 30 s of silence, and when the run is given up: so long after nothing new became known.
-            silent, left = number_in(r'(?:waiting for|times in) (\d+) s', said), number_in(r'giving up in (\d+) s', said)
+            waited, left = number_in(r'(?:waiting for|times in) (\d+) s', said), number_in(r'giving up in (\d+) s', said)
             self.look(what, (lines, told), (printed.splitlines()[-1].startswith(stop), True), (one.returncode, 1),
-                      within(silent, 30, 40), within(left, max(give_up - silent - 2, 0), max(give_up - silent, 0)))
+                      within(waited, 30, 40), within(left, max(give_up - waited - 2, 0), max(give_up - waited, 0)))
         listener.close()
 
     def gives_up(self):
