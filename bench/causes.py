@@ -3,16 +3,21 @@
 
     bench/causes.py PROGRAM FOLDER
 
-Of each case standard output, standard error and the exit status are compared with what is written here.
-Each row has a case and `ok`, or what went wrong, or what the machine lacks where the case is skipped. The
-last line has `0 wrong`, and the exit status is 0, where all is as it has to be. Sockets on 127.0.0.1 only.
+Of each case standard output, standard error and the exit status are compared with what is written here. If a command
+prints a fault, it is run once more with --json: then its document has to say the same. All cases are run twice: as the
+user who runs this, and as one to whom access can be denied. Each row has a case and `ok`, or what went wrong, or what
+the machine lacks if the case is skipped. The last line has `0 wrong`, and the exit status is 0, if all is as it has to
+be. Sockets on 127.0.0.1 only.
 """
 
+import json
 import os
 import pty
+import re
 import resource
 import shutil
 import socket
+import stat
 import subprocess
 import sys
 
@@ -28,6 +33,11 @@ FINISHED = 'k1 active 2/2 finished\nfinished 1 of 1\nstop AllFinished 3\n'
 ALL_KNOWN = 'kmip-progress 2\nk1 active - 2 31\nend 1\n'
 SIMULATED = ('run 1 AllFinished 3\nk1 active 2/2 finished\nfinished 1 of 1\n'
              'ask 1 Locate k1\nask 2 Create k1\nask 3 Activate k1\nrecord 1 k1 Active\n')
+NOTHING_KNOWN = 'kmip-progress 2\nk1 active - 0 -\nend 1\n'
+# Where, when and for which keys a progress was saved: for a shorter key than that of the plan.
+OTHER_ORIGIN = 'kmipctl origin 1\nserver tcp 127.0.0.1:1\nkept 1\nkey k1 AES 128 0000000c\n'
+OTHER_ATTRIBUTES = (' was saved for other attributes: key "k1": the length is 256, and was 128; the attributes of an object do '
+                    'not change: restore them in the plan, or give the key another name')
 # What has not ended after so many seconds never does.
 EVER = 150
 # A Structure with nothing in it.
@@ -41,10 +51,20 @@ READ_ONLY = 'Read-only file system (os error 30)'
 NO_READER = 'Broken pipe (os error 32)'
 CIRCLE = 'Too many levels of symbolic links (os error 40)'
 TAKEN = 'Address already in use (os error 98)'
+DENIED = 'Permission denied (os error 13)'
 NO_FILE_LEFT = 'Too many open files (os error 24)'
 UNKNOWN_EFFECT = 'the last request may have taken effect'
 RESTORE = ('restore the file from a backup, or run with --afresh, which searches for each key and creates those that are '
            'missing')
+
+FIX = 'fix the permissions and run again'
+REMOVE = 'remove it, and the run checks the progress against the server'
+BELIEVE = 'give --believe, which checks the progress against the server'
+
+# The user and the group `nobody`.
+NOBODY = 65534
+# The commands that print documents.
+WITH_JSON = ('check', 'sim', 'run', 'list', 'look', 'probe')
 
 # The environment without the variables that stand for options.
 AROUND = {name: value for name, value in os.environb.items() if not name.startswith(b'KMIPCTL_')}
@@ -54,6 +74,7 @@ CHECK_AFTER = (*CHECK, '--after', 'plan.toml')
 SIM = ('sim', '--plan', 'plan.toml', '--script', 'empty.script')
 SIM_THEN = (*SIM, '--then', 'plan.toml')
 RUN = ('run', '--plan', 'plan.toml', '--loopback')
+RUN_THERE = (*RUN[:-1], '--connect', '127.0.0.1:1')
 LIST = ('list', '--plan', 'plan.toml')
 PROBE = ('probe', '--name-prefix', 'p', '--loopback')
 SERVE = ('serve', '--port', '0', '--connections', '0')
@@ -70,17 +91,53 @@ PROBE_USAGE = f'\nUsage: kmipctl probe [OPTIONS] --name-prefix <PREFIX> {SERVERS
 CHECK_USAGE = f'\nUsage: kmipctl check [OPTIONS] --plan <PATH>\n{HELP}'
 
 
+def document_of(printed, told):
+    """The document that says what this line and the first line that is told say; none if the line is no fault."""
+    why = told[0].split(': ', 1)[-1].split('; ')[0] if told else None
+    if found := re.fullmatch(r'(cannot \w+) (.+)\n', printed):
+        return {'fault': found[1], 'at': found[2], 'why': why, 'cause': None}
+    if found := re.fullmatch(r'longer than (\d+) bytes: (.+)\n', printed):
+        return {'fault': 'too long', 'at': found[2], 'why': f'it has more than {found[1]} bytes', 'cause': None}
+    if found := re.fullmatch(r'progress refused: (\d) (\w+)\n', printed):
+        return {'fault': 'progress refused', 'number': int(found[1]), 'name': found[2]}
+    if found := re.fullmatch(r'plan refused: (\d) (\w+) (\w+) at key (\d)\n', printed):
+        line = re.match(r'[^:]+:(\d+): ', told[0])
+        return {'fault': 'plan refused', 'number': int(found[1]), 'name': found[2], 'field': found[3], 'key': int(found[4]),
+                'line': int(line[1])}
+    return None
+
+
+def documents(printed):
+    """The documents that are printed, a line each; the text itself if it is none."""
+    try:
+        return [json.loads(line) for line in printed.splitlines()]
+    except ValueError:
+        return printed
+
+
 class Causes:
-    def __init__(self, program, folder):
-        self.program, self.folder = program, folder
+    """The cases, run as this user: `before` stands before each command, and `whose` behind the name of each case."""
+
+    def __init__(self, program, folder, user, before, whose):
+        self.program, self.folder, self.user, self.before, self.whose = program, folder, user, before, whose
         self.cases, self.wrong, self.skipped = 0, 0, 0
 
     def path(self, name):
         return os.path.join(self.folder, name)
 
-    def put(self, name, text):
+    def put(self, name, text, mode=0o644):
         with open(self.path(name), 'wb') as file:
             file.write(text.encode() if isinstance(text, str) else text)
+        self.give(name, mode)
+
+    def give(self, name, mode):
+        """Gives a file this mode, and gives it to the user as whom the cases are run."""
+        os.chown(self.path(name), self.user, self.user)
+        os.chmod(self.path(name), mode)
+
+    def make_folder(self, name):
+        os.mkdir(self.path(name))
+        self.give(name, 0o755)
 
     def text(self, name):
         with open(self.path(name)) as file:
@@ -90,40 +147,49 @@ class Causes:
         """A folder with the plan and an empty script, and nothing else."""
         shutil.rmtree(self.folder, ignore_errors=True)
         os.makedirs(self.folder)
+        self.give('.', 0o755)
         self.put('plan.toml', PLAN)
         self.put('empty.script', '')
 
     def look(self, what, *facts):
         """Prints the row of a case; a fact is what was found, and what has to be."""
         wrong = [(found, wanted) for found, wanted in facts if found != wanted]
-        print(f'{what}: ' + ('wrong' if wrong else 'ok'))
+        print(f'{what}{self.whose}: ' + ('wrong' if wrong else 'ok'))
         for found, wanted in wrong:
             print(f'    {found!r}\n    in the place of {wanted!r}')
         self.cases += 1
         self.wrong += bool(wrong)
 
     def skip(self, what, lacking):
-        print(f'{what}: skipped, {lacking}')
+        print(f'{what}{self.whose}: skipped, {lacking}')
         self.skipped += 1
 
-    def run(self, words, said=(), **more):
-        """A run in an environment with these variables."""
-        return subprocess.run([self.program, *words], cwd=self.folder, text=True, timeout=EVER, env=AROUND | dict(said),
+    def run(self, words, said=(), first=(), **more):
+        """A run in an environment with these variables; the words `first` stand before it."""
+        return subprocess.run([*first, *self.before, self.program, *words], cwd=self.folder, text=True, timeout=EVER, env=AROUND | dict(said),
                               stdin=more.pop('stdin', subprocess.DEVNULL), **more)
 
-    def case(self, what, words, printed, told, status=1, **more):
-        """Standard output is a pipe unless it is given; what is told are whole lines."""
+    def case(self, what, words, printed, told, status=1, formats=('text', 'JSON'), **more):
+        """Standard output is a pipe unless it is given; what is told are whole lines. A fault is printed as a document too."""
         printing = {} if 'stdout' in more else {'stdout': subprocess.PIPE}
-        done = self.run(words, stderr=subprocess.PIPE, **printing, **more)
-        self.look(what, (done.returncode, status), (done.stdout, printed),
-                  (done.stderr, ''.join(f'{line}\n' for line in told)))
+        told_text = ''.join(f'{line}\n' for line in told)
+        if 'text' in formats:
+            done = self.run(words, stderr=subprocess.PIPE, **printing, **more)
+            self.look(what, (done.returncode, status), (done.stdout, printed), (done.stderr, told_text))
+        document = document_of(printed, told) if printed and words and words[0] in WITH_JSON else None
+        if document and 'JSON' in formats:
+            if 'stdin' in more and not isinstance(more['stdin'], int):
+                more['stdin'].seek(0)
+            done = self.run((*words, '--json'), stderr=subprocess.PIPE, **printing, **more)
+            self.look(f'{what}, in JSON', (done.returncode, status), (documents(done.stdout), [document]),
+                      (done.stderr, told_text))
 
     def unread_plans(self):
         missing = f'plan.toml: {MISSING}'
         os.remove(self.path('plan.toml'))
         for words in (CHECK, CHECK_AFTER, SIM, SIM_THEN, (*RUN, '--progress', 'p')):
             self.case(f'{" ".join(words)}, of which the plan is missing', words, 'cannot read plan.toml\n', [missing])
-        os.mkdir(self.path('plan.toml'))
+        self.make_folder('plan.toml')
         self.case('a folder for a plan', CHECK, 'cannot read plan.toml\n', [f'plan.toml: {FOLDER}'])
         self.start()
         self.put('plan.toml', b'# \xff\n')
@@ -154,7 +220,7 @@ class Causes:
         self.progress('a progress that is too long', 'longer than 1048576 bytes: plan.progress\n',
                       ': it has more than 1048576 bytes; check that it is the right file')
         self.start()
-        os.mkdir(self.path('plan.progress'))
+        self.make_folder('plan.progress')
         self.progress('a folder for a progress', unread, f': {FOLDER}')
         self.look('no lock is left next to it', (os.path.exists(self.path('plan.progress.lock')), False))
         self.start()
@@ -186,17 +252,129 @@ class Causes:
         self.start()
         self.progress('a progress whose folder is missing', 'cannot write missing/plan.progress\n',
                       f'.lock: {MISSING}; check that its folder exists and run again', 'missing/plan.progress')
-        os.mkdir(self.path('plan.progress.lock'))
+        self.make_folder('plan.progress.lock')
         self.progress('a folder for a lock', 'cannot write plan.progress\n', f'.lock: {FOLDER}')
         self.start()
-        os.mkdir(self.path('plan.progress.new'))
+        self.make_folder('plan.progress.new')
         self.progress('a folder in the way of a progress', 'cannot write plan.progress\n',
                       f'.new: {FOLDER}; {UNKNOWN_EFFECT}: run again')
         self.start()
         os.symlink('there', self.path('plan.progress'))
-        os.mkdir(self.path('there.new'))
+        self.make_folder('there.new')
         self.case('a folder in the way of a progress behind a link', (*RUN, '--progress', 'plan.progress'),
                   'cannot write plan.progress\n', [f'./there.new: {FOLDER}; {UNKNOWN_EFFECT}: run again'])
+        self.start()
+
+    def refused_origins(self):
+        """What is beside a progress says of another key, or nothing. The same is told of it in JSON."""
+        self.start()
+        self.put('plan.progress', ALL_KNOWN)
+        path = self.path('plan.progress.origin')
+        for what, text, printed, told, commands in (
+                ('of other attributes', OTHER_ORIGIN, 'progress refused: 3 OtherPlan\n', f'plan.progress{OTHER_ATTRIBUTES}',
+                 (RUN_THERE, LIST)),
+                ('that is none', 'something else\n', 'cannot read plan.progress\n',
+                 f'{path}: it does not say where a progress was saved; {REMOVE}', (RUN, RUN_THERE))):
+            self.put('plan.progress.origin', text)
+            for words in commands:
+                self.case(f'an origin {what}, {words[0]}', (*words, '--progress', 'plan.progress'), printed, [told])
+            self.look(f'nothing is changed by an origin {what}', (self.text('plan.progress'), ALL_KNOWN))
+
+    def kept_files(self):
+        """The progress is a file of its owner alone, and a file that a kill left beside it is removed, whatever both were."""
+        for state in ('new', 'there', 'there with mode 644', 'put aside', 'behind a link', 'behind a link, new'):
+            for leftover in ('nothing', 'a file', 'a file of mode 644', 'a link', 'a link to nothing'):
+                self.start()
+                real = 'far.progress' if 'link' in state else 'p'
+                if 'link' in state:
+                    os.symlink(real, self.path('p'))
+                if 'new' not in state:
+                    self.put(real, NOTHING_KNOWN, 0o644 if '644' in state else 0o600)
+                if leftover.startswith('a file'):
+                    self.put(f'{real}.new', 'left', 0o644 if '644' in leftover else 0o600)
+                if 'link' in leftover:
+                    os.symlink('target', self.path(f'{real}.new'))
+                if leftover == 'a link':
+                    self.put('target', 'kept')
+                more = ('--afresh',) if state == 'put aside' else ()
+                done = self.run((*RUN, '--progress', 'p', *more), capture_output=True)
+                self.look(f'a progress that is {state}, and beside it {leftover}', (done.returncode, 0), (done.stdout, FINISHED),
+                          (done.stderr, ''), (self.is_kept(real), True), (os.path.islink(self.path('p')), 'link' in state),
+                          (os.path.lexists(self.path(f'{real}.new')), False),
+                          (self.text('target') if os.path.exists(self.path('target')) else None,
+                           'kept' if leftover == 'a link' else None),
+                          (self.text('p.before') if more else None, NOTHING_KNOWN if more else None))
+
+    def is_kept(self, name):
+        """Whether all is known in this file, which is none but its owner's."""
+        status = os.lstat(self.path(name))
+        return self.text(name) == ALL_KNOWN and stat.S_ISREG(status.st_mode) and stat.S_IMODE(status.st_mode) == 0o600
+
+    def order_of_calls(self):
+        """The bytes of a text are on the disk before it takes the place of the old one. The folder is brought to the disk if
+        the file is new, once it was put aside, and at the end of a run."""
+        what = 'the order of what is done to files'
+        tracing = ['strace', '-f', '-qq', '-o', self.path('trace'), '-e', 'trace=openat,fdatasync,fsync,rename,renameat,renameat2']
+        if not shutil.which('strace') or subprocess.run([*tracing, 'true'], capture_output=True).returncode:
+            self.skip(what, 'as no strace can be had')
+            return
+        text = ['make p.new', 'sync p.new', 'rename p.new p']
+        origin = ['make p.origin.new', 'sync p.origin.new', 'rename p.origin.new p.origin', 'sync .']
+        for state, known, more, wanted in (
+                ('a new progress', None, (), [*origin, *text, 'sync .', *text, 'sync .']),
+                ('an old progress', NOTHING_KNOWN, (), [*origin, *text, 'sync .']),
+                ('a progress that is put aside', NOTHING_KNOWN, ('--afresh',),
+                 ['rename p p.before', 'sync .', *origin, *text, 'sync .', *text, 'sync .'])):
+            self.start()
+            self.put('trace', '')
+            if known:
+                self.put('p', known, 0o600)
+            done = self.run((*RUN, '--progress', 'p', *more), first=tracing, capture_output=True)
+            calls = calls_in(self.text('trace'), self.folder)
+            self.look(f'{what}: {state}', (done.stdout, FINISHED), (without_repeats(calls, text), wanted))
+
+    def denied(self):
+        """What may not be read is never taken as missing: a run that cannot read its progress does not begin with nothing."""
+        if os.geteuid() == 0 and not self.before:
+            return
+        run, listing = (*RUN, '--progress', 'plan.progress'), (*LIST, '--progress', 'plan.progress')
+        look, unread = ('look', '--plan', 'plan.toml', '--loopback'), 'cannot read plan.progress\n'
+        whole = self.path('plan.progress')
+        for name, printed, told, commands in (
+                ('plan.progress', unread, f'plan.progress: {DENIED}', (run, (*run, '--refresh'), (*run, '--believe'), listing)),
+                ('plan.progress.origin', unread, f'{whole}.origin: {DENIED}; fix that, or {BELIEVE}', (run, (*run, '--refresh'))),
+                ('plan.progress.lock', 'cannot write plan.progress\n', f'{whole}.lock: {DENIED}; {FIX}', (run,)),
+                ('plan.toml', 'cannot read plan.toml\n', f'plan.toml: {DENIED}', (run, listing, look, CHECK, SIM)),
+                ('empty.script', 'cannot read empty.script\n', f'empty.script: {DENIED}', (SIM,))):
+            self.start()
+            self.put('plan.progress', ALL_KNOWN, 0o600)
+            self.put('plan.progress.origin', OTHER_ORIGIN.replace('128', '256'), 0o600)
+            self.put('plan.progress.lock', '', 0o600)
+            before = sorted(os.listdir(self.folder))
+            os.chmod(self.path(name), 0)
+            for words in commands:
+                self.case(f'{" ".join(words)}, which may not read {name}', words, printed, [told])
+            os.chmod(self.path(name), 0o600)
+            self.look(f'nothing is changed if {name} may not be read', (self.text('plan.progress'), ALL_KNOWN),
+                      (sorted(os.listdir(self.folder)), before))
+        self.denied_folders(run, listing, unread)
+
+    def denied_folders(self, run, listing, unread):
+        """A folder in which no file may be made, and one in which none may be found."""
+        self.start()
+        os.chmod(self.folder, 0o555)
+        self.case('a progress in a folder that may not be written', run, 'cannot write plan.progress\n',
+                  [f'plan.progress.lock: {DENIED}; {FIX}'])
+        os.chmod(self.folder, 0o755)
+        self.make_folder('closed')
+        self.put('closed/plan.progress', ALL_KNOWN, 0o600)
+        os.chmod(self.path('closed'), 0o600)
+        for words in (run, listing):
+            self.case(f'{words[0]} of a progress in a folder that may not be searched', (*words[:-1], 'closed/plan.progress'),
+                      unread.replace('plan', 'closed/plan'), [f'closed/plan.progress: {DENIED}'])
+        os.chmod(self.path('closed'), 0o700)
+        self.look('nothing is changed in it', (os.listdir(self.path('closed')), ['plan.progress']),
+                  (self.text('closed/plan.progress'), ALL_KNOWN))
         self.start()
 
     def unsynced_folder(self):
@@ -209,31 +387,34 @@ class Causes:
             return
         self.start()
         self.run((*RUN, '--progress', 'p', '--limit', '1'), stdout=subprocess.PIPE, stderr=subprocess.PIPE)
-        done = subprocess.run([*failing, self.program, *RUN, '--progress', 'p'], cwd=self.folder, text=True, timeout=EVER,
-                              env=AROUND, stdin=subprocess.DEVNULL, capture_output=True)
+        done = self.run((*RUN, '--progress', 'p'), first=failing, capture_output=True)
         self.look(what, (done.returncode, 0), (done.stdout, FINISHED), (self.text('p'), ALL_KNOWN),
                   (done.stderr, f'p: {NO_DISK}; saved, but a power failure may restore the previous version, which is also correct\n'))
         self.start()
 
     def on_disk(self, what, options, left, printed, told):
         """A case whose progress lies on a small disk, on which so many bytes are left, where that is asked for."""
-        disk = self.path('disk')
-        os.mkdir(disk)
-        mounting = ['mount', '-t', 'tmpfs', '-o', options, 'tmpfs', disk]
-        if not shutil.which('mount') or subprocess.run(mounting, capture_output=True).returncode:
-            self.skip(what, 'as no disk can be mounted')
-        else:
-            try:
-                if left is not None:
-                    with open('/dev/zero', 'rb') as zeros, open(f'{disk}/zeros', 'wb', buffering=0) as file:
-                        fill_up(zeros, file)
-                    os.truncate(f'{disk}/zeros', os.path.getsize(f'{disk}/zeros') - left)
-                self.progress(what, printed, told, 'disk/plan.progress')
-            finally:
-                subprocess.run(['umount', disk], check=True)
-        os.rmdir(disk)
+        for form in ('text', 'JSON'):
+            disk = self.path('disk')
+            os.mkdir(disk)
+            mounting = ['mount', '-t', 'tmpfs', '-o', options, 'tmpfs', disk]
+            if not shutil.which('mount') or subprocess.run(mounting, capture_output=True).returncode:
+                self.skip(what, 'as no disk can be mounted')
+            else:
+                try:
+                    if left is not None:
+                        with open('/dev/zero', 'rb') as zeros, open(f'{disk}/zeros', 'wb', buffering=0) as file:
+                            fill_up(zeros, file)
+                        os.truncate(f'{disk}/zeros', os.path.getsize(f'{disk}/zeros') - left)
+                    self.progress(what, printed, told, 'disk/plan.progress', formats=(form,))
+                finally:
+                    subprocess.run(['umount', disk], check=True)
+            os.rmdir(disk)
 
     def disks(self):
+        # Such a disk belongs to the user who mounts it.
+        if self.before:
+            return
         self.on_disk('a full disk, where nothing is asked', 'size=16k', 0, 'cannot write disk/plan.progress\n',
                      f'.origin: {FULL}; free some space and run again')
         self.on_disk('a progress on a disk with room for its origin alone', 'size=16k', 4096,
@@ -391,7 +572,7 @@ class Causes:
         for what in ('0<&-', '1>&-', '2>&-', '0<&- 1>&- 2>&-'):
             self.start()
             command = f'exec "$0" run --plan plan.toml --progress p --loopback --verbose {what}'
-            done = subprocess.run(['sh', '-c', command, self.program], cwd=self.folder, text=True, timeout=EVER,
+            done = subprocess.run([*self.before, 'sh', '-c', command, self.program], cwd=self.folder, text=True, timeout=EVER,
                                   stdin=subprocess.DEVNULL, capture_output=True)
             self.look(f'run with {what}', (done.returncode, 0), (self.text('p.lock'), ''), (self.text('p'), ALL_KNOWN),
                       (done.stdout, '' if '1>' in what else FINISHED),
@@ -437,6 +618,14 @@ class Causes:
                          ['reading from the terminal: a plan; end with Ctrl-D',
                           'standard input: there is no key: a plan has at least one [[key]]'], status=1)
 
+    def all(self):
+        self.start()
+        for part in (self.unread_plans, self.unread_progress, self.refused_progress, self.unwritten_progress,
+                     self.refused_origins, self.kept_files, self.order_of_calls, self.denied, self.unsynced_folder, self.disks,
+                     self.sockets, self.outputs, self.inputs, self.plans_of_input, self.variables, self.closed_streams,
+                     self.addresses, self.terminals):
+            part()
+
     def at_terminal(self, words, printed, told, status):
         """A command at a terminal at which nothing is typed."""
         master, slave = pty.openpty()
@@ -457,25 +646,52 @@ def fill_up(zeros, file):
             return
 
 
+def calls_in(trace, folder):
+    """What is done to files by the calls of a trace: each name is that in the folder."""
+    done, open_files = [], {}
+    named = lambda path: os.path.relpath(os.path.join(folder, path), folder)
+    for line in trace.splitlines():
+        if found := re.search(r'openat\(AT_FDCWD, "([^"]*)", (\S+?)(?:, 0\d+)?\) = (\d+)$', line):
+            open_files[found[3]] = named(found[1])
+            done += [f'make {named(found[1])}'] if 'O_EXCL' in found[2] else []
+        elif found := re.search(r'(?:fdatasync|fsync)\((\d+)\) += 0$', line):
+            done.append(f'sync {open_files[found[1]]}')
+        elif found := re.search(r'rename\w*\((.*)\) += 0$', line):
+            done.append(' '.join(['rename', *map(named, re.findall(r'"([^"]*)"', found[1]))]))
+    return done
+
+
+def without_repeats(calls, some):
+    """These calls, where some that are repeated at once stand once."""
+    left = []
+    for call in calls:
+        left.append(call)
+        if left[-len(some):] == some == left[-2 * len(some):-len(some)]:
+            del left[-len(some):]
+    return left
+
+
+def users(program, folder):
+    """The users as whom the cases are run, each with the words before its commands, and what is said of its cases."""
+    yield -1, (), ''
+    nobody = ('setpriv', f'--reuid={NOBODY}', f'--regid={NOBODY}', '--clear-groups')
+    trying = [*nobody, 'sh', '-c', 'test -x "$0" && "$1" --version', os.path.dirname(folder), program]
+    if os.geteuid() == 0 and shutil.which('setpriv') and not subprocess.run(trying, capture_output=True).returncode:
+        yield NOBODY, nobody, ', as nobody'
+    else:
+        print('the cases as nobody: skipped, as nobody cannot be had, or cannot run the program')
+
+
 def main():
-    causes = Causes(os.path.realpath(sys.argv[1]), os.path.realpath(sys.argv[2]))
-    causes.start()
-    causes.unread_plans()
-    causes.unread_progress()
-    causes.refused_progress()
-    causes.unwritten_progress()
-    causes.unsynced_folder()
-    causes.disks()
-    causes.sockets()
-    causes.outputs()
-    causes.inputs()
-    causes.plans_of_input()
-    causes.variables()
-    causes.closed_streams()
-    causes.addresses()
-    causes.terminals()
-    print(f'{causes.cases} cases: {causes.wrong} wrong, {causes.skipped} skipped')
-    return 1 if causes.wrong else 0
+    program, folder = map(os.path.realpath, sys.argv[1:3])
+    total = []
+    for user, before, whose in users(program, folder):
+        causes = Causes(program, folder, user, before, whose)
+        total.append(causes)
+        causes.all()
+    cases, wrong, skipped = (sum(getattr(one, name) for one in total) for name in ('cases', 'wrong', 'skipped'))
+    print(f'{cases} cases: {wrong} wrong, {skipped} skipped')
+    return 1 if wrong else 0
 
 
 if __name__ == '__main__':

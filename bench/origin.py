@@ -9,6 +9,7 @@ The exit status is 0 where all is as it has to be.
 """
 
 import hashlib
+import json
 import os
 import re
 import shutil
@@ -17,6 +18,11 @@ import subprocess
 import sys
 import threading
 import time
+
+sys.dont_write_bytecode = True
+
+from messages import ACTIVATE, CREATE, Picky, objects_of
+from nine_keys import BATCHES, CASE, NINE, plan as plan_of, report
 
 KEY = '''[[key]]
 name = "{}"
@@ -35,6 +41,9 @@ COUNTED = ['keys{verdict="finished"}', 'keys{verdict="working"}', 'keys{verdict=
            'refused', 'steps', 'run_in_progress']
 TIME = 'last_finish_timestamp_seconds'
 UNWRITTEN = '{}: {}; the metrics are not written, and nothing else changes; {}\n'
+# The questions about the nine keys on a new server: a Locate of each, and its steps. The fewest messages about up to eight
+# keys are as many as the questions about one key: to destroy it takes five.
+EXCHANGES = {'1': len(NINE) + sum(key.steps() for key in NINE), '8': 5}
 # A whole Response Message with nothing in it.
 NO_REPLY = bytes.fromhex('42007b0100000000')
 BELIEVE = '--believe: use {}, if {} agrees with what it says about each key\n'
@@ -562,7 +571,77 @@ class Origins:
         self.look('not over the plan', (done.returncode, done.stderr), (0, UNWRITTEN.format(
             self.plan, 'this is the plan, the progress or a file next to it', 'name another file')))
 
+    def nine_other_attributes(self, batch):
+        """The attributes of each key are compared, and not of the first alone."""
+        self.begin(plan_of())
+        where = ('--connect', f'127.0.0.1:{self.serve()}', '--batch', batch)
+        self.look(f'nine keys, {batch} a message', self.run(*where), (0, report(f'AllFinished {EXCHANGES[batch]}'), ''))
+        for place, changed, why in (
+                (1, {'length': 128}, 'the length is 128, and was 256'),
+                (8, {'length': 192}, 'the length is 192, and was 256'),
+                (8, {'usage': ('encrypt',)}, 'the usage is encrypt, and was encrypt decrypt'),
+                (8, {'algorithm': 'HMAC-SHA256'}, 'the algorithm is HMAC-SHA256, and was AES')):
+            key = NINE[place].but(**changed)
+            self.write('other.toml', plan_of([*NINE[:place], key, *NINE[place + 1:]]))
+            told = (f'{self.progress} was saved for other attributes: key "{key.name}": {why}; '
+                    'the attributes of an object do not change: restore them in the plan, or give the key another name\n')
+            self.look(f'key {place + 1} of nine with another {next(iter(changed))}',
+                      self.run(*where, plan=os.path.join(self.folder, 'other.toml')),
+                      (1, 'progress refused: 3 OtherPlan\n', told))
+
+    def nine_other_port(self, batch):
+        """A file that knows one identifier and no step is of its server alone; so is a file with keys that are destroyed."""
+        self.begin(plan_of())
+        first, second = (f'127.0.0.1:{self.serve()}' for _ in range(2))
+        self.run('--connect', first, '--batch', batch, '--limit', '1')
+        nothing = self.read('progress')
+        line = f'{CASE.name} active - 0 '
+        known = nothing.replace(f'{line}-\n', f'{line}31\n')
+        self.look('a file that knows nothing of the last key, and one that knows its identifier alone',
+                  (nothing.count(f'{line}-\n'), known.count('31\n')), (1, 1))
+        self.write('progress', known)
+        self.look('the last key has an identifier and no step: its file at another port',
+                  self.run('--connect', second, '--batch', batch), self.refused(first, second))
+        self.look('nothing is made there', objects_of(int(second.split(':')[1]), [CASE.name]), {CASE.name: []})
+        self.write('progress', nothing)
+        self.run('--connect', first, '--batch', batch)
+        last = CASE.but(name='destroyed-last', target='discarded')
+        for keys, destroyed in ((NINE, NINE[3]), ([*NINE[:3], last], last)):
+            self.begin(plan_of(keys))
+            self.run('--connect', first, '--batch', batch)
+            self.look(f'key {keys.index(destroyed) + 1} of {len(keys)} is known to be destroyed: its file at another port',
+                      self.run('--connect', second, '--batch', batch), self.refused(first, second, (
+                          f'{destroyed.name} is known to be destroyed: with --afresh a server that forgets destroyed objects '
+                          'would create it again\n')))
+
+    def nine_refused(self, batch):
+        """What a run counts of its keys is what the server was asked, refused and holds: in JSON, in metrics and in words."""
+        for limit in {'1': (9, 15, 60), '8': (1, 2, 3, 4, 12)}[batch]:
+            self.begin(plan_of())
+            port = self.serve()
+            picky = Picky(port, refuses)
+            with Peer(lambda number, request: picky.reply_to(request)) as peer:
+                path = os.path.join(self.folder, 'run.prom')
+                status, printed, told = self.run('--connect', peer.address, '--batch', batch, '--limit', str(limit),
+                                                 '--json', '--metrics', path)
+            objects = objects_of(port, [key.name for key in NINE])
+            done = [key.done(objects[key.name]) for key in NINE]
+            refused, finished = sum(picky.refused.values()), sum(map(is_finished, NINE, done))
+            what = f'a server that refuses some of nine keys, {batch} a message, {limit} messages'
+            self.look(f'{what}: in JSON', (status, documents(printed)), (1, [*map(document, NINE, done, objects.values()), {
+                'end': 'Limit', 'finished': finished, 'of': 9, 'exchanges': picky.messages, 'lost': 0, 'refused': refused,
+                'unreadable': 0, 'steps': sum(done), 'milliseconds': 'T', 'cause': 'refused' if refused else None}]))
+            self.look(f'{what}: in metrics', self.measured(), (
+                [finished, 9 - finished, 0, limit, 0, 0, refused, sum(done), 0], None))
+            wanted = [f'{name}: Create refused {count} time{"" if count == 1 else "s"}, last reason 12 (Permission Denied)'
+                      for (operation, name), count in sorted(picky.refused.items(), key=place_of) if operation == CREATE]
+            self.look(f'{what}: in words', [line for line in told.splitlines() if ': Create refused' in line], wanted)
+
     def all(self):
+        for batch in BATCHES:
+            self.nine_other_attributes(batch)
+            self.nine_other_port(batch)
+            self.nine_refused(batch)
         for case in (self.rehearsal, self.other_port, self.other_attributes, self.destroyed, self.taken_further,
                      self.refreshed, self.refreshed_gone, self.measured_look, self.unknown_origin, self.refused_progress, self.killed, self.socket_links, self.nothing_known,
                      self.listings, self.no_room, self.measured_runs, self.measured_trouble, self.measured_kill,
@@ -573,6 +652,36 @@ class Origins:
             server.wait()
         print(f'{self.wrong} wrong')
         return 1 if self.wrong else 0
+
+
+def refuses(operation, name, time):
+    """What a server refuses of the nine keys: the Create of three keys for ever, and the Activate of another one twice."""
+    if operation == CREATE and name in (NINE[1].name, NINE[4].name, CASE.name):
+        return 12
+    return 7 if operation == ACTIVATE and name == NINE[7].name and time <= 2 else None
+
+
+def place_of(refused):
+    """The place in the plan of a key that was refused."""
+    (_, name), _ = refused
+    return [key.name for key in NINE].index(name)
+
+
+def is_finished(key, done):
+    return done == key.steps()
+
+
+def document(key, done, objects):
+    """What a run prints of a key in JSON, of which all that is done is done by this run."""
+    return {'key': key.name, 'target': key.target, 'done': done, 'of': key.steps(),
+            'verdict': 'finished' if is_finished(key, done) else 'working',
+            'identifier': objects[0][0].decode() if objects else None, 'steps': done}
+
+
+def documents(printed):
+    """The documents that are printed, a line each; `milliseconds` as T."""
+    found = [json.loads(line) for line in printed.splitlines()]
+    return [one | {'milliseconds': 'T'} if 'milliseconds' in one else one for one in found]
 
 
 class Peer:

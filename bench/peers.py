@@ -9,14 +9,21 @@ is 0 where all is as it has to be.
 """
 
 import contextlib
+import json
 import os
 import re
 import shutil
 import socket
+import struct
 import subprocess
 import sys
 import threading
 import time
+
+sys.dont_write_bytecode = True
+
+from messages import CREATE, LOCATE, questions_in
+from nine_keys import BATCHES, NINE, plan as plan_of, report
 
 EXAMPLE = os.path.join(os.path.dirname(os.path.realpath(__file__)), '..', 'examples', 'plan.toml')
 PLAN = '''[[key]]
@@ -150,6 +157,92 @@ class Holding:
             self.is_let_go.wait()
 
 
+class Listed:
+    """A peer whose behaviour is a list: what it does with each message in turn, and the last one for ever. Replies are those
+    of the server at this port. The connection ends after a message of which the behaviour does not say that it goes on."""
+
+    def __init__(self, port, *behaviours):
+        self.port, self.behaviours, self.messages = port, behaviours, []
+
+    def __call__(self, peer):
+        with peer:
+            while request := message(peer):
+                behaviour = self.behaviours[min(len(self.messages), len(self.behaviours) - 1)]
+                self.messages.append(request)
+                if not behaviour(self, peer, request):
+                    return
+
+    def reply_to(self, request):
+        with socket.create_connection(('127.0.0.1', self.port)) as server:
+            server.sendall(request)
+            return message(server)
+
+
+def answered(listed, peer, request):
+    peer.sendall(listed.reply_to(request))
+    return True
+
+
+def closed(listed, peer, request):
+    """The message has no effect, and the connection ends."""
+    return False
+
+
+def left_silent(listed, peer, request):
+    silent(peer)
+
+
+def reset(listed, peer, request):
+    """The message has no effect, and the connection ends with a failure."""
+    peer.setsockopt(socket.SOL_SOCKET, socket.SO_LINGER, struct.pack('ii', 1, 0))
+
+
+def dripped(listed, peer, request):
+    """Bytes of a reply come all the time, and not its end. So the time limit ends between two reads, which both succeed."""
+    peer.setsockopt(socket.IPPROTO_TCP, socket.TCP_NODELAY, 1)
+    for byte in bytes.fromhex('42007b0100001000') + bytes(0x1000):
+        peer.send(bytes([byte]))
+        time.sleep(0.002)
+
+
+def cut(listed, peer, request):
+    """The message takes effect, and half of its reply comes."""
+    reply = listed.reply_to(request)
+    peer.sendall(reply[:len(reply) // 2])
+
+
+def answered_in_http(listed, peer, request):
+    peer.sendall(b'HTTP/1.1 400 Bad Request\r\n\r\n')
+
+
+def answered_in_version_1_0(listed, peer, request):
+    """The message takes effect, and the reply is of another version than the request."""
+    reply = listed.reply_to(request)
+    place = reply.index(bytes.fromhex('42006a0200000004'))
+    peer.sendall(reply[:place + 11] + bytes([1]) + reply[place + 12:place + 27] + bytes([0]) + reply[place + 28:])
+    return True
+
+
+def answered_late(listed, peer, request):
+    """The message takes effect, and the reply comes once the time limit of `SHORT` is over."""
+    reply = listed.reply_to(request)
+    time.sleep(4)
+    peer.sendall(reply)
+    return True
+
+
+def in_words(behaviour):
+    return behaviour.__name__.replace('_', ' ')
+
+
+# A time limit that a busy machine keeps, and that is waited for.
+SHORT = ('--timeout', '3')
+CLOSED = 'the connection was closed before a reply (if there is a tunnel, see its log)'
+CUT = 'the connection was closed within a reply'
+IN_HTTP = 'the server did not reply in KMIP: it answers in HTTP'
+IN_VERSION_1_0 = 'an unreadable reply (Version: KMIP 1.0)'
+
+
 def listening(behaviour):
     """A port whose connections each behave so."""
     listener = socket.socket()
@@ -193,7 +286,7 @@ class Peers:
     def __init__(self, program, folder):
         self.program, self.folder, self.wrong = program, folder, 0
         self.progress = os.path.join(folder, 'progress')
-        self.plan = os.path.join(folder, 'plan.toml')
+        self.plan, self.nine = os.path.join(folder, 'plan.toml'), os.path.join(folder, 'nine.toml')
 
     def words(self, where, *more, plan=None):
         return [self.program, 'run', '--plan', plan or self.plan, '--progress', self.progress, *where,
@@ -519,12 +612,81 @@ class Peers:
         server.kill()
         server.wait()
 
+    def told_of(self, port):
+        """The lines that the last run told about the peer at a port, without times."""
+        told = self.told.replace(f'127.0.0.1:{port}', 'PEER')
+        return re.sub(r'again after \d+ s$', 'again after T s', told, flags=re.M).splitlines()
+
+    def bad_then_silent(self):
+        """A peer that fails early and is silent then: the next exchange has its time limit all the same, and its own reason."""
+        for first, reason, then in ((closed, CLOSED, left_silent), (reset, CLOSED, left_silent), (cut, CUT, left_silent),
+                                    (answered_in_http, IN_HTTP, left_silent), (reset, CLOSED, dripped),
+                                    (answered_in_version_1_0, IN_VERSION_1_0, left_silent)):
+            server, behind = self.serve('--connections', '1000000')
+            self.forget()
+            port = listening(Listed(behind, first, then))
+            status, printed, took = self.run(('--connect', f'127.0.0.1:{port}'), '--timeout', '1', '--limit', '2')
+            self.look(f'a peer whose first message is {in_words(first)}, and each further one is {in_words(then)}', (status == 1, status),
+                      (printed == WORKING.replace('Limit 3', 'Limit 2'), printed), (1 <= took, took), soon(took),
+                      (self.told_of(port) == [f'no reply from PEER: {reason}; trying again',
+                                              'no reply from PEER: timed out after 1 s', 'no reply in 2 exchanges'], self.told))
+            server.kill()
+            server.wait()
+
+    def good_then_silent(self, batch):
+        """A server that answers the first message about nine keys, and is silent then: what it said of a key is told, and of the
+        keys of the second message that it was not answered."""
+        server, behind = self.serve('--connections', '1000000')
+        self.forget()
+        listed = Listed(behind, answered, left_silent)
+        port = listening(listed)
+        status, printed, took = self.run(('--connect', f'127.0.0.1:{port}'), '--timeout', '1', '--limit', '2', '--batch', batch,
+                                         plan=self.nine)
+        words = {LOCATE: 'Locate', CREATE: 'Create'}
+        last = {identity[1:].decode(): f'{words[operation]} not answered 1 time' for operation, identity
+                in questions_in(listed.messages[-1])}
+        located = {identity[1:].decode(): 'last reply to Locate: found none' for _, identity in questions_in(listed.messages[0])}
+        wanted = [f'{key.name}: {(located | last).get(key.name, "not requested yet")}' for key in NINE]
+        self.look(f'a server that answers once and is silent then, {batch} keys a message', (status == 1, status),
+                  (printed == report('Limit 2', done=[0] * 9), printed), soon(took), (len(last) == int(batch), last),
+                  (self.told_of(port) == ['no reply from PEER: timed out after 1 s', *wanted], self.told))
+        server.kill()
+        server.wait()
+
+    def bad_then_good(self, batch):
+        """A peer that is bad at one message, the first or a later one, and good before and after it: all is carried out, in
+        one exchange more, or in the few that find out what the message did; and each object is made once."""
+        for bad, reason, counted in ((closed, CLOSED, 'lost'), (cut, CUT, 'lost'), (answered_in_http, IN_HTTP, 'lost'),
+                                     (answered_in_version_1_0, IN_VERSION_1_0, 'unreadable'),
+                                     (answered_late, 'timed out after 3 s', 'lost')):
+            # A late reply takes seconds: it is tried at one message.
+            for before in [int(batch) // 4] if bad == answered_late else [0, 2]:
+                server, behind = self.serve('--connections', '1000000')
+                self.forget()
+                listed = Listed(behind, *[answered] * before, bad, answered)
+                port = listening(listed)
+                status, printed, _ = self.run(('--connect', f'127.0.0.1:{port}'), '--batch', batch, '--json',
+                                              *(SHORT if bad == answered_late else PATIENT), plan=self.nine)
+                end = json.loads(printed.splitlines()[-1])
+                counts = [end[name] for name in ('end', 'finished', 'exchanges', 'refused', 'steps', 'cause', counted)]
+                wanted = ['AllFinished', 9, len(listed.messages), 0, sum(key.steps() for key in NINE), None, 1]
+                self.look(f'a server whose message {before + 1} is {in_words(bad)}, {batch} keys a message',
+                          (status == 0, status), (counts == wanted, counts), (end['lost'] + end['unreadable'] == 1, end),
+                          (self.told_of(port) == [f'no reply from PEER: {reason}; trying again',
+                                                  'PEER answers again after T s'], self.told))
+                server.kill()
+                server.wait()
+
     def no_client(self):
         words = [self.program, 'serve', '--port', '0', '--connections', '0']
         status, printed, _, _ = self.ended(words)
         said, _, port = printed.partition(' ')
         is_port = port[-1:] == '\n' and port[:-1].isdecimal() and 0 < int(port) < 65536
         self.look('a server of no connections', (status == 0, status), (said == 'listening' and is_port, printed))
+        # The number of connections is one of four bytes.
+        status, printed, _, _ = self.ended([*words[:-1], str(2 ** 32)])
+        self.look('a server of more connections than it may have', (status == 2, status),
+                  (printed.startswith(f"error: invalid value '{2 ** 32}' for '--connections <N>'"), printed))
 
     def taken_port(self):
         with socket.socket() as taken:
@@ -576,7 +738,13 @@ def main():
     peers = Peers(program, folder)
     with open(peers.plan, 'w') as plan:
         plan.write(PLAN)
+    with open(peers.nine, 'w') as plan:
+        plan.write(plan_of())
     peers.bad_peers()
+    peers.bad_then_silent()
+    for batch in BATCHES:
+        peers.good_then_silent(batch)
+        peers.bad_then_good(batch)
     peers.closing_peer()
     peers.no_peer()
     peers.full_socket()

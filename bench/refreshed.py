@@ -20,16 +20,10 @@ import subprocess
 import sys
 import threading
 
-from troubles import (BYTES, DATE, ENUMERATION, INTEGER, STRUCTURE, TEXT, item, items_in, message, number)
+sys.dont_write_bytecode = True
 
-REQUEST, REQUEST_HEADER, VERSION, MAJOR, MINOR = 0x420078, 0x420077, 0x420069, 0x42006a, 0x42006b
-BATCH_COUNT, BATCH_ITEM, OPERATION, ITEM_ID, PAYLOAD = 0x42000d, 0x42000f, 0x42005c, 0x420093, 0x420079
-RESPONSE_PAYLOAD, STATUS, UNIQUE_IDENTIFIER, ATTRIBUTES = 0x42007c, 0x42007f, 0x420094, 0x420125
-NAME, NAME_VALUE, NAME_TYPE, STORAGE_MASK, STATE = 0x420053, 0x420055, 0x420054, 0x42008e, 0x42008d
-LOCATE, GET_ATTRIBUTES = 8, 11
-# On-line and destroyed objects.
-EVERY_OBJECT = 1 | 4
-PRE_ACTIVE, ACTIVE, DEACTIVATED, DESTROYED = 1, 2, 3, 5
+from messages import ACTIVE, DEACTIVATED, DESTROYED, PRE_ACTIVE, message, objects_of
+
 TARGETS = {'created': PRE_ACTIVE, 'active': ACTIVE, 'revoked': DEACTIVATED, 'destroyed': DESTROYED, 'discarded': DESTROYED}
 CHAINS = {'created': [PRE_ACTIVE], 'active': [PRE_ACTIVE, ACTIVE], 'revoked': [PRE_ACTIVE, ACTIVE, DEACTIVATED],
           'destroyed': [PRE_ACTIVE, ACTIVE, DEACTIVATED, DESTROYED], 'discarded': [PRE_ACTIVE, DESTROYED]}
@@ -64,32 +58,6 @@ class Behind:
                     peer.sendall(message(server))
         except OSError:
             pass
-
-
-def asked(connection, operation, payload):
-    """The payload of the reply to a request, as its items; none if it is refused."""
-    header = item(VERSION, STRUCTURE, number(MAJOR, INTEGER, 2) + number(MINOR, INTEGER, 1)) + number(BATCH_COUNT, INTEGER, 1)
-    batch = number(OPERATION, ENUMERATION, operation) + item(PAYLOAD, STRUCTURE, payload)
-    connection.sendall(item(REQUEST, STRUCTURE, item(REQUEST_HEADER, STRUCTURE, header) + item(BATCH_ITEM, STRUCTURE, batch)))
-    [(_, parts)] = items_in(message(connection))
-    [reply] = [dict(value) for tag, value in parts if tag == BATCH_ITEM]
-    return reply.get(RESPONSE_PAYLOAD) if int.from_bytes(reply[STATUS][:4], 'big') == 0 else None
-
-
-def objects_of(port, names):
-    """Of each name, the states of the objects that have it, with their identifiers, by the server itself."""
-    found = {}
-    with socket.create_connection(('127.0.0.1', port)) as connection:
-        for name in names:
-            value = item(NAME_VALUE, TEXT, name.encode()) + number(NAME_TYPE, ENUMERATION, 1)
-            sought = item(ATTRIBUTES, STRUCTURE, item(NAME, STRUCTURE, value))
-            reply = asked(connection, LOCATE, number(STORAGE_MASK, INTEGER, EVERY_OBJECT) + sought) or []
-            found[name] = []
-            for uid in [value for tag, value in reply if tag == UNIQUE_IDENTIFIER]:
-                told = asked(connection, GET_ATTRIBUTES, item(UNIQUE_IDENTIFIER, TEXT, uid)) or []
-                attributes = dict(next((value for tag, value in told if tag == ATTRIBUTES), []))
-                found[name].append((uid, int.from_bytes(attributes.get(STATE, b'')[:4], 'big')))
-    return found
 
 
 class Refreshed:

@@ -22,11 +22,10 @@ import sys
 import threading
 import time
 
-CREATE, LOCATE = 1, 8
-RESPONSE, RESPONSE_HEADER, VERSION, MAJOR, MINOR = 0x42007b, 0x42007a, 0x420069, 0x42006a, 0x42006b
-TIME_STAMP, BATCH_COUNT, BATCH_ITEM, OPERATION, ITEM_ID = 0x420092, 0x42000d, 0x42000f, 0x42005c, 0x420093
-STATUS, REASON, PAYLOAD, UNIQUE_IDENTIFIER = 0x42007f, 0x42007e, 0x42007c, 0x420094
-STRUCTURE, INTEGER, ENUMERATION, TEXT, BYTES, DATE = 1, 2, 5, 7, 8, 9
+sys.dont_write_bytecode = True
+
+from messages import ACTIVATE, CREATE, DESTROY, Picky, located, message, objects_of, questions_in, refusal, reply
+from nine_keys import BATCHES, CASE, NINE, Key
 
 # What takes longer than so many seconds never ends, or is not given up. A busy machine takes seconds to start a
 # program, or to bring a file to the disk.
@@ -43,62 +42,6 @@ NO_KMIP = 'the server did not reply in KMIP'
 def key(name, length=256, target='active'):
     return (f'[[key]]\nname = "{name}"\nalgorithm = "AES"\nlength = {length}\n'
             f'usage = ["encrypt", "decrypt"]\ntarget = "{target}"\n\n')
-
-
-def item(tag, kind, value):
-    """An item of TTLV."""
-    return tag.to_bytes(3, 'big') + bytes([kind]) + len(value).to_bytes(4, 'big') + value + bytes(-len(value) % 8)
-
-
-def number(tag, kind, value):
-    return item(tag, kind, value.to_bytes(4, 'big'))
-
-
-def items_in(data):
-    """The items that some bytes are, each with its tag and its value: items too where it is a Structure."""
-    found = []
-    while data:
-        size = int.from_bytes(data[4:8], 'big')
-        value = data[8:8 + size]
-        found.append((int.from_bytes(data[:3], 'big'), items_in(value) if data[3] == STRUCTURE else value))
-        data = data[8 + size + -size % 8:]
-    return found
-
-
-def questions_in(request):
-    """The operation and the id of each question of a request."""
-    [(_, parts)] = items_in(request)
-    batch = [dict(value) for tag, value in parts if tag == BATCH_ITEM]
-    return [(int.from_bytes(part[OPERATION], 'big'), part[ITEM_ID]) for part in batch]
-
-
-def reply(items, version=(2, 1)):
-    """The bytes of a reply with these Batch Items."""
-    numbers = number(MAJOR, INTEGER, version[0]) + number(MINOR, INTEGER, version[1])
-    header = item(VERSION, STRUCTURE, numbers) + item(TIME_STAMP, DATE, bytes(8)) + number(BATCH_COUNT, INTEGER, len(items))
-    return item(RESPONSE, STRUCTURE, item(RESPONSE_HEADER, STRUCTURE, header) + b''.join(items))
-
-
-def refusal(operation, identity, reason):
-    parts = number(OPERATION, ENUMERATION, operation) + item(ITEM_ID, BYTES, identity)
-    parts += number(STATUS, ENUMERATION, 1)
-    if reason is not None:
-        parts += number(REASON, ENUMERATION, reason)
-    return item(BATCH_ITEM, STRUCTURE, parts)
-
-
-def located(identity, *uids):
-    parts = number(OPERATION, ENUMERATION, LOCATE) + item(ITEM_ID, BYTES, identity) + number(STATUS, ENUMERATION, 0)
-    found = b''.join(item(UNIQUE_IDENTIFIER, TEXT, uid.encode()) for uid in uids)
-    return item(BATCH_ITEM, STRUCTURE, parts + item(PAYLOAD, STRUCTURE, found))
-
-
-def message(stream):
-    """The next message: the last four bytes of its head say how long the rest is."""
-    head = stream.recv(8, socket.MSG_WAITALL)
-    if len(head) < 8:
-        raise OSError('the stream has ended')
-    return head + stream.recv(int.from_bytes(head[4:], 'big'), socket.MSG_WAITALL)
 
 
 def silent(peer):
@@ -157,6 +100,15 @@ def having_two(operation, identity):
 
 def stranger(operation, identity):
     return located(b'\x08other')
+
+
+def picking(picky):
+    """What a peer does that refuses some questions, and has the others answered."""
+    def behaviour(peer):
+        while True:
+            peer.sendall(picky.reply_to(message(peer)))
+
+    return behaviour
 
 
 def handing_on(port):
@@ -220,6 +172,17 @@ def until(condition):
     end = time.monotonic() + EVER
     while not condition() and time.monotonic() < end:
         time.sleep(0.01)
+
+
+def within(value, least, most=LONGEST):
+    """A fact: that this number is within these bounds."""
+    return value, min(max(value, least), most)
+
+
+def number_in(pattern, text):
+    """The number that a pattern finds in a text; -1 if it finds none."""
+    found = re.search(pattern, text, re.M)
+    return float(found[1]) if found else -1
 
 
 def without_times(line):
@@ -354,6 +317,15 @@ class Troubles:
                   [f'{refused}; trying again', 'T Locate k1: no reply, the connection was refused (T ms)',
                    'T Locate k1: no reply, the connection was refused (T ms)', 'no reply in 2 exchanges'],
                   'stop Limit 2', '--limit', '2', '--wait', '0', '--verbose')
+        self.start()
+        start = time.monotonic()
+        self.case('it, with a first wait of 500 ms', port, [f'{refused}; trying again', 'no reply in 3 exchanges'],
+                  'stop Limit 3', '--limit', '3', '--wait', '500')
+        # One wait of 500 ms and one that is twice as long.
+        self.look('it waits for 1.5 s in all', within(time.monotonic() - start, 1.4))
+        self.start()
+        self.case('it, asked more often than by default', port, [f'{refused}; trying again', 'no reply in 10001 exchanges'],
+                  'stop Limit 10001', '--limit', '10001', '--wait', '0')
         listener.close()
         self.start()
         missing = 'No such file or directory (os error 2)'
@@ -364,10 +336,10 @@ class Troubles:
     def still_silent(self):
         """What is told of a server that is silent for long: within an exchange, and from one to the next."""
         listener, refusing = bound()
-        rows = [('a peer that hangs for long', peer_with(silent), ('--timeout', '40', '--limit', '1'), 'stop Limit 1',
+        rows = [('a peer that hangs for long', peer_with(silent), ('--timeout', '40', '--limit', '1'), 300, 'stop Limit 1',
                  ['still no reply from PEER (waiting for T s); giving up in T s',
                   'no reply from PEER: timed out after 40 s', 'no reply in 1 exchange']),
-                ('a port where nobody listens for long', refusing, ('--give-up', '36'), 'stop Limit',
+                ('a port where nobody listens for long', refusing, ('--give-up', '36'), 36, 'stop Limit',
                  ['no reply from PEER: the connection was refused; trying again',
                   'still no reply from PEER (connection refused N times in T s); giving up in T s',
                   'no reply in N exchanges', 'gave up: nothing new for 36 s'])]
@@ -376,19 +348,22 @@ class Troubles:
                    'no reply from PEER: timed out after 33 s; trying again', 'gave up: no answer came for 10 s'])]
         self.start()
         running = []
-        for what, port, words, stop, told in rows:
+        for what, port, words, give_up, stop, told in rows:
             command = [self.program, 'run', '--plan', 'plan.toml', '--progress', what.replace(' ', '-')]
-            running.append((what, port, [*command, *words], stop, told))
+            running.append((what, port, [*command, *words], give_up, stop, told))
         for what, port, words, told in looks:
-            running.append((what, port, [self.program, 'look', '--plan', 'plan.toml', *words], 'finished 0 of 1', told))
+            running.append((what, port, [self.program, 'look', '--plan', 'plan.toml', *words], 10, 'finished 0 of 1', told))
         started = [subprocess.Popen([*words, '--connect', f'127.0.0.1:{port}'], cwd=self.folder, text=True,
                                     stdin=subprocess.DEVNULL, stdout=subprocess.PIPE, stderr=subprocess.PIPE)
-                   for _, port, words, _, _ in running]
-        for (what, port, _, stop, told), one in zip(running, started):
+                   for _, port, words, *_ in running]
+        for (what, port, _, give_up, stop, told), one in zip(running, started):
             printed, said = one.communicate(timeout=EVER)
             lines = [without_times(line.replace(f'127.0.0.1:{port}', 'PEER')) for line in said.splitlines()]
             lines = [re.sub(r'in \d+ exchanges', 'in N exchanges', line) for line in lines]
-            self.look(what, (lines, told), (printed.splitlines()[-1].startswith(stop), True), (one.returncode, 1))
+            # It is told after 30 s of silence, and when the run is given up: so long after nothing new became known.
+            waited, left = number_in(r'(?:waiting for|times in) (\d+) s', said), number_in(r'giving up in (\d+) s', said)
+            self.look(what, (lines, told), (printed.splitlines()[-1].startswith(stop), True), (one.returncode, 1),
+                      within(waited, 30, 40), within(left, max(give_up - waited - 2, 0), max(give_up - waited, 0)))
         listener.close()
 
     def gives_up(self):
@@ -421,18 +396,30 @@ class Troubles:
 
         status, printed, said = self.ended(('--connect', f'127.0.0.1:{port}'), first='no reply from', then=listen)
         lines = [without_times(line.replace(f'127.0.0.1:{port}', 'PEER')) for line in said.splitlines()]
+        # By the waits of a run the last refusal is less than a second before the reply: the time is since the first one.
         self.look('a server that comes late', (lines, [refused, 'PEER answers again after T s']), (status, 0),
-                  (printed.splitlines()[1:2], ['finished 1 of 1']))
+                  (printed.splitlines()[1:2], ['finished 1 of 1']), within(number_in(r'after (\d+) s$', said), 1))
 
     def is_slow(self):
-        """A run that gets on all the time is not given up, however long it takes: longer than it may not get on."""
+        """A run that gets on all the time ends well, however long it takes: longer than `--give-up`, and than the time limit of
+        an exchange. Its times are those of the whole run: in each line, in JSON and in the metrics."""
         self.start(*(key(f'k{number}') for number in range(1, 6)))
         port = peer_with(handing_on_slowly(self.serve(), 0.4))
         start = time.monotonic()
-        status, printed, said = self.ended(('--connect', f'127.0.0.1:{port}'), '--give-up', '5')
-        self.look('a slow server', (status, 0), (said, ''),
-                  (printed.splitlines()[-2:], ['finished 5 of 5', 'stop AllFinished 15']),
-                  (time.monotonic() - start > 5, True))
+        status, printed, said = self.ended(('--connect', f'127.0.0.1:{port}'), '--give-up', '5', '--timeout', '4', '--verbose',
+                                           '--json', '--metrics', 'run.prom')
+        took = time.monotonic() - start
+        end = json.loads(printed.splitlines()[-1])
+        counts = [end[name] for name in ('end', 'finished', 'exchanges', 'lost')]
+        lines = [re.fullmatch(r'(\d+\.\d{3}) \w+ k\d: .* \((\d+) ms\)', line) for line in said.splitlines()]
+        self.look('a slow server', (status, 0), (counts, ['AllFinished', 5, 15, 0]), (took > 5, True),
+                  (len(lines), 15), (all(lines), True))
+        times = [float(line[1]) for line in lines if line]
+        self.look('each line of an exchange has the time since the start of the run', (times, sorted(times)),
+                  *(within(seconds, 0.4 * number, took) for number, seconds in enumerate(times, 1)))
+        self.look('and how long the exchange took', *(within(int(line[2]), 400, 4000) for line in lines if line))
+        self.look('in JSON and in the metrics is how long the run took', within(end['milliseconds'], 6000, 1000 * took),
+                  within(number_in(r'^kmipctl_run_seconds\S* (\S+)$', self.text('run.prom')), 6, took))
 
     def other_reasons(self):
         """A peer that refuses connections, then speaks TLS: each reason is told."""
@@ -476,6 +463,53 @@ class Troubles:
         self.case('answers to what was not asked', peer_with(answering(stranger)), ['k1: Locate not answered 2 times'],
                   'stop Limit 2', '--limit', '2', '--wait', '0')
 
+    def told(self, port, *more):
+        """The lines that a run against a port tells, the last one that it prints, and its status."""
+        status, printed, said = self.ended(('--connect', f'127.0.0.1:{port}'), '--wait', '0', *more)
+        return said.splitlines(), printed.splitlines()[-1], status
+
+    def beside_finished(self, batch):
+        """Nothing is told of a key that was finished before, also where the run asked nothing about it."""
+        for keys in [Key('k1', 'active'), Key('k2', 'active'), CASE], [*NINE[:7], Key('k8', 'active'), CASE]:
+            port, first = self.serve(), [key.text() for key in keys[:-2]]
+            self.start(*first)
+            self.ended(('--connect', f'127.0.0.1:{port}'))
+            self.put('plan.toml', ''.join([*first, *(key.text() for key in keys[-2:])]))
+            last = 'not requested yet' if batch == '1' else 'last reply to Locate: found none'
+            self.look(f'a run of one exchange, {len(first)} of {len(keys)} keys finished before, {batch} keys a message',
+                      (self.told(port, '--batch', batch, '--limit', '1'), (
+                          [f'{keys[-2].name}: last reply to Locate: found none', f'{CASE.name}: {last}'], 'stop Limit 1', 1)))
+
+    def refused_destroys(self, batch):
+        """A Destroy that is refused is told with how often, and a refusal that the server contradicts later is not told."""
+        limit = {'1': '60', '8': '12'}[batch]
+        refuses = {'is refused': lambda operation, name, time: 12 if operation == DESTROY else None,
+                   'is refused, and found to be done': lambda operation, name, time: 12 if operation == DESTROY or (
+                       operation == ACTIVATE and name == CASE.name) else None}
+        for what, rule in refuses.items():
+            picky = Picky(self.serve(), rule, done=() if what == 'is refused' else (DESTROY,))
+            self.start(*map(Key.text, NINE))
+            told = self.told(peer_with(picking(picky)), '--batch', batch, '--limit', limit)
+            often = {(operation, name): count for (operation, name), count in picky.refused.items()
+                     if operation not in picky.done}
+            words = {ACTIVATE: 'Activate', DESTROY: 'Destroy'}
+            lines = [f'{key.name}: {words[operation]} refused {count} times, last reason 12 (Permission Denied)'
+                     for key in NINE for (operation, name), count in often.items() if name == key.name]
+            self.look(f'a Destroy that {what}, {batch} keys a message', (told, (lines, f'stop Limit {limit}', 1)),
+                      (min(often.values()) > 1, True), (len(lines), 1 if picky.done else 2))
+
+    def found_after_refusal(self, batch):
+        """A Create that was refused is not told once a Locate finds the object: what the server says last is."""
+        rule = lambda operation, name, time: 100 if operation == CREATE and name == CASE.name else None
+        port = self.serve()
+        self.start(Key('k1', 'active').text(), CASE.text())
+        # Of both keys a Locate and a Create; then an Activate of the first, and a Locate of the second one.
+        limit = {'1': '6', '8': '3'}[batch]
+        told = self.told(peer_with(picking(Picky(port, rule, done=(CREATE,)))), '--batch', batch, '--limit', limit)
+        [(uid, _)] = objects_of(port, [CASE.name])[CASE.name]
+        self.look(f'a Create that is refused, and found to be done, {batch} keys a message',
+                  (told, ([f'{CASE.name}: last reply to Locate: found {uid.decode()}'], f'stop Limit {limit}', 1)))
+
     def conflicts(self):
         port = self.serve()
         first = [key('disk-array-1'), key('disk-array-2', 128), key('disk-array-3', target='destroyed')]
@@ -501,7 +535,11 @@ class Troubles:
                   ['T Locate k1: found none (T ms)', 'T Create k1: created as 1 (T ms)',
                    'T Activate k1: activated 1 (T ms)'], 'stop AllFinished 3', '--verbose', status=0, where=('--loopback',))
 
-    def at_terminal(self, term, *more, before=(), words=None):
+    def at_terminal(self, term, *more, **how):
+        """What a run writes to a terminal that is called so, without its times."""
+        return re.sub(r', \d+ s\x1b', ', T s\x1b', self.written(term, *more, **how))
+
+    def written(self, term, *more, before=(), words=None):
         """What a run, behind these words, writes to a terminal that is called so, as it comes."""
         environment = {name: value for name, value in os.environ.items() if name != 'TERM'}
         if term is not None:
@@ -521,7 +559,7 @@ class Troubles:
             written += piece
         os.close(master)
         running.wait()
-        return re.sub(r', \d+ s\x1b', ', T s\x1b', written.decode())
+        return written.decode()
 
     def terminals(self):
         """The line of progress: it begins at the start of a line, erases what stands behind it, and no more."""
@@ -562,6 +600,14 @@ class Troubles:
         where = ('--connect', f'127.0.0.1:{port}')
         self.look('the line of progress, of losses', (self.at_terminal('xterm', where, ('--limit', '2')), wanted))
         listener.close()
+
+    def slow_terminal(self):
+        """At a server that takes 0.7 s for each reply."""
+        self.start()
+        slow = ('--connect', f'127.0.0.1:{peer_with(handing_on_slowly(self.serve(), 0.7))}')
+        times = [int(seconds) for seconds in re.findall(r', (\d+) s\x1b', self.written('xterm', slow, ()))]
+        self.look('the line of progress has the time since the start of the run', (len(times), 4),
+                  *(within(seconds, int(0.7 * number)) for number, seconds in enumerate(times)))
 
     def writes(self):
         """The line of progress is written at once each time, so that a kill leaves no half of a sequence."""
@@ -614,9 +660,14 @@ def main():
         troubles.is_slow()
         troubles.other_reasons()
         troubles.refused_keys()
+        for batch in BATCHES:
+            troubles.beside_finished(batch)
+            troubles.refused_destroys(batch)
+            troubles.found_after_refusal(batch)
         troubles.conflicts()
         troubles.many_words()
         troubles.terminals()
+        troubles.slow_terminal()
         troubles.writes()
         troubles.unanswered_looks()
     finally:

@@ -16,6 +16,10 @@ import sys
 import threading
 import time
 
+sys.dont_write_bytecode = True
+
+from messages import RESPONSE_HEADER, TIME_STAMP, items_in
+
 TOP = os.path.join(os.path.dirname(os.path.realpath(__file__)), '..')
 with open(os.path.join(TOP, 'examples', 'answer-life.hex')) as file:
     MESSAGES = [bytes.fromhex(line) for line in file.read().split()]
@@ -76,6 +80,12 @@ def reply(client):
 def asked(client, message):
     client.sendall(message)
     return reply(client)
+
+
+def time_stamp(message):
+    """The seconds of the Time Stamp in the header of a reply."""
+    [(_, parts)] = items_in(message)
+    return int.from_bytes(dict(dict(parts)[RESPONSE_HEADER])[TIME_STAMP], 'big')
 
 
 def is_closed(client):
@@ -249,6 +259,17 @@ class Turns:
         self.look('it ends after 64', status, 0)
         self.look('and has told each exchange in a line', len(told.splitlines()), 64)
 
+    def clocks(self):
+        """The Time Stamp of each reply is the time of `--now`, whichever way clients are served."""
+        for at_once in 1, 2:
+            for more, wanted in ((), 0), (('--now', '5'), 5), (('--now', str(2 ** 63 - 1)), 2 ** 63 - 1):
+                server = Server(self.program, at_once, 1, *more)
+                client = server.client()
+                said = [time_stamp(asked(client, message)) for message in MESSAGES[:2]]
+                self.look(f'the time of replies, {" ".join(more) or "no --now"}, {at_once} at once', said, [wanted] * 2)
+                client.close()
+                server.end()
+
     def end(self):
         print(f'{self.rows} rows, {self.wrong} wrong')
         return 1 if self.wrong else 0
@@ -257,7 +278,7 @@ class Turns:
 def main():
     turns = Turns(os.path.realpath(sys.argv[1]))
     for part in (turns.interleaved, turns.stalling, turns.silent, turns.not_reading, turns.wrong_head, turns.together,
-                 turns.crowded, turns.alone, turns.many):
+                 turns.crowded, turns.alone, turns.many, turns.clocks):
         part()
     return turns.end()
 
