@@ -625,11 +625,11 @@ class Peers:
             server, behind = self.serve('--connections', '1000000')
             self.forget()
             port = listening(Listed(behind, first, then))
-            status, printed, took = self.run(('--connect', f'127.0.0.1:{port}'), '--timeout', '1', '--limit', '2')
+            status, printed, took = self.run(('--connect', f'127.0.0.1:{port}'), *SHORT, '--limit', '2')
             self.look(f'a peer whose first message is {in_words(first)}, and each further one is {in_words(then)}', (status == 1, status),
-                      (printed == WORKING.replace('Limit 3', 'Limit 2'), printed), (1 <= took, took), soon(took),
+                      (printed == WORKING.replace('Limit 3', 'Limit 2'), printed), (3 <= took, took), soon(took),
                       (self.told_of(port) == [f'no reply from PEER: {reason}; trying again',
-                                              'no reply from PEER: timed out after 1 s', 'no reply in 2 exchanges'], self.told))
+                                              'no reply from PEER: timed out after 3 s', 'no reply in 2 exchanges'], self.told))
             server.kill()
             server.wait()
 
@@ -640,7 +640,7 @@ class Peers:
         self.forget()
         listed = Listed(behind, answered, left_silent)
         port = listening(listed)
-        status, printed, took = self.run(('--connect', f'127.0.0.1:{port}'), '--timeout', '1', '--limit', '2', '--batch', batch,
+        status, printed, took = self.run(('--connect', f'127.0.0.1:{port}'), *SHORT, '--limit', '2', '--batch', batch,
                                          plan=self.nine)
         words = {LOCATE: 'Locate', CREATE: 'Create'}
         last = {identity[1:].decode(): f'{words[operation]} not answered 1 time' for operation, identity
@@ -649,7 +649,7 @@ class Peers:
         wanted = [f'{key.name}: {(located | last).get(key.name, "not requested yet")}' for key in NINE]
         self.look(f'a server that answers once and is silent then, {batch} keys a message', (status == 1, status),
                   (printed == report('Limit 2', done=[0] * 9), printed), soon(took), (len(last) == int(batch), last),
-                  (self.told_of(port) == ['no reply from PEER: timed out after 1 s', *wanted], self.told))
+                  (self.told_of(port) == ['no reply from PEER: timed out after 3 s', *wanted], self.told))
         server.kill()
         server.wait()
 
