@@ -26,6 +26,7 @@ mod overheard;
 mod pausing;
 mod probing;
 mod refreshing;
+mod repeating;
 mod running;
 mod saying;
 mod serving;

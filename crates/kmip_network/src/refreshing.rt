@@ -10,6 +10,7 @@ use crate::look_pause::LookPause;
 use crate::look_then_run::LookThenRun;
 use crate::look_watcher::LookWatcher;
 use crate::looking::{MARK_BYTES, new_mark, printed, tell_given_up};
+use crate::repeating::Repeating;
 use crate::running::{first_wait, tell_end};
 use kmip_account::{Account, Findings, Teller, Watch};
 use kmip_choices::{Format, RunOptions};
@@ -159,6 +160,7 @@ pub(crate) fn run_after_look<L: Link + Drop>(
     let mut watch = Watch::new(account, findings, first_wait(options), options.give_up);
     let mut pause = LookPause::new(rt, log, &last, first_wait(options), options.give_up);
     let mut beginning = Agreeing::new(account, refreshing.start, &has_begun);
+    let mut repeating = Repeating::new(rt, options.give_up);
     for _ in 0..u64::MAX {
         mark.set(new_mark(rt)?);
         let (ended, paused, begun) = attempt(
@@ -172,10 +174,11 @@ pub(crate) fn run_after_look<L: Link + Drop>(
         );
         pause = paused;
         beginning = begun;
-        if is_silent(&ended) && pause.again() {
-            continue;
-        }
-        if pause.has_given_up() {
+        if is_silent(&ended) {
+            let goes_on = repeating.goes_on(answered(&ended));
+            if goes_on && pause.again() {
+                continue;
+            }
             tell_given_up(rt, options.give_up);
         }
         return refreshing.end(input, keeper, &mut watch, ended, beginning.into_trouble());
@@ -214,6 +217,19 @@ fn attempt<'b, L: Link, P: Pause, B: Beginning>(
     );
     refreshing.account.log().end_line();
     (ended, refresh.pause, refresh.beginning)
+}
+
+/// The number of keys about which the look got an answer.
+fn answered(ended: &Result<Refreshed<'_>, NoMemory>) -> usize {
+    match ended {
+        Ok(refreshed) => {
+            let looks = refreshed.looks.as_slice().iter();
+            looks
+                .filter(|look| look.agreement != Agreement::Unanswered)
+                .count()
+        }
+        Err(NoMemory) => 0,
+    }
 }
 
 /// Whether some key got no answer because no reply came, so that the server may be asked again.
