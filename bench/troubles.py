@@ -629,19 +629,21 @@ class Troubles:
                                  r'\r2 of 2 steps, 3 exchanges, at most 0 more, T s\33[K', r'\n']))
 
     def unanswered_looks(self):
-        """A run that first looks and gets no answer: the last document says what stood in the way."""
+        """A run that first looks gives up if the look gets no answer, whatever is replied. The last document says what stood
+        in the way."""
         known = 'kmip-progress 2\nk1 active - 1 31\nend 1\n'
-        for what, behaviour, cause in [
-                ('no reply to the look before a run', silent, 'unreachable'),
-                ('a look before a run that is refused', answering(refusing_all), 'refused'),
-                ('a reply to it that cannot be read', answering(stranger), None)]:
+        for what, behaviour, counted, cause in [
+                ('no reply to the look before a run', silent, 'lost', 'unreachable'),
+                ('a look before a run that is refused', answering(refusing_all), 'refused', 'refused'),
+                ('replies to it that answer something else', answering(stranger), None, 'unreachable')]:
             self.start()
             self.put('progress', known)
             where = ('--connect', f'127.0.0.1:{peer_with(behaviour)}', '--refresh', '--timeout', '1', '--give-up', '2')
             status, printed, _ = self.ended(where, '--json')
             last = json.loads(printed.splitlines()[-1])
-            self.look(f'{what}, in JSON', (status, 1), (self.text('progress'), known),
-                      ([last[name] for name in ('end', 'exchanges', 'lost', 'refused', 'cause')], ['Limit', 0, 0, 0, cause]))
+            wanted = {name: last['exchanges'] if name == counted else 0 for name in ('lost', 'refused', 'unreadable')}
+            self.look(f'{what}, in JSON', (status, 1), (self.text('progress'), known), (last['exchanges'] > 0, True),
+                      (last, last | wanted | {'end': 'Limit', 'finished': 0, 'steps': 0, 'cause': cause}))
 
     def end(self):
         for server in self.servers:

@@ -6,8 +6,8 @@
 #     examples/tls/tls.sh PROGRAM
 #
 # It makes a certificate authority and the certificates with openssl, starts the server and the tunnels,
-# runs the plan, shows that a client with a certificate of another authority gets nothing, and ends what
-# it started. All is done in out/tls, over 127.0.0.1. It needs openssl and stunnel; on Debian and Ubuntu
+# runs the plan, shows that a client with a certificate of another authority gets nothing and is told why,
+# and ends what it started. All is done in out/tls, over 127.0.0.1. It needs openssl and stunnel; on Debian and Ubuntu
 # they are the packages openssl and stunnel4.
 set -euo pipefail
 
@@ -117,11 +117,22 @@ start_client client
 "$program" run --plan "$plan" --progress progress --socket client.socket
 
 echo
-echo "A client with a certificate of another authority gets nothing:"
+echo "A client with a certificate of another authority gets nothing, and run, look and probe say why:"
 start_client stranger
-if "$program" run --plan "$plan" --progress stranger.progress --socket stranger.socket --limit 2; then
-    echo "tls.sh: the stranger was let in" >&2
-    exit 1
-fi
+why="no reply from stranger.socket: the connection was closed before a reply (if there is a tunnel, see its log)"
+gets_nothing() {
+    if "$program" "$@" --socket stranger.socket 2> stranger.errors; then
+        echo "tls.sh: the stranger was let in by $1" >&2
+        exit 1
+    fi
+    cat stranger.errors >&2
+    if ! grep -qF "$why" stranger.errors; then
+        echo "tls.sh: $1 does not say: $why" >&2
+        exit 1
+    fi
+}
+gets_nothing run --plan "$plan" --progress stranger.progress --limit 2
+gets_nothing look --plan "$plan" --give-up 2
+gets_nothing probe --name-prefix stranger
 echo
 echo "What the tunnels say of it stands in $work/server.log and $work/stranger.log."
