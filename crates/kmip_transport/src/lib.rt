@@ -17,6 +17,7 @@ mod gathered;
 mod in_memory;
 mod link;
 mod loopback;
+mod open;
 mod receiving;
 mod sending;
 mod serving;

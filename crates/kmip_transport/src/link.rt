@@ -31,8 +31,9 @@ impl<D: Dial + Drop> Link for StreamLink<D> {
         // Once the network has failed 2^64 - 1 times, no stream is open after it.
         ensures at_last { self.old.failures ≡ most_failures → self.new ≡ closed self.old }
     {
-        match self.send(request) {
-            Ok(()) => self.receive(alloc),
+        let end = self.end_of_exchange();
+        match self.send(request, end) {
+            Ok(()) => self.receive(alloc, end),
             Err(fault) => Err(fault),
         }
     }

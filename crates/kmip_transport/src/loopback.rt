@@ -153,12 +153,13 @@ impl<R: Net + Clock + Drop, S: Records + Drop> Link for Loopback<R, S> {
 
     fn exchange(&mut self, alloc: Global, request: &[u8]) -> Result<Option<Vec<u8>>, LinkFault> {
         let is_new = !self.link.is_connected();
-        match self.link.send(request) {
+        let end = self.link.end_of_exchange();
+        match self.link.send(request, end) {
             Ok(()) => {}
             Err(fault) => return Err(fault),
         }
         match self.serve(alloc, is_new) {
-            Ok(()) => self.link.receive(alloc),
+            Ok(()) => self.link.receive(alloc, end),
             Err(NoMemory) => Err(LinkFault::NoMemory),
         }
     }

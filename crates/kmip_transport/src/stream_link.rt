@@ -5,19 +5,18 @@ ghost use Rattle.kmip_protocol.specs.Faults.{most_failures};
 ghost use Rattle.kmip_transport.specs.Links.{answered, closed, failed, link_after, lost, opened};
 
 use crate::dial::Dial;
+use crate::open;
+use crate::open::Open;
 use crate::receiving::receive_message;
 use crate::sending::send_message;
 use crate::tcp::Tcp;
-use crate::timed::Timed;
+use crate::timed::{Timed, end_of};
 use crate::unix::Unix;
 use kmip_frames::Framer;
 use kmip_protocol::LinkFault;
 use std::alloc::Global;
 use std::marker::Model;
 use std::time::{Duration, Instant};
-
-/// In how many parts of its time an exchange waits (own).
-const PARTS: u32 = 16;
 
 /// A link to a server over TCP.
 pub type TcpLink<R> = StreamLink<Tcp<R>>;
@@ -41,10 +40,7 @@ pub type UnixLink<R> = StreamLink<Unix<R>>;
 pub struct StreamLink<D: Dial + Drop> {
     dial: D,
     limit: Duration,
-    stream: Option<D::Stream>,
-    /// How long the stream that was opened last waits by its options; none where these were not set.
-    waits: Option<Duration>,
-    end: Option<Instant>,
+    stream: Option<Open<D::Stream>>,
     failures: u64,
     is_held: bool,
     holds: bool,
@@ -79,8 +75,6 @@ impl<D: Dial + Drop> StreamLink<D> {
             dial,
             limit,
             stream: None,
-            waits: None,
-            end: None,
             failures: 0,
             is_held: false,
             holds: true,
@@ -103,7 +97,12 @@ impl<D: Dial + Drop> StreamLink<D> {
 
     /// The stream, if one is open.
     pub(crate) fn stream(&self) -> Option<&D::Stream> {
-        self.stream.as_ref()
+        Some(self.stream.as_ref()?.stream())
+    }
+
+    /// When an exchange that begins now ends at the latest: after the limit. None if the clock does not tell.
+    pub fn end_of_exchange(&self) -> Option<Instant> {
+        end_of(self.dial.now().ok()?, self.limit)
     }
 
     /// Closes the stream, if one is open. Whether later ones are held after their replies stays, and so does
@@ -122,12 +121,12 @@ impl<D: Dial + Drop> StreamLink<D> {
         self.holds = false;
     }
 
-    /// Sends the bytes of a request, over the stream that is open, else over a new one. After 2^64 - 1
-    /// failures it sends nothing.
+    /// Sends the bytes of a request, over the stream that is open, else over a new one. The exchange ends at
+    /// `end`, which `end_of_exchange` told at its begin. After 2^64 - 1 failures it sends nothing.
     ///
     /// # Errors
-    /// `Io` where the network failed.
-    pub fn send(&mut self, request: &[u8]) -> Result<(), LinkFault>
+    /// `Io` if the network failed, or no end is told.
+    pub fn send(&mut self, request: &[u8], end: Option<Instant>) -> Result<(), LinkFault>
         // Where it succeeds, a stream is open, unless the network has failed 2^64 - 1 times before.
         ensures sent { OnOk result (self.old.failures < most_failures
             → self.new ≡ opened self.old) }
@@ -145,7 +144,7 @@ impl<D: Dial + Drop> StreamLink<D> {
             self.close();
             return Ok(());
         }
-        match self.stream_with(request) {
+        match self.stream_with(request, end) {
             Some(stream) => {
                 self.stream = Some(stream);
                 Ok(())
@@ -155,11 +154,16 @@ impl<D: Dial + Drop> StreamLink<D> {
     }
 
     /// Receives the bytes of a reply over the stream that is open, in what is left of the time of the
-    /// exchange. `None` where no stream is open, or it ends before a whole message came.
+    /// exchange, which ends at `end`. `None` where no stream is open, no end is told, or the stream ends before
+    /// a whole message came.
     ///
     /// # Errors
     /// `Io` where the network failed, `Frame` where what came is no message, and `NoMemory`.
-    pub fn receive(&mut self, alloc: Global) -> Result<Option<Vec<u8>>, LinkFault>
+    pub fn receive(
+        &mut self,
+        alloc: Global,
+        end: Option<Instant>,
+    ) -> Result<Option<Vec<u8>>, LinkFault>
         // Only after a reply is a stream open, if streams are held after replies at all. `Io` alone counts
         // one more failure. Where a stream that had been held brings no reply, for another cause than want of
         // memory, none is held from then on.
@@ -182,7 +186,7 @@ impl<D: Dial + Drop> StreamLink<D> {
             self.lose();
             return Ok(None);
         }
-        match self.received_from(alloc, &mut stream) {
+        match self.received_from(alloc, &mut stream, end) {
             Ok(Some(reply)) => {
                 self.keep(stream);
                 Ok(Some(reply))
@@ -199,23 +203,18 @@ impl<D: Dial + Drop> StreamLink<D> {
         }
     }
 
-    /// The stream that is open or a new one, over which the request was sent; none where the
-    /// network failed. The time of the exchange begins here.
-    fn stream_with(&mut self, request: &[u8]) -> Option<D::Stream>
+    /// The stream that is open or a new one, over which the request was sent; none where the network
+    /// failed, or no end is told.
+    fn stream_with(&mut self, request: &[u8], end: Option<Instant>) -> Option<Open<D::Stream>>
         ensures { self.new ≡ record self.old { is_connected = false } }
     {
         let open = self.stream.take();
-        let end = self.dial.now().ok()?.checked_add(self.limit)?;
-        self.end = Some(end);
+        let end = end?;
         let mut stream = match open {
             Some(stream) => stream,
-            None => {
-                self.waits = None;
-                self.dial.dial(self.limit).ok()?
-            }
+            None => open::dial(&self.dial, self.limit).ok()?,
         };
-        let part = part_of(self.limit);
-        let mut timed = Timed::new(&self.dial, &mut stream, &mut self.waits, end, part);
+        let mut timed = Timed::new(&self.dial, &mut stream, self.limit, end);
         send_message(&mut timed, request).ok()?;
         Some(stream)
     }
@@ -223,26 +222,24 @@ impl<D: Dial + Drop> StreamLink<D> {
     /// The reply that comes over the stream. A new framer each time: nothing is left of an earlier
     /// exchange.
     fn received_from(
-        &mut self,
+        &self,
         alloc: Global,
-        stream: &mut D::Stream,
-    ) -> Result<Option<Vec<u8>>, LinkFault>
-        ensures { self.new ≡ self.old }
-    {
-        let Some(end) = self.end else {
+        stream: &mut Open<D::Stream>,
+        end: Option<Instant>,
+    ) -> Result<Option<Vec<u8>>, LinkFault> {
+        let Some(end) = end else {
             return Ok(None);
         };
         let Ok(mut framer) = Framer::new(alloc) else {
             return Err(LinkFault::NoMemory);
         };
-        let part = part_of(self.limit);
-        let mut timed = Timed::new(&self.dial, stream, &mut self.waits, end, part);
+        let mut timed = Timed::new(&self.dial, stream, self.limit, end);
         receive_message(alloc, &mut timed, &mut framer)
     }
 
     /// A reply came over the stream: it is held for the next exchange, or closed where none is held
     /// any more.
-    fn keep(&mut self, stream: D::Stream)
+    fn keep(&mut self, stream: Open<D::Stream>)
         ensures { self.new ≡ answered self.old }
     {
         self.stream = if self.holds { Some(stream) } else { None };
@@ -268,9 +265,4 @@ impl<D: Dial + Drop> StreamLink<D> {
         self.failures += 1;
         LinkFault::Io
     }
-}
-
-/// A part of the time of an exchange.
-fn part_of(limit: Duration) -> Duration {
-    limit.checked_div(PARTS).unwrap_or(limit)
 }

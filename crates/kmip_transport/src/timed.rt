@@ -1,9 +1,25 @@
 //! A stream with one deadline over all its reads and writes.
+ghost use Rattle.std.specs.Prelude.{◌≡◌, ◌+◌, ◌↔◌, IsSome, IfSome};
+ghost use Rattle.std.specs.Duration.{as_nanos};
+ghost use Rattle.std.specs.Time.{instant_nanos, FitsClock};
 
 use crate::dial::Dial;
+use crate::open;
+use crate::open::Open;
 use std::io;
 use std::io::{Error, ErrorKind, Read, Write};
 use std::time::{Duration, Instant};
+
+/// In how many parts of its time an exchange waits (own).
+const PARTS: u32 = 16;
+
+/// When an exchange that begins now ends, if it may take this long; none if no clock shows that time.
+pub(crate) fn end_of(start: Instant, limit: Duration) -> Option<Instant>
+    ensures shown { IsSome result ↔ FitsClock (instant_nanos start + as_nanos limit) }
+    ensures end { IfSome result (λ end. instant_nanos end ≡ instant_nanos start + as_nanos limit) }
+{
+    start.checked_add(limit)
+}
 
 /// A stream that fails by `TimedOut` from its end on. A read or a write waits no longer than what is
 /// left of the time before it.
@@ -13,30 +29,26 @@ use std::time::{Duration, Instant};
 #[derive(Drop)]
 pub(crate) struct Timed<'a, D: Dial> {
     dial: &'a D,
-    stream: &'a mut D::Stream,
+    stream: &'a mut Open<D::Stream>,
     /// When the time is over.
     end: Instant,
     /// The longest part of the time.
     part: Duration,
-    /// How long the stream waits in a read or a write by its options; none where these were not set.
-    waits: &'a mut Option<Duration>,
 }
 
 impl<'a, D: Dial> Timed<'a, D> {
-    /// The stream, which waits so long by its options, with this end of the time and this longest part of it.
+    /// The stream, of an exchange that may take as long as the limit, and ends then.
     pub(crate) fn new(
         dial: &'a D,
-        stream: &'a mut D::Stream,
-        waits: &'a mut Option<Duration>,
+        stream: &'a mut Open<D::Stream>,
+        limit: Duration,
         end: Instant,
-        part: Duration,
     ) -> Self {
         Timed {
             dial,
             stream,
             end,
-            part,
-            waits,
+            part: limit.checked_div(PARTS).unwrap_or(limit),
         }
     }
 
@@ -46,14 +58,7 @@ impl<'a, D: Dial> Timed<'a, D> {
         if left.is_zero() {
             return Err(Error::from(ErrorKind::TimedOut));
         }
-        let wait = left.min(self.part);
-        if *self.waits == Some(wait) {
-            return Ok(());
-        }
-        *self.waits = None;
-        self.dial.limit(self.stream, wait)?;
-        *self.waits = Some(wait);
-        Ok(())
+        open::limit(self.dial, self.stream, left.min(self.part))
     }
 }
 
@@ -66,7 +71,7 @@ impl<'a, D: Dial> Read for Timed<'a, D> {
     fn read(&mut self, buf: &mut [u8]) -> io::Result<usize> {
         for _ in 0..u64::MAX {
             self.limit()?;
-            match self.stream.read(buf) {
+            match self.stream.stream_mut().read(buf) {
                 Err(error) if is_over(&error) => {}
                 done => return done,
             }
@@ -79,7 +84,7 @@ impl<'a, D: Dial> Write for Timed<'a, D> {
     fn write(&mut self, buf: &[u8]) -> io::Result<usize> {
         for _ in 0..u64::MAX {
             self.limit()?;
-            match self.stream.write(buf) {
+            match self.stream.stream_mut().write(buf) {
                 Err(error) if is_over(&error) => {}
                 done => return done,
             }
@@ -88,6 +93,6 @@ impl<'a, D: Dial> Write for Timed<'a, D> {
     }
 
     fn flush(&mut self) -> io::Result<()> {
-        self.stream.flush()
+        self.stream.stream_mut().flush()
     }
 }

@@ -36,7 +36,8 @@ fn answer_with(
     answer: &[u8],
     ending: Ending,
 ) -> Result<(), Fail> {
-    link.send(request)?;
+    let end = link.end_of_exchange();
+    link.send(request, end)?;
     let (mut stream, _) = listener.accept()?;
     if ending == Ending::Shut {
         stream.read_exact(&mut [0; 184])?;
@@ -54,7 +55,8 @@ fn assert_receives(
     name: &str,
 ) {
     let failures = link.failures();
-    let received = link.receive(alloc);
+    let end = link.end_of_exchange();
+    let received = link.receive(alloc, end);
     assert_received(rt, &received, wanted, name);
     let is_reply = matches!(wanted, Ok(Some(_)));
     let failed = u64::from(wanted.is_err());

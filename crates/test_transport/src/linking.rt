@@ -41,7 +41,8 @@ fn assert_receives<D: Dial + Drop>(
     failures: u64,
     case: &str,
 ) {
-    let received = link.receive(rt.alloc());
+    let end = link.end_of_exchange();
+    let received = link.receive(rt.alloc(), end);
     assert_received(rt, &received, wanted, case);
     assert_link(rt, link, is_connected, failures, case);
 }
@@ -117,7 +118,8 @@ fn answer_and_close(
     link: &mut TcpLink<HostRuntime>,
     answer: &[u8],
 ) -> Result<(), Fail> {
-    link.send(b"request")?;
+    let end = link.end_of_exchange();
+    link.send(b"request", end)?;
     let (mut stream, _) = listener.accept()?;
     stream.read_exact(&mut [0; 7])?;
     stream.write_all(answer)?;
@@ -142,11 +144,13 @@ fn answer_and_break(
     link: &mut TcpLink<HostRuntime>,
     reply: &[u8],
 ) -> Result<(), Fail> {
-    link.send(b"second")?;
+    let end = link.end_of_exchange();
+    link.send(b"second", end)?;
     let mut stream = accept_with(listener, reply)?;
     assert_receives(rt, link, Ok(Some(reply)), true, 0, "second");
     stream.write_all(&[0; 8])?;
-    link.send(b"third")?;
+    let end = link.end_of_exchange();
+    link.send(b"third", end)?;
     assert_receives(rt, link, Err(LinkFault::Frame), false, 0, "third");
     Ok(())
 }
@@ -189,7 +193,8 @@ fn close_behind_replies(
     link: &mut TcpLink<HostRuntime>,
     reply: &[u8],
 ) -> Result<(), Fail> {
-    link.send(b"request")?;
+    let end = link.end_of_exchange();
+    link.send(b"request", end)?;
     assert_receives(rt, link, Ok(None), false, 0, "second");
     for case in ["third", "fourth", "fifth"] {
         answer_and_close(listener, link, reply)?;
@@ -223,7 +228,8 @@ fn answer_with(
     link: &mut UnixLink<HostRuntime>,
     reply: &[u8],
 ) -> Result<(), Fail> {
-    link.send(b"request")?;
+    let end = link.end_of_exchange();
+    link.send(b"request", end)?;
     let (mut stream, _) = listener.accept()?;
     stream.write_all(reply)?;
     assert_receives(rt, link, Ok(Some(reply)), true, 0, "a reply");
