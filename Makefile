@@ -11,6 +11,7 @@
 # make bench      sets it beside plain Rust, also over sockets; times commands; counts allocations, instructions (needs rustc)
 # make refuse     refuses each growth of memory of the program and of test_memory in turn (needs cc, python3)
 # make faults     gives the program plans with each fault, and wants the line that says where and why (needs python3)
+# make largest    carries out 1,000 keys with the longest names and identifiers, in text and in JSON (needs python3)
 # make hostile    gives the program lines of ten megabytes, under limits of memory
 # make storm      carries 200 plans, by up to four runs at once, over a network that loses and cuts; kills, looks, refreshes, probes (needs rustc)
 # make peers      runs it against peers that answer nothing, rubbish or too late (needs python3)
@@ -43,7 +44,7 @@ prove = { echo 'Proving and building kmipctl: from a clean clone this takes some
 	{ tools/proved.sh note $(program) "$$sum" || { touch -d @0 $(program); false; }; }; }
 sources := crates.txt $(shell find crates -name out -prune -o \( -name '*.rt' -o -name '*.antt' \) -print)
 
-.PHONY: all install uninstall dist deb demo check fmt test rows bench refuse faults hostile storm peers turns troubles origin refreshed causes reports completions installed tls pykmip reading reference man layers examples documents tools help
+.PHONY: all install uninstall dist deb demo check fmt test rows bench refuse faults largest hostile storm peers turns troubles origin refreshed causes reports completions installed tls pykmip reading reference man layers examples documents tools help
 
 all: $(program)
 	@tools/proved.sh check $(program) || $(prove)
@@ -90,6 +91,9 @@ refuse: $(program) $(growths)
 
 faults: $(program)
 	@python3 bench/plan_faults.py $(program) out/faults
+
+largest: $(program)
+	@python3 bench/largest.py $(program) out/largest
 
 hostile: $(program)
 	@bench/hostile.sh $(program)

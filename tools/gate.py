@@ -36,6 +36,7 @@ TRIALS = [
     ('troubles', ['python3', 'bench/troubles.py', PROGRAM, 'out/troubles'], []),
     ('origin', ['python3', 'bench/origin.py', PROGRAM, 'out/origin'], []),
     ('refreshed', ['python3', 'bench/refreshed.py', PROGRAM, 'out/refreshed', '70'], []),
+    ('largest', ['python3', 'bench/largest.py', PROGRAM, 'out/largest'], []),
     ('faults', ['python3', 'bench/plan_faults.py', PROGRAM, 'out/faults'], []),
     ('causes', ['python3', 'bench/causes.py', PROGRAM, 'out/causes'], []),
     ('reports', ['python3', 'bench/reports.py', PROGRAM, 'out/reports'], []),
