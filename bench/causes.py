@@ -86,8 +86,8 @@ TWO_SERVERS = ('error: KMIPCTL_CONNECT and KMIPCTL_SOCKET are both set: unset on
                'or give --connect, --socket or --loopback\n')
 SERVERS = '<--connect <ADDRESS>|--socket <PATH>|--loopback>'
 HELP = "\nFor more information, try '--help'.\n"
-RUN_USAGE = f'\nUsage: kmipctl run [OPTIONS] --plan <PATH> --progress <PATH> {SERVERS}\n{HELP}'
-PROBE_USAGE = f'\nUsage: kmipctl probe [OPTIONS] --name-prefix <PREFIX> {SERVERS}\n{HELP}'
+RUN_USAGE = f'\nUsage: kmipctl run [OPTIONS] --plan <PATH> --progress <PATH>\n       {SERVERS}\n{HELP}'
+PROBE_USAGE = f'\nUsage: kmipctl probe [OPTIONS] --name-prefix <PREFIX>\n       {SERVERS}\n{HELP}'
 CHECK_USAGE = f'\nUsage: kmipctl check [OPTIONS] --plan <PATH>\n{HELP}'
 
 
@@ -596,8 +596,7 @@ class Causes:
                 self.case(' '.join(words), words, NO_ADDRESS_AND_PORT + RUN_USAGE,
                           [f'{WANTED}"{value}" {why}'], status=2)
         words = (*run, '--loopback', '--identifiers', '--json')
-        usage = f'\nUsage: kmipctl run --plan <PATH> --progress <PATH> --identifiers {SERVERS}\n{HELP}'
-        self.case(' '.join(words), words, f"error: the argument '--identifiers' cannot be used with '--json'\n{usage}",
+        self.case(' '.join(words), words, f"error: the argument '--identifiers' cannot be used with '--json'\n{RUN_USAGE}",
                   ['--json prints the identifiers too: leave out --identifiers'], status=2)
         value, why = rows[0]
         words = ('probe', '--name-prefix', 'p', '--connect', value)

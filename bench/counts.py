@@ -1,5 +1,6 @@
 #!/usr/bin/env python3
-"""Counts the allocations and the instructions of `kmipctl answer` a message, of the baseline too, and of `sim` an exchange.
+"""Counts the allocations and the instructions of `kmipctl answer` a message, of the baseline too, and of `sim` an
+exchange; and how often `run` reads a reply.
 
     bench/counts.py PROGRAM OUT
 
@@ -7,9 +8,13 @@ OUT is a folder that has `baseline` and `input`, as bench/bench.sh builds them. 
 with some messages more, and the difference is divided by their number. So what it does at its start does not count.
 The counts do not depend on what else the machine does.
 
+Each reply to `run` is to be read once, with --verbose too: it fails if callgrind counts more calls of `read_reply`, or of
+`requests_in`, which reads what was asked.
+
 Allocations are calls of malloc, calloc and realloc, which bench/count.c counts; that needs cc. Instructions are those
 that callgrind counts; that needs valgrind. What a machine lacks is not counted, and a line says so.
 """
+import collections
 import os
 import re
 import shutil
@@ -19,7 +24,7 @@ import sys
 
 sys.dont_write_bytecode = True
 
-from measuring import fail, ratio, run, write_plan
+from measuring import fail, ratio, remove_progress, run, write_plan
 
 # What the messages are, how many the second run has more, and the words for bench/input.rs of both.
 LOADS = [
@@ -29,6 +34,11 @@ LOADS = [
 ]
 # The keys of the plans of `sim`, with three exchanges each.
 FEW, MANY = 500, 1000
+# The keys of the plan of `run`, with three exchanges each.
+RUN_KEYS = 20
+# A function that a line of callgrind names, by a number, and with its name the first time; and how often it is called.
+NAMED = re.compile(r'(c?fn)=\((\d+)\)(?: (.*))?$')
+CALLED = re.compile(r'calls=(\d+)')
 
 
 class Allocations:
@@ -60,12 +70,28 @@ class Instructions:
     def __init__(self, out):
         self.counted, self.log, self.told = (os.path.join(out, name) for name in ('callgrind', 'callgrind.log', 'told'))
 
-    def of(self, words, source):
+    def count(self, words, source, **options):
+        """Runs a program, and returns what callgrind wrote."""
         tool = ['valgrind', '--tool=callgrind', f'--callgrind-out-file={self.counted}', f'--log-file={self.log}']
-        run([*tool, *words], self.told, source)
+        run([*tool, *words], self.told, source, **options)
         with open(self.counted) as file:
-            found = re.search(r'^totals: (\d+)', file.read(), re.M)
+            return file.read()
+
+    def of(self, words, source):
+        found = re.search(r'^totals: (\d+)', self.count(words, source), re.M)
         return int(found.group(1)) if found else fail(words, 'callgrind counts nothing')
+
+    def calls(self, words):
+        """How often a program calls each of its functions."""
+        names, calls, called = {}, collections.Counter(), None
+        for line in self.count(words, os.devnull, stderr=subprocess.DEVNULL).splitlines():
+            if named := NAMED.match(line):
+                kind, number, name = named.groups()
+                names.setdefault(number, name)
+                called = number if kind == 'cfn' else called
+            elif count := CALLED.match(line):
+                calls[called] += int(count.group(1))
+        return {names[number]: count for number, count in calls.items()}
 
 
 class Counts:
@@ -97,6 +123,23 @@ class Counts:
             counts.append(counter.of([self.program, 'sim', '--plan', plan, '--script', script], os.devnull))
         return (counts[1] - counts[0]) / (3 * (MANY - FEW))
 
+    def tell_readings(self):
+        """Prints how often `run` reads a reply, and what it asked, and fails if that is more than it has to."""
+        if not shutil.which(Instructions.needs):
+            return
+        counter, plan = Instructions(self.out), write_plan(self.path('plan.toml'), RUN_KEYS)
+        for options in [], ['--verbose']:
+            progress = self.path('run.progress')
+            remove_progress(progress)
+            words = [self.program, 'run', '--plan', plan, '--progress', progress, '--loopback', *options]
+            calls = counter.calls(words)
+            read, asked = (sum(count for name, count in calls.items() if name.endswith(f'::{word}'))
+                           for word in ('read_reply', 'requests_in'))
+            print(f'run{"".join(f" {option}" for option in options)}, {3 * RUN_KEYS} exchanges: '
+                  f'{read} replies read, {asked} requests read', flush=True)
+            if (read, asked) != (3 * RUN_KEYS, 0):
+                fail(words, 'each reply is to be read once, and no request')
+
     def tell(self, kind, digits):
         """Prints what a counter of this kind counts, or that the machine lacks what it needs."""
         if not shutil.which(kind.needs):
@@ -114,6 +157,7 @@ def main():
     counts = Counts(*sys.argv[1:])
     counts.tell(Allocations, 2)
     counts.tell(Instructions, 0)
+    counts.tell_readings()
 
 
 if __name__ == '__main__':

@@ -51,7 +51,7 @@ def run(words, told, source=os.devnull, wanted=0, **more):
 
     Where it has to end with a status that is not 0, what it says of that is not shown.
     """
-    errors = subprocess.DEVNULL if wanted else None
+    errors = more.pop('stderr', subprocess.DEVNULL if wanted else None)
     with open(source, 'rb') as given, open(told, 'wb') as output:
         begun = time.monotonic()
         return ended(subprocess.Popen(words, stdin=given, stdout=output, stderr=errors, **more), begun, wanted)

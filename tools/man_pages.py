@@ -2,7 +2,7 @@
 """Writes the man pages: kmipctl(1), one a command, and kmip-plan(5) for the plan and the progress file.
 
     tools/man_pages.py             writes docs/man (`make man`)
-    tools/man_pages.py PROGRAM     compares what the sources say with the help that the program prints
+    tools/man_pages.py PROGRAM     compares what the sources say with the help that the program prints (-h and --help)
 
 It runs at the top of the repository. The page of a command has its help (kmip_command_line: help.rt,
 command_option.rt, subcommand.rt; the words of the shells are those of kmip_choices), its section of docs/COMMANDS.md,
@@ -39,11 +39,13 @@ OPTION = re.compile(r'const (\w+): CommandOption = CommandOption\(\s*"([\w-]+)",
 WORDS = re.compile(r'const (\w+): \[&str; \d+\] = \[(.*?)\];', re.S)
 OPTIONS = re.compile(r'const (\w+_OPTIONS): \[CommandOption; (\d+)\] = \[(.*?)\];', re.S)
 COMMAND = re.compile(r'Subcommand = Subcommand \{\s*name: "(\w+)",\s*about: (\w+),\s*long_about: (\w+),'
-                     r'\s*options: &(\w+),\s*asks_a_server: (true|false),', re.S)
+                     r'\s*usage: (?:None|Some\((\w+)\)),\s*options: &(\w+),\s*asks_a_server: (true|false),', re.S)
 ORDER = re.compile(r'const COMMANDS: \[Subcommand; (\d+)\] = \[(.*?)\];', re.S)
 VERSION = re.compile(r'const VERSION: &str = "([^"]+)";')
-# The option that every command has, and the options of which one says where the server is.
+# The option that every command has, and its help as `-h` and as `--help` print it.
 HELP = '-h, --help'
+SHORT_HELP, LONG_HELP = "Print help (see more with '--help')", "Print help (see a summary with '-h')"
+# The options of which one says where the server is.
 SERVERS = 'connect', 'socket', 'loopback'
 
 
@@ -73,9 +75,18 @@ class Option:
             return f'<{self.value}>'
         return f'--{self.word}' + (f' <{self.value}>' if self.value else '')
 
+    def listed(self):
+        """The option as a list of options has it."""
+        return ('  ' if self.words else '      ') + self.usage()
+
+    def summary(self):
+        """The help of the option as `-h` has it."""
+        said = self.help + (f' [possible values: {", ".join(self.words)}]' if self.words else '')
+        return said + (f' [default: {self.default}]' if self.default else '')
+
     def printed(self):
         """The option as `--help` has it."""
-        said = f'{"  " if self.words else "      "}{self.usage()}\n          {self.help}'
+        said = f'{self.listed()}\n          {self.help}'
         said += f'\n          \n          [possible values: {", ".join(self.words)}]' if self.words else ''
         return said + (f'\n          \n          [default: {self.default}]' if self.default else '')
 
@@ -88,28 +99,57 @@ class Option:
 
 
 class Command:
-    def __init__(self, name, about, text, options, asks_a_server):
-        self.name, self.about, self.text, self.options, self.asks_a_server = name, about, text, options, asks_a_server
+    """A command: its name, its help in a line and in full, its options, and the usage that the sources give it, if any."""
 
-    def is_needed(self, option):
-        """Whether the option has to be there by itself."""
-        return option.is_needed and not (self.asks_a_server and option.word in SERVERS)
+    def __init__(self, name, about, text, options, asks_a_server, own_usage=None):
+        self.name, self.about, self.text, self.options, self.asks_a_server = name, about, text, options, asks_a_server
+        self.own_usage = own_usage
+
+    def names_server(self, option):
+        """Whether the option is one of those that say where the server is."""
+        return self.asks_a_server and option.word in SERVERS
+
+    def servers(self):
+        """The options that say where the server is, as a usage has them, in a list that is empty if there are none."""
+        servers = [option.usage() for option in self.options if self.names_server(option)]
+        return [f'<{"|".join(servers)}>'] if servers else []
 
     def usage(self):
-        """What stands after the command in its usage."""
-        needed = [option.usage() for option in self.options if self.is_needed(option)]
-        servers = [option.usage() for option in self.options if self.asks_a_server and option.word in SERVERS]
+        """What is after the command in the usage that the parser makes."""
+        needed = [option.usage() for option in self.options if option.is_needed and not self.names_server(option)]
         has_options = any(not option.words for option in self.options)
-        return ' '.join(['[OPTIONS]'] * has_options + needed + ([f'<{"|".join(servers)}>'] if servers else []))
+        return ' '.join(['[OPTIONS]'] * has_options + needed + self.servers())
+
+    def longest_usage(self):
+        """The same after an error, if every option was given: the parser then lists them instead of [OPTIONS]."""
+        return ' '.join([option.usage() for option in self.options if not self.names_server(option)] + self.servers())
+
+    def printed_usage(self, called):
+        """Its usage as the help has it, if the program is called so."""
+        return 'Usage: ' + (self.own_usage or f'{called} {self.name} {self.usage()}')
 
     def help(self, called):
-        """What `--help` prints, where the program is called so."""
-        parts = [self.text, f'Usage: {called} {self.name} {self.usage()}']
+        """What `--help` prints, if the program is called so."""
+        parts = [self.text, self.printed_usage(called)]
         words = [option.printed() for option in self.options if option.words]
         parts += ['Arguments:\n' + '\n\n'.join(words)] if words else []
         options = [option.printed() for option in self.options if not option.words]
-        options.append(f'  {HELP}\n          ' + "Print help (see a summary with '-h')")
+        options.append(f'  {HELP}\n          {LONG_HELP}')
         return '\n\n'.join(parts) + '\n\nOptions:\n' + '\n\n'.join(options) + '\n'
+
+    def short_help(self, called):
+        """What `-h` prints, if the program is called so."""
+        parts = [self.about, self.printed_usage(called)]
+        words = [(option.listed(), option.summary()) for option in self.options if option.words]
+        parts += ['Arguments:\n' + columns(words)] if words else []
+        options = [(option.listed(), option.summary()) for option in self.options if not option.words]
+        return '\n\n'.join([*parts, 'Options:\n' + columns([*options, (f'  {HELP}', SHORT_HELP)])]) + '\n'
+
+
+def columns(rows):
+    """Lines of two columns."""
+    width = max(len(first) for first, _ in rows)
+    return '\n'.join(f'{first:<{width}}  {second}' for first, second in rows)
 
 
 class Texts:
@@ -124,8 +164,9 @@ class Texts:
         made = {name: Option(word, ' '.join(value.split()), absent, self.texts[text], lists)
                 for name, word, value, absent, text in OPTION.findall(options)}
         lists = {name: self.listed(name, count, words, made) for name, count, words in OPTIONS.findall(options)}
-        found = {name: Command(name, self.texts[about], self.texts[text], lists[of], asks == 'true')
-                 for name, about, text, of, asks in COMMAND.findall(commands)}
+        found = {name: Command(name, self.texts[about], self.texts[text], lists[of], asks == 'true',
+                               self.texts[usage] if usage else None)
+                 for name, about, text, usage, of, asks in COMMAND.findall(commands)}
         count, words = ORDER.search(commands).groups()
         self.commands = self.listed('COMMANDS', count, words.replace('_COMMAND', '').lower(), found)
 
@@ -354,14 +395,15 @@ def write_pages():
 
 def compare(program):
     """Compares the help of each command with the one that the sources give, and returns the exit status."""
-    texts, wrong = Texts(), 0
+    texts, called, wrong = Texts(), pathlib.Path(program).name, set()
     for command in texts.commands:
-        words = [str(program), command.name, '--help']
-        said = subprocess.run(words, capture_output=True, text=True, stdin=subprocess.DEVNULL).stdout
-        if said != command.help(pathlib.Path(program).name):
-            wrong += 1
-            print(f'{command.name}: what --help prints is not what the sources say')
-    print(f'{len(texts.commands)} commands, {wrong} wrong')
+        for word, wanted in ('-h', command.short_help(called)), ('--help', command.help(called)):
+            words = [str(program), command.name, word]
+            said = subprocess.run(words, capture_output=True, text=True, stdin=subprocess.DEVNULL).stdout
+            if said != wanted:
+                wrong.add(command.name)
+                print(f'{command.name}: what {word} prints is not what the sources say')
+    print(f'{len(texts.commands)} commands, {len(wrong)} wrong')
     return 1 if wrong else 0
 
 

@@ -10,6 +10,8 @@ import man_pages
 from man_pages import Command, Option
 
 TOP = TOOLS.parent
+# The widest line that the program may print in a help or a usage.
+COLUMNS = 80
 LINE = Option('limit', 'Number("N", 0, MOST_COUNT)', 'Means("10")', 'How many')
 PLAN = Option('plan', 'Text("PATH")', 'WrongUnlessSaid(Setting::Plan)', 'The file')
 SOCKET = Option('socket', 'Text("PATH")', 'Fine', 'The socket')
@@ -55,6 +57,15 @@ class Options(unittest.TestCase):
         self.assertEqual(man_pages.typed(command.usage()), r'[\fIOPTIONS\fR] \fB\-\-plan\fR \fIPATH\fR '
                          r'{\fB\-\-socket\fR \fIPATH\fR | \fB\-\-loopback\fR}')
 
+    def test_longest_usage(self):
+        command = Command('run', 'Runs', 'It runs.', [PLAN, SOCKET, LOOPBACK, LINE], True)
+        self.assertEqual(command.longest_usage(), '--plan <PATH> --limit <N> <--socket <PATH>|--loopback>')
+
+    def test_a_usage_that_the_sources_give(self):
+        command = Command('run', 'Runs', 'It runs.', [PLAN], True, 'kmipctl run\n       --plan <PATH>')
+        for help in command.help('other'), command.short_help('other'):
+            self.assertIn('\n\nUsage: kmipctl run\n       --plan <PATH>\n\nOptions:\n', help)
+
     def test_help(self):
         command = Command('list', 'Lists', 'It lists.', [LINE], False)
         self.assertEqual(command.help('kmipctl'), '''It lists.
@@ -69,6 +80,21 @@ Options:
 
   -h, --help
           Print help (see a summary with '-h')
+''')
+
+    def test_short_help(self):
+        command = Command('list', 'Lists', 'It lists.', [LINE, PLAN, SHELL], False)
+        self.assertEqual(command.short_help('kmipctl'), '''Lists
+
+Usage: kmipctl list [OPTIONS] --plan <PATH> <SHELL>
+
+Arguments:
+  <SHELL>  Which one [possible values: a, b]
+
+Options:
+      --limit <N>    How many [default: 10]
+      --plan <PATH>  The file
+  -h, --help         Print help (see more with '--help')
 ''')
 
     def test_a_word_that_stands_by_itself(self):
@@ -137,11 +163,23 @@ class Pages(Scratch):
 
     def test_each_line_of_a_help_fits(self):
         texts = man_pages.Texts()
-        lines = [line for command in texts.commands for line in command.help('kmipctl').split('\n')]
-        lines += (texts.texts['ABOUT'] + '\n' + texts.texts['AFTER_HELP']).split('\n')
-        self.assertEqual([line for line in lines if len(line) > 80 and not line.startswith('Usage: ')], [])
+        pages = [page for command in texts.commands for page in (command.help('kmipctl'), command.short_help('kmipctl'))]
+        pages += [texts.texts['ABOUT'], texts.texts['AFTER_HELP']]
+        pages.append(man_pages.columns([(f'  {command.name}', command.about) for command in texts.commands]))
+        self.assertEqual([line for page in pages for line in page.split('\n') if len(line) > COLUMNS], [])
         # Programs that read a help take such a line for an option.
         self.assertEqual([command.name for command in texts.commands if '\n      --' in command.text], [])
+
+    def test_each_usage_after_an_error_fits(self):
+        commands = man_pages.Texts().commands
+        lines = [f'Usage: kmipctl {command.name} {command.longest_usage()}' for command in commands if not command.own_usage]
+        self.assertEqual([line for line in lines if len(line) > COLUMNS], [])
+
+    def test_a_usage_of_the_sources_has_the_words_of_the_parser(self):
+        commands = [command for command in man_pages.Texts().commands if command.own_usage]
+        self.assertTrue(commands)
+        for command in commands:
+            self.assertEqual(command.own_usage.replace('\n       ', ' '), f'kmipctl {command.name} {command.usage()}')
 
     def test_each_option_of_the_sources_is_read(self):
         source = (self.top / man_pages.SOURCES / 'command_option.rt').read_text()
@@ -159,7 +197,7 @@ class Pages(Scratch):
         self.write({'program': f'#!{sys.executable}\nprint("help")\n'})
         os.chmod('program', 0o755)
         status, lines = printed(man_pages.compare, './program')
-        self.assertEqual((status, lines[-1]), (1, '10 commands, 10 wrong'))
+        self.assertEqual((status, lines[-1], len(lines)), (1, '10 commands, 10 wrong', 21))
 
 
 if __name__ == '__main__':

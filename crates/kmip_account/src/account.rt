@@ -1,19 +1,17 @@
 //! What `run` reports on standard error: how far it is, what goes wrong, and what was left undone.
 
 use crate::answers::push_answer_about;
-use crate::exchange::{Exchange, name_of};
+use crate::exchange::{Exchange, refusals_in};
 use crate::exchange_log::ExchangeLog;
 use crate::findings::Findings;
 use crate::story::Story;
-use crate::untaken::Untaken;
-use kmip_batch_items::standard::REASON_ITEM_NOT_FOUND;
-use kmip_batch_items::{Ask, Outcome, Request};
+use kmip_batch_items::standard::{OPERATION_GET_ATTRIBUTES, REASON_ITEM_NOT_FOUND};
+use kmip_batch_items::{Operation, Outcome, Reply};
 use kmip_choices::RunOptions;
-use kmip_client::Client;
+use kmip_client::{Client, Part};
 use kmip_plan::{Key, Plan, place_of};
 use kmip_plan_commands::{RunTally, begin, progress_line};
-use kmip_protocol::LinkFault;
-use kmip_trace::{operation_word, push_answer};
+use kmip_trace::{operation_word, push_replies};
 use kmip_ttlv::NoMemory;
 use std::alloc::Global;
 use std::cell::Cell;
@@ -34,7 +32,6 @@ pub struct Account<'a> {
     before: Cell<usize>,
     /// Whether an answer was against what the progress says.
     is_against: Cell<bool>,
-    untaken: Untaken,
 }
 
 impl<'a> Account<'a> {
@@ -61,7 +58,6 @@ impl<'a> Account<'a> {
             log,
             before: Cell::new(0),
             is_against: Cell::new(false),
-            untaken: Untaken::new(rt.alloc()),
         })
     }
 
@@ -101,63 +97,59 @@ impl<'a> Account<'a> {
         self.log.begin_exchange();
     }
 
-    /// An exchange was made: the bytes that were sent, and what came of it. What there is no memory for is not
-    /// reported.
-    pub(crate) fn exchanged(&self, request: &[u8], answered: Result<Option<&[u8]>, LinkFault>) {
+    /// Reports an exchange that was made, after which the run had found out this much before. What there is no
+    /// memory for is not reported.
+    pub(crate) fn report(&self, exchange: &Exchange<'_>, findings: &Findings) {
         let now = Instant::now(self.rt).ok();
-        let alloc = self.rt.alloc();
-        match Exchange::of(alloc, request, answered, self.log.wire()) {
-            Ok(exchange) => {
-                self.log.note(&exchange, self.is_last());
-                if self.log.is_verbose() {
-                    let _ = self.report_exchange(&exchange, now);
-                    self.report_strangers(&exchange, answered.unwrap_or(None));
-                }
-                let _ = self.report_missing(&exchange);
-                self.untaken.put(alloc, exchange);
-            }
-            Err(NoMemory) => self.untaken.fall_short(),
+        let refusals = refusals_in(exchange.replies);
+        self.log.note(exchange.silence, refusals, self.is_last());
+        if self.log.is_verbose() {
+            let _ = self.report_exchange(exchange, now);
+            self.report_strangers(exchange);
+        }
+        for part in exchange.asked {
+            let _ = self.report_difference(exchange, part, findings);
         }
     }
 
-    /// Reports the first object that the progress has and the server does not, if an exchange shows one.
-    fn report_missing(&self, exchange: &Exchange) -> Result<(), NoMemory> {
-        for request in &exchange.requests {
-            if is_missing(request, exchange.answer(request)) {
-                return self.report_against(request, "does not have the object that");
-            }
-        }
-        Ok(())
-    }
-
-    /// Reports the first object that has not come as far as is known, if an exchange shows one.
-    fn report_behind(
+    /// Reports that the server does not have an object that the progress has, or that the object has not come as
+    /// far as was known, if the answer to a question says so.
+    fn report_difference(
         &self,
-        exchange: &Exchange,
-        client: &Client<'_>,
+        exchange: &Exchange<'_>,
+        part: &Part,
         findings: &Findings,
     ) -> Result<(), NoMemory> {
-        for request in &exchange.requests {
-            let Some(Outcome::Attributes(_, attrs)) = exchange.answer(request) else {
-                continue;
-            };
-            let (Some(place), Some(state)) = (findings.place(request), attrs.state) else {
-                continue;
-            };
-            if is_behind(client, place, state) {
-                return self.report_against(request, "has an earlier state of the object than");
+        let (Some(key), Some(answer)) = (exchange.key(part), exchange.answer(part)) else {
+            return Ok(());
+        };
+        match answer {
+            Outcome::Failed(Some(REASON_ITEM_NOT_FOUND))
+                if part.operation == OPERATION_GET_ATTRIBUTES => {
+                self.report_against(key, "does not have the object that")
             }
+            Outcome::Attributes(_, attrs) => match (attrs.state, findings.done(part.key)) {
+                (Some(state), Some(done)) if is_behind(key, state, done) => {
+                    self.report_against(key, "has an earlier state of the object than")
+                }
+                (_, _) => Ok(()),
+            },
+            Outcome::Failed(_)
+            | Outcome::Created(_)
+            | Outcome::Located(_)
+            | Outcome::Activated(_)
+            | Outcome::Revoked(_)
+            | Outcome::Destroyed(_) => Ok(()),
         }
-        Ok(())
     }
 
-    /// Reports once that the server is not as the progress says, by its answer to a request.
-    fn report_against(&self, request: &Request, how: &str) -> Result<(), NoMemory> {
+    /// Reports once that the server is not as the progress says of this key.
+    fn report_against(&self, key: &Key, how: &str) -> Result<(), NoMemory> {
         if self.is_against.replace(true) {
             return Ok(());
         }
         let (path, peer) = (&self.options.progress, self.log.peer());
-        let name = from_utf8(name_of(request)).unwrap_or("");
+        let name = key.attrs.name.as_str();
         let line = format!(in self.rt.alloc();
             "{name}: {peer} {how} {path} has; --refresh checks the file"
         )?;
@@ -172,7 +164,7 @@ impl<'a> Account<'a> {
     }
 
     /// Shows how far the run is.
-    fn show(&self, client: &Client<'_>) {
+    pub(crate) fn show(&self, client: &Client<'_>) {
         if !self.log.is_shown() {
             return;
         }
@@ -181,33 +173,11 @@ impl<'a> Account<'a> {
         }
     }
 
-    /// So much is known after an exchange. The findings take in both.
-    pub(crate) fn know(&self, client: &Client<'_>, findings: &mut Findings) {
-        let alloc = self.rt.alloc();
-        let exchanges = self.untaken.take(alloc);
-        findings.learn(alloc, exchanges.as_slice(), client);
-        for exchange in &exchanges {
-            let _ = self.report_behind(exchange, client, findings);
-        }
-        self.show(client);
-    }
-
-    /// The findings take in the exchanges that no `know` followed. A run ends so if memory runs out in
-    /// its last one.
-    pub(crate) fn take_in(&self, findings: &mut Findings) {
-        let alloc = self.rt.alloc();
-        let exchanges = self.untaken.take(alloc);
-        findings.take_in(alloc, exchanges.as_slice());
-    }
-
     /// What is counted of the run, by what was known after its last exchange.
     ///
     /// # Errors
-    /// If memory runs out, or did so for an exchange.
+    /// If memory runs out.
     pub fn tally(&self, findings: &Findings) -> Result<RunTally, NoMemory> {
-        if self.untaken.is_short() {
-            return Err(NoMemory);
-        }
         let milliseconds = self.log.milliseconds();
         let (alloc, keys) = (self.rt.alloc(), self.plan.keys());
         findings.tally(alloc, keys, self.log.spent(), milliseconds)
@@ -219,27 +189,41 @@ impl<'a> Account<'a> {
     }
 
     /// Reports an exchange: a line for each key that was asked about.
-    fn report_exchange(&self, exchange: &Exchange, now: Option<Instant>) -> Result<(), NoMemory> {
-        for request in &exchange.requests {
-            let line = self.exchange_line(exchange, request, now)?;
-            self.log.report(line.as_str());
+    fn report_exchange(
+        &self,
+        exchange: &Exchange<'_>,
+        now: Option<Instant>,
+    ) -> Result<(), NoMemory> {
+        for part in exchange.asked {
+            if let Some(key) = exchange.key(part) {
+                let line = self.exchange_line(exchange, part, key, now)?;
+                self.log.report(line.as_str());
+            }
         }
         Ok(())
     }
 
-    /// The line of a key that was asked about in an exchange.
+    /// The line of a question about a key.
     fn exchange_line(
         &self,
-        exchange: &Exchange,
-        request: &Request,
+        exchange: &Exchange<'_>,
+        part: &Part,
+        key: &Key,
         now: Option<Instant>,
     ) -> Result<String, NoMemory> {
         let alloc = self.rt.alloc();
         let mut line = self.log.time_text(now)?;
-        push_request(request, &mut line)?;
+        if let Some(operation) = Operation::with_number(part.operation) {
+            line.push_str(operation_word(operation))?;
+            line.push_str(" ")?;
+        }
+        line.push_str(key.attrs.name.as_str())?;
         line.push_str(": ")?;
-        match (exchange.answer(request), exchange.silence) {
-            (Some(outcome), _) => push_answer_about(alloc, name_of(request), outcome, &mut line)?,
+        match (exchange.answer(part), exchange.silence) {
+            (Some(outcome), _) => {
+                let name = key.attrs.name.as_str().as_bytes();
+                push_answer_about(alloc, name, outcome, &mut line)?;
+            }
             (None, Some(silence)) => {
                 line.push_str(silence.told(alloc, self.log.timeout())?.as_str())?;
             }
@@ -250,12 +234,12 @@ impl<'a> Account<'a> {
     }
 
     /// Reports a reply to what was not asked.
-    fn report_strangers(&self, exchange: &Exchange, reply: Option<&[u8]>) {
+    fn report_strangers(&self, exchange: &Exchange<'_>) {
         if !exchange.has_stranger() {
             return;
         }
         let mut line = Vec::new(self.rt.alloc());
-        if push_stranger(self.rt.alloc(), reply, &mut line).is_ok() {
+        if push_strangers(self.rt.alloc(), exchange.replies, &mut line).is_ok() {
             self.log.report(from_utf8(line.as_slice()).unwrap_or(""));
         }
     }
@@ -326,40 +310,13 @@ impl<'a> Account<'a> {
     }
 }
 
-/// Whether the key at a place is in the state of this number, which is reached after fewer steps than are known
-/// to be done.
-fn is_behind(client: &Client<'_>, place: usize, state: u32) -> bool {
-    let count = client.plan().count();
-    if place >= count {
-        return false;
-    }
-    let done = client.done(place);
-    let key = &client.plan().keys()[place];
+/// Whether an object of the key in the state of this number has come less far than so many steps.
+fn is_behind(key: &Key, state: u32, done: usize) -> bool {
     matches!(place_of(key, state), Some(steps) if steps < done)
 }
 
-/// Whether this answer to a request says that the server does not have the object.
-fn is_missing(request: &Request, answer: Option<&Outcome>) -> bool {
-    matches!(
-        (&request.ask, answer),
-        (
-            Ask::GetAttributes(_),
-            Some(Outcome::Failed(Some(REASON_ITEM_NOT_FOUND)))
-        )
-    )
-}
-
-/// Appends the operation that a request asks, and the key that it is about.
-fn push_request(request: &Request, line: &mut String) -> Result<(), NoMemory> {
-    let name = name_of(request);
-    line.push_str(operation_word(request.ask.operation()))?;
-    line.push_str(" ")?;
-    line.push_str(from_utf8(name).unwrap_or(""))?;
-    Ok(())
-}
-
-/// Appends a reply to what was not asked.
-fn push_stranger(alloc: Global, reply: Option<&[u8]>, line: &mut Vec<u8>) -> Result<(), NoMemory> {
+/// Appends the replies of a message of which one is to what was not asked.
+fn push_strangers(alloc: Global, replies: &[Reply], line: &mut Vec<u8>) -> Result<(), NoMemory> {
     line.extend_from_slice(b"a reply to what was not asked: ")?;
-    push_answer(alloc, &[], reply, line)
+    push_replies(alloc, &[], replies, line)
 }

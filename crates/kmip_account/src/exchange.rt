@@ -1,95 +1,35 @@
-//! One exchange: what was asked, and what came of it.
+//! One exchange of a run: what was asked, and what came of it.
 
 use crate::silence::Silence;
-use crate::wire::Wire;
-use kmip_batch_items::{MessageFault, Outcome, Reply, Request};
-use kmip_messages::read_reply;
-use kmip_probe::version_in;
-use kmip_protocol::LinkFault;
-use kmip_trace::requests_in;
-use kmip_ttlv::{Bytes, NoMemory};
-use std::alloc::Global;
+use kmip_batch_items::{Outcome, Reply};
+use kmip_client::Part;
+use kmip_plan::Key;
+use kmip_ttlv::Bytes;
 
-/// What was asked in an exchange, and what came of it.
-#[derive(Drop)]
-pub(crate) struct Exchange {
-    pub(crate) requests: Vec<Request>,
-    pub(crate) replies: Vec<Reply>,
-    /// Why there is no reply that can be read, where there is none.
+/// What was asked about keys of a plan in an exchange, and what came of it.
+#[derive(Clone, Copy)]
+pub(crate) struct Exchange<'e> {
+    /// The keys of the plan.
+    pub(crate) keys: &'e [Key],
+    pub(crate) asked: &'e [Part],
+    /// The replies that came; none if there is a silence.
+    pub(crate) replies: &'e [Reply],
+    /// Why there is no reply that can be read, if there is none.
     pub(crate) silence: Option<Silence>,
 }
 
-impl Exchange {
-    /// What the bytes of a request asked, and what came of it, by what was noted of the streams.
-    ///
-    /// # Errors
-    /// Where there is no memory.
-    pub(crate) fn of(
-        alloc: Global,
-        request: &[u8],
-        answered: Result<Option<&[u8]>, LinkFault>,
-        wire: &Wire,
-    ) -> Result<Exchange, NoMemory> {
-        let requests = requests_in(alloc, request)?;
-        match answered {
-            Ok(Some(reply)) => Exchange::with_reply(alloc, requests, reply),
-            Ok(None) => Ok(Exchange::silent(alloc, requests, wire.silence(None))),
-            Err(fault) => Ok(Exchange::silent(alloc, requests, wire.silence(Some(fault)))),
-        }
+impl<'e> Exchange<'e> {
+    /// The key that a question is about.
+    pub(crate) fn key(&self, part: &Part) -> Option<&'e Key> {
+        self.keys.get(part.key)
     }
 
-    /// One that brought no reply that can be read.
-    fn silent(alloc: Global, requests: Vec<Request>, silence: Silence) -> Exchange {
-        Exchange {
-            requests,
-            replies: Vec::new(alloc),
-            silence: Some(silence),
-        }
-    }
-
-    /// One that brought these bytes.
-    fn with_reply(
-        alloc: Global,
-        requests: Vec<Request>,
-        reply: &[u8],
-    ) -> Result<Exchange, NoMemory> {
-        match read_reply(alloc, reply) {
-            Ok(replies) => Ok(Exchange {
-                requests,
-                replies,
-                silence: None,
-            }),
-            Err(MessageFault::NoMemory) => Err(NoMemory),
-            Err(fault) => Ok(Exchange::silent(alloc, requests, unreadable(fault, reply))),
-        }
-    }
-
-    /// The answer to a request, where one came.
-    pub(crate) fn answer(&self, request: &Request) -> Option<&Outcome> {
-        let id = id_bytes(&request.id);
-        let reply = self.replies.iter().find(|reply| id_bytes(&reply.id) == id)?;
+    /// The answer to a question, if one came.
+    pub(crate) fn answer(&self, part: &Part) -> Option<&'e Outcome> {
+        let key = self.key(part)?;
+        let replies = self.replies;
+        let reply = replies.iter().find(|reply| is_about(reply, part, key))?;
         Some(&reply.outcome)
-    }
-
-    /// How many of the replies are refusals.
-    pub(crate) fn refusals(&self) -> usize {
-        self.replies
-            .iter()
-            .filter(|reply| matches!(reply.outcome, Outcome::Failed(_)))
-            .count()
-    }
-
-    /// How many searches by name it answered.
-    pub(crate) fn found_names(&self) -> usize {
-        self.replies
-            .iter()
-            .filter(|reply| matches!(reply.outcome, Outcome::Located(_)))
-            .count()
-    }
-
-    /// Whether a message came that is no reply.
-    pub(crate) fn is_unreadable(&self) -> bool {
-        matches!(self.silence, Some(Silence::Unreadable(_, _)))
     }
 
     /// Whether a reply came to what was not asked.
@@ -97,45 +37,37 @@ impl Exchange {
         self.replies.iter().any(|reply| !self.is_asked(reply))
     }
 
-    /// Whether a reply is to one of the requests.
+    /// Whether a reply is to one of the questions.
     fn is_asked(&self, reply: &Reply) -> bool {
-        let id = id_bytes(&reply.id);
-        self.requests
-            .iter()
-            .any(|request| id_bytes(&request.id) == id)
+        self.asked.iter().any(|part| match self.key(part) {
+            Some(key) => is_about(reply, part, key),
+            None => false,
+        })
     }
 }
 
-/// Why bytes with this fault are no reply.
-fn unreadable(fault: MessageFault, reply: &[u8]) -> Silence {
-    let version = match fault {
-        MessageFault::Version => version_in(reply),
-        MessageFault::Ttlv(_)
-        | MessageFault::NotMessage
-        | MessageFault::BatchCount
-        | MessageFault::Missing(_)
-        | MessageFault::Twice(_)
-        | MessageFault::WrongType(_)
-        | MessageFault::OutOfRange(_)
-        | MessageFault::UnknownOperation
-        | MessageFault::NoMemory
-        | MessageFault::Undo => None,
-    };
-    Silence::Unreadable(fault, version)
+/// How many of some replies are refusals.
+pub(crate) fn refusals_in(replies: &[Reply]) -> usize {
+    replies
+        .iter()
+        .filter(|reply| matches!(reply.outcome, Outcome::Failed(_)))
+        .count()
 }
 
-/// The bytes of an id; none where there is none.
+/// Whether the id of a reply names the operation of a question in its first byte, and this key behind it.
+fn is_about(reply: &Reply, part: &Part, key: &Key) -> bool {
+    match id_bytes(&reply.id) {
+        [operation, name @ ..] => {
+            u32::from(*operation) == part.operation && name == key.attrs.name.as_str().as_bytes()
+        }
+        [] => false,
+    }
+}
+
+/// The bytes of an id; none if there is none.
 fn id_bytes(id: &Option<Bytes>) -> &[u8] {
     match id {
         Some(id) => id.as_slice(),
         None => &[],
-    }
-}
-
-/// The name of the key that a request is about: it stands in its id after the operation.
-pub(crate) fn name_of(request: &Request) -> &[u8] {
-    match id_bytes(&request.id) {
-        [_, name @ ..] => name,
-        [] => &[],
     }
 }

@@ -1,6 +1,7 @@
 //! What a command reports of its exchanges with a server, on standard error.
 
-use crate::exchange::Exchange;
+use crate::answer::Answer;
+use crate::exchange::refusals_in;
 use crate::exchange_line::exchange_line;
 use crate::progress_line::ProgressLine;
 use crate::reach::Reach;
@@ -139,13 +140,13 @@ impl<'a> ExchangeLog<'a> {
     /// An exchange was made: the bytes that were sent, and what came of it. Reports it in words. Returns how
     /// many searches by name it answered.
     pub fn exchanged(&self, request: &[u8], answered: Result<Option<&[u8]>, LinkFault>) -> usize {
-        let found = match Exchange::of(self.rt.alloc(), request, answered, &self.wire) {
-            Ok(exchange) => {
-                self.note(&exchange, false);
+        let found = match Answer::of(self.rt.alloc(), answered, &self.wire) {
+            Ok(answer) => {
+                self.note(answer.silence(), refusals_in(answer.replies()), false);
                 if self.is_verbose {
-                    let _ = self.report_in_words(request, answered, &exchange);
+                    let _ = self.report_in_words(request, answered, answer.silence());
                 }
-                exchange.found_names()
+                answer.found_names()
             }
             Err(NoMemory) => 0,
         };
@@ -153,15 +154,16 @@ impl<'a> ExchangeLog<'a> {
         found
     }
 
-    /// Counts an exchange, and reports that the server stopped or began to reply. `is_last` is that none follows.
-    pub(crate) fn note(&self, exchange: &Exchange, is_last: bool) {
+    /// Counts an exchange, and reports that the server stopped or began to reply. `refusals` is how many of its
+    /// replies are refusals, and `is_last` that no exchange follows.
+    pub(crate) fn note(&self, silence: Option<Silence>, refusals: usize, is_last: bool) {
         let now = Instant::now(self.rt).ok();
-        self.count(exchange);
-        if exchange.silence.is_none() {
+        self.count(silence, refusals);
+        if silence.is_none() {
             self.answered.set(now);
         }
         let mut reach = self.reach.replace(Reach::new());
-        let _ = self.report_reach(&mut reach, exchange.silence, now, is_last);
+        let _ = self.report_reach(&mut reach, silence, now, is_last);
         self.reach.set(reach);
     }
 
@@ -198,13 +200,13 @@ impl<'a> ExchangeLog<'a> {
     }
 
     /// Counts an exchange.
-    fn count(&self, exchange: &Exchange) {
+    fn count(&self, silence: Option<Silence>, refusals: usize) {
         let spent = self.spent.get();
-        let lost = if exchange.silence.is_some() { 1 } else { 0 };
+        let lost = if silence.is_some() { 1 } else { 0 };
         self.spent.set(Spent {
             exchanges: spent.exchanges.saturating_add(1),
             lost: spent.lost.saturating_add(lost),
-            refused: spent.refused.saturating_add(exchange.refusals()),
+            refused: spent.refused.saturating_add(refusals),
             seconds: self.elapsed().as_secs(),
         });
     }
@@ -322,12 +324,12 @@ impl<'a> ExchangeLog<'a> {
         &self,
         request: &[u8],
         answered: Result<Option<&[u8]>, LinkFault>,
-        exchange: &Exchange,
+        silence: Option<Silence>,
     ) -> Result<(), NoMemory> {
         let alloc = self.rt.alloc();
         let now = Instant::now(self.rt).ok();
         let mut line = self.time_text(now)?;
-        match exchange.silence {
+        match silence {
             Some(silence) => {
                 let why = silence.told(alloc, self.timeout)?;
                 let words = exchange_line(alloc, request, None, Some(why.as_str()))?;

@@ -1,13 +1,11 @@
 //! What a run finds out of the keys of its plan.
 
-use crate::exchange::{Exchange, name_of};
-use crate::places::Places;
+use crate::exchange::Exchange;
 use crate::score::Score;
 use crate::stage::Stage;
 use crate::story::Story;
-use crate::taught::Taught;
-use kmip_batch_items::Request;
-use kmip_client::Client;
+use kmip_batch_items::Operation;
+use kmip_client::{Client, Part};
 use kmip_plan::{Key, Plan};
 use kmip_plan_commands::{RunTally, Spent, begin};
 use kmip_progress::ProgressFault;
@@ -15,43 +13,40 @@ use kmip_tally::Standing;
 use kmip_ttlv::NoMemory;
 use std::alloc::Global;
 
-/// What a run finds out of the keys of its plan. While the run works, its `Watch` has them alone.
+/// What a run finds out of the keys of its plan. While the run works, its `RunObserver` has them alone.
 #[derive(Drop)]
 pub struct Findings {
-    places: Places,
     /// What was heard of each key, in the order of the plan.
     stories: Vec<Story>,
     score: Score,
-    /// Whether all that the client knows was taken in once: it may have begun with a saved progress.
-    has_known: bool,
+    /// Whether what the client knows of any key may be new: at first, and after a reply to what was not asked.
+    is_any_new: bool,
 }
 
 impl Findings {
     /// Of a run of this plan that begins with the text of this progress: nothing yet.
     ///
     /// # Errors
-    /// Where there is no memory.
+    /// If memory runs out.
     pub fn new(alloc: Global, plan: &Plan, saved: Option<&str>) -> Result<Self, NoMemory> {
-        let places = Places::of(alloc, plan.keys())?;
         let stories = stories_of(alloc, plan, saved)?;
         let score = Score::new(alloc, plan, saved)?;
         Ok(Findings {
-            places,
             stories,
             score,
-            has_known: false,
+            is_any_new: true,
         })
     }
 
-    /// How the keys stand by what is known; none where the progress that the run is to begin with is
-    /// refused.
+    /// How the keys stand by what is known; none if the progress that the run is to begin with is refused.
     pub fn standing(&self) -> Option<Standing> {
         self.score.standing()
     }
 
-    /// The place of the key that a request is about, from 0; none if it is about no key of the plan.
-    pub(crate) fn place(&self, request: &Request) -> Option<usize> {
-        self.places.place(request)
+    /// How many steps of the key at a place were known after the exchange before; none if the plan has no key there.
+    pub(crate) fn done(&self, place: usize) -> Option<usize> {
+        let story = self.stories.get(place)?;
+        Some(story.done())
     }
 
     /// What was heard of each key, in the order of the plan.
@@ -59,22 +54,27 @@ impl Findings {
         self.stories.as_slice()
     }
 
-    /// Takes in these exchanges. What was heard is left out if there is no memory to note it.
-    pub(crate) fn take_in(&mut self, alloc: Global, exchanges: &[Exchange]) {
-        for exchange in exchanges {
-            self.score.count(&self.places, exchange);
-            let _ = self.hear(alloc, exchange);
+    /// Takes in an exchange. What was heard is left out if there is no memory to note it.
+    pub(crate) fn hear(&mut self, alloc: Global, exchange: &Exchange<'_>) {
+        self.score.count(exchange);
+        if exchange.has_stranger() {
+            self.is_any_new = true;
+        }
+        for part in exchange.asked {
+            let _ = self.hear_part(alloc, exchange, part);
         }
     }
 
-    /// Takes in these exchanges, and what the client knows after them.
-    pub(crate) fn learn(&mut self, alloc: Global, exchanges: &[Exchange], client: &Client<'_>) {
-        self.take_in(alloc, exchanges);
-        match self.taught(alloc, exchanges) {
-            Taught::Asked(places) if self.has_known => self.know_of(client, places.as_slice()),
-            Taught::Asked(_) | Taught::Any => self.know_all(client),
+    /// Takes in what the client knows after an exchange that asked these questions.
+    pub(crate) fn learn(&mut self, client: &Client<'_>, asked: &[Part]) {
+        if self.is_any_new {
+            self.know_all(client);
+            self.is_any_new = false;
+            return;
         }
-        self.has_known = true;
+        for part in asked {
+            self.know_key(client, part.key);
+        }
     }
 
     /// Takes in what the client knows of each key.
@@ -88,7 +88,7 @@ impl Findings {
     /// The tally of a run of these keys that has spent so much.
     ///
     /// # Errors
-    /// Where there is no memory.
+    /// If memory runs out.
     pub(crate) fn tally(
         &self,
         alloc: Global,
@@ -99,36 +99,28 @@ impl Findings {
         self.score.tally(alloc, keys, spent, milliseconds)
     }
 
-    /// Notes what was heard of each key that an exchange asked about.
+    /// Notes what was heard of the key that a question of an exchange is about.
     ///
     /// # Errors
-    /// Where there is no memory.
-    fn hear(&mut self, alloc: Global, exchange: &Exchange) -> Result<(), NoMemory> {
-        let stories = self.stories.as_mut_slice();
-        for request in &exchange.requests {
-            keep_request(alloc, &self.places, stories, exchange, request)?;
+    /// If memory runs out.
+    fn hear_part(
+        &mut self,
+        alloc: Global,
+        exchange: &Exchange<'_>,
+        part: &Part,
+    ) -> Result<(), NoMemory> {
+        let (Some(key), Some(operation)) = (
+            exchange.key(part),
+            Operation::with_number(part.operation),
+        ) else {
+            return Ok(());
+        };
+        let place = part.key;
+        if place < self.stories.len() {
+            let name = key.attrs.name.as_str().as_bytes();
+            self.stories[place].hear(alloc, operation, name, exchange.answer(part))?;
         }
         Ok(())
-    }
-
-    /// Of which keys these exchanges may have told.
-    fn taught(&self, alloc: Global, exchanges: &[Exchange]) -> Taught {
-        match exchanges {
-            [exchange] if exchange.silence.is_none() => {
-                match self.places.places(alloc, exchange.requests.as_slice()) {
-                    Ok(places) => Taught::Asked(places),
-                    Err(NoMemory) => Taught::Any,
-                }
-            }
-            _ => Taught::Any,
-        }
-    }
-
-    /// Takes in what the client knows of the keys at these places.
-    fn know_of(&mut self, client: &Client<'_>, places: &[usize]) {
-        for place in places {
-            self.know_key(client, *place);
-        }
     }
 
     /// Takes in what the client knows of the key at a place.
@@ -163,23 +155,4 @@ fn stories_of(alloc: Global, plan: &Plan, saved: Option<&str>) -> Result<Vec<Sto
         Err(ProgressFault::NoMemory) => Err(NoMemory),
         Err(_) => Ok(stories),
     }
-}
-
-/// Notes what was heard of the key that a request is about.
-fn keep_request(
-    alloc: Global,
-    places: &Places,
-    stories: &mut [Story],
-    exchange: &Exchange,
-    request: &Request,
-) -> Result<(), NoMemory> {
-    let Some(place) = places.place(request) else {
-        return Ok(());
-    };
-    let name = name_of(request);
-    if place < stories.len() {
-        let operation = request.ask.operation();
-        stories[place].hear(alloc, operation, name, exchange.answer(request))?;
-    }
-    Ok(())
 }

@@ -1,22 +1,23 @@
-//! When a server last replied to a run, and when a run last finished.
+//! When a server last replied, and when all keys were last finished.
 
-use crate::metrics::{LAST_ANSWER, LAST_FINISH};
-
-/// When something was so last, in seconds since the start of 1970, each if it is known.
+/// When a server last replied to a command, and when the command last found all keys finished, in seconds since the
+/// start of 1970, each if it is known.
 #[derive(Clone, Copy)]
 pub struct LastTimes {
-    /// When the server replied.
     pub answer: Option<u64>,
-    /// When a run that the server replied to ended with all keys finished.
     pub finish: Option<u64>,
 }
 
 impl LastTimes {
-    /// The times in a text of metrics that was written before, each if it is there.
-    pub fn of_text(text: &str) -> LastTimes {
+    /// The times after a command that ends `now`, to which the server last replied `answered` seconds ago, if it
+    /// replied. If it did not, the times of before stay.
+    pub fn renewed(self, now: u64, answered: Option<u64>, is_finished: bool) -> LastTimes {
+        let Some(answered) = answered else {
+            return self;
+        };
         LastTimes {
-            answer: LAST_ANSWER.value_in(text),
-            finish: LAST_FINISH.value_in(text),
+            answer: Some(now.saturating_sub(answered)),
+            finish: if is_finished { Some(now) } else { self.finish },
         }
     }
 }

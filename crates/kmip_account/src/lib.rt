@@ -3,7 +3,7 @@
 //! `ExchangeLog` reports the exchanges with a server: why no reply comes, when the server replies again, and
 //! each exchange with `--verbose`. `Wire` notes what comes over the streams of an exchange, and a `Noted`
 //! stream is its own otherwise. `Account` is that of a run: how far it is, and what was heard of each key
-//! that is not finished. `Teller` hands it the exchanges. `Watch` takes them on to `Findings`, with what is
+//! that is not finished. `RunObserver` gives each exchange of a run to it and to `Findings`, with what is
 //! known after each. An account also counts: its tally is a `RunTally`, and `Metrics` is that as a text.
 //! Which steps the run took, and the status of the keys, is found out by kmip_tally.
 //!
@@ -13,7 +13,9 @@
 #![tactic(auto)]
 
 mod account;
+mod answer;
 mod answers;
+mod asked;
 mod counts;
 mod exchange;
 mod exchange_line;
@@ -23,15 +25,14 @@ mod findings;
 mod last_times;
 mod look_counts;
 mod look_metrics;
-mod look_times;
 mod metric;
 mod metrics;
 mod noted;
 mod peer_talk;
-mod places;
 mod progress_line;
 mod reach;
 mod reasons;
+mod run_observer;
 mod sample_text;
 mod score;
 mod setback;
@@ -39,10 +40,6 @@ mod silence;
 mod spell;
 mod stage;
 mod story;
-mod taught;
-mod teller;
-mod untaken;
-mod watch;
 mod wire;
 
 pub use account::Account;
@@ -53,8 +50,6 @@ pub use findings::Findings;
 pub use last_times::LastTimes;
 pub use look_counts::LookCounts;
 pub use look_metrics::LookMetrics;
-pub use look_times::LookTimes;
 pub use metrics::Metrics;
 pub use noted::Noted;
-pub use teller::Teller;
-pub use watch::Watch;
+pub use run_observer::RunObserver;

@@ -1,7 +1,7 @@
 //! What is counted of a look, as a text for a collector of metrics.
 
+use crate::last_times::LastTimes;
 use crate::look_counts::LookCounts;
-use crate::look_times::LookTimes;
 use crate::metric::Metric;
 use crate::sample_text::SampleText;
 use kmip_plan_commands::Spent;
@@ -19,12 +19,12 @@ const EXCHANGES: Metric = Metric(
 
 const SECONDS: Metric = Metric("look_seconds", "How long this look took.");
 
-pub(crate) const LAST_ANSWER: Metric = Metric(
+const LAST_ANSWER: Metric = Metric(
     "look_last_answer_timestamp_seconds",
     "When the server last replied to a look, in seconds since the start of 1970.",
 );
 
-pub(crate) const LAST_FINISH: Metric = Metric(
+const LAST_FINISH: Metric = Metric(
     "look_last_finish_timestamp_seconds",
     "When a look last found all keys finished, in seconds since the start of 1970.",
 );
@@ -37,10 +37,18 @@ pub struct LookMetrics<'a> {
     pub counts: LookCounts,
     pub spent: Spent,
     pub milliseconds: u64,
-    pub last: LookTimes,
+    pub last: LastTimes,
 }
 
 impl<'a> LookMetrics<'a> {
+    /// The times in a text of metrics of a look that was written before.
+    pub fn last_times(text: &str) -> LastTimes {
+        LastTimes {
+            answer: LAST_ANSWER.value_in(text),
+            finish: LAST_FINISH.value_in(text),
+        }
+    }
+
     /// The text: metrics in the text format of Prometheus, as those of a run, under other names.
     ///
     /// # Errors

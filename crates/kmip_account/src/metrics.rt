@@ -39,12 +39,12 @@ const PLAN_INFO: Metric = Metric(
     "1 for the plan of this run, by the first 16 hexadecimal digits of the SHA-256 of its file.",
 );
 
-pub(crate) const LAST_ANSWER: Metric = Metric(
+const LAST_ANSWER: Metric = Metric(
     "last_answer_timestamp_seconds",
     "When the server last replied to a run, in seconds since the start of 1970.",
 );
 
-pub(crate) const LAST_FINISH: Metric = Metric(
+const LAST_FINISH: Metric = Metric(
     "last_finish_timestamp_seconds",
     "When a run that the server replied to last ended with all keys finished, in seconds since the start of 1970.",
 );
@@ -66,6 +66,14 @@ pub struct Metrics<'a> {
 }
 
 impl<'a> Metrics<'a> {
+    /// The times in a text of metrics of a run that was written before.
+    pub fn last_times(text: &str) -> LastTimes {
+        LastTimes {
+            answer: LAST_ANSWER.value_in(text),
+            finish: LAST_FINISH.value_in(text),
+        }
+    }
+
     /// The text: metrics in the text format of Prometheus, which the textfile collector of node_exporter
     /// reads. Each metric is a gauge, with a line of help and one of its type. A time that is not known is
     /// left out.

@@ -1,10 +1,9 @@
 //! What is counted of a run beside what its progress line shows.
 
 use crate::exchange::Exchange;
-use crate::places::Places;
 use crate::stage::Stage;
-use kmip_batch_items::Request;
-use kmip_client::Client;
+use kmip_batch_items::Operation;
+use kmip_client::{Client, Part};
 use kmip_plan::{Key, Plan};
 use kmip_plan_commands::{RunTally, Spent, begin};
 use kmip_progress::ProgressFault;
@@ -51,13 +50,13 @@ impl Score {
         Some(verdicts.standing())
     }
 
-    /// Counts an exchange about keys that stand at these places.
-    pub(crate) fn count(&mut self, places: &Places, exchange: &Exchange) {
+    /// Counts an exchange.
+    pub(crate) fn count(&mut self, exchange: &Exchange<'_>) {
         let courses = self.courses.as_mut_slice();
-        for request in &exchange.requests {
-            note_asked(places, courses, request);
+        for part in exchange.asked {
+            note_asked(courses, part);
         }
-        if exchange.is_unreadable() {
+        if matches!(exchange.silence, Some(silence) if silence.is_unreadable()) {
             self.unreadable = self.unreadable.saturating_add(1);
         }
     }
@@ -122,11 +121,11 @@ fn begin_courses(client: &Client<'_>, courses: &mut [Course]) {
     }
 }
 
-/// Notes in the course of the key that a request is about what it asks.
-fn note_asked(places: &Places, courses: &mut [Course], request: &Request) {
-    if let Some(place) = places.place(request) {
-        if place < courses.len() {
-            courses[place].ask(request.ask.operation());
+/// Notes in the course of the key that a question is about what it asks.
+fn note_asked(courses: &mut [Course], part: &Part) {
+    if let Some(operation) = Operation::with_number(part.operation) {
+        if part.key < courses.len() {
+            courses[part.key].ask(operation);
         }
     }
 }

@@ -3,7 +3,7 @@
 use crate::failure::Failure;
 use crate::peer_talk::PeerTalk;
 use kmip_batch_items::MessageFault;
-use kmip_probe::ProtocolVersion;
+use kmip_probe::{ProtocolVersion, version_in};
 use kmip_ttlv::{MAX_SIZE, NoMemory};
 use std::alloc::Global;
 use std::io::Error;
@@ -24,6 +24,29 @@ pub(crate) enum Silence {
 }
 
 impl Silence {
+    /// That bytes with this fault came, which are not a message of replies.
+    pub(crate) fn unreadable(fault: MessageFault, reply: &[u8]) -> Silence {
+        let version = match fault {
+            MessageFault::Version => version_in(reply),
+            MessageFault::Ttlv(_)
+            | MessageFault::NotMessage
+            | MessageFault::BatchCount
+            | MessageFault::Missing(_)
+            | MessageFault::Twice(_)
+            | MessageFault::WrongType(_)
+            | MessageFault::OutOfRange(_)
+            | MessageFault::UnknownOperation
+            | MessageFault::NoMemory
+            | MessageFault::Undo => None,
+        };
+        Silence::Unreadable(fault, version)
+    }
+
+    /// Whether a message came that is no reply.
+    pub(crate) fn is_unreadable(self) -> bool {
+        matches!(self, Silence::Unreadable(_, _))
+    }
+
     /// Why, in words, if an exchange takes this number of seconds at most.
     ///
     /// # Errors

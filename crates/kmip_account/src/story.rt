@@ -86,6 +86,11 @@ impl Story {
         self.stage = stage;
     }
 
+    /// How many steps of the key are known to have taken effect.
+    pub(crate) fn done(&self) -> usize {
+        self.stage.done
+    }
+
     /// Whether the key is finished.
     pub(crate) fn is_finished(&self) -> bool {
         self.stage.verdict == Verdict::Finished

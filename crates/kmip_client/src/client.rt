@@ -36,6 +36,7 @@ use crate::batching::{next_places, question_at};
 use crate::bounding::most_left;
 use crate::heard::Heard;
 use crate::hearing::hear_message;
+use crate::listener::Listener;
 use crate::question::Question;
 use crate::saving::{all_knowledge, all_known, count_working};
 use crate::verdicts::{all_counts, all_verdicts, tells, verdict_of};
@@ -206,12 +207,16 @@ impl<'p> Client<'p> {
     /// was asked last. A reply that is refused teaches nothing itself, and its member of the list
     /// says why: the first fault in the order of `HearFault`. The bytes may be any.
     ///
+    /// The listener is lent the replies once before anything is learnt from them, unless the call fails. No
+    /// clause says anything of the listener.
+    ///
     /// # Errors
     /// `Unreadable` where the bytes are no message of replies, and `NoMemory`.
-    pub fn hear(
+    pub fn hear<O: Listener>(
         &mut self,
         alloc: Global,
         bytes: &[u8],
+        listener: &mut O,
     ) -> Result<Vec<Result<Heard, HearFault>>, HearFault>
         // What is heard of each reply, and what is known after them all, is what hearing one after the other
         // gives.
@@ -239,7 +244,7 @@ impl<'p> Client<'p> {
         let keys = self.plan.keys();
         let likely = self.next.saturating_sub(1);
         let (knowns, working) = (&mut self.knowns, &mut self.working);
-        hear_message(alloc, keys, knowns, working, likely, bytes)
+        hear_message(alloc, keys, knowns, working, likely, bytes, listener)
     }
 
     /// How many steps of the key at a place from 0 are known to have taken effect. Takes no memory.

@@ -11,6 +11,7 @@ ghost use Rattle.kmip_client.specs.Hearing.{is_other_operation, has_failed, has_
 ghost use Rattle.kmip_client.specs.Private.{unheard, HearsOne};
 
 use crate::heard::Heard;
+use crate::listener::Listener;
 use crate::news::News;
 use crate::subject::{Subject, subject_of};
 use crate::{HearFault, Knowledge, learn};
@@ -20,17 +21,19 @@ use kmip_plan::Key;
 use std::alloc::Global;
 
 /// Learns from each reply of a message in turn, and gives what was heard of each. One that is
-/// refused changes nothing itself. (There are at most eight, so taking the first moves few.)
+/// refused changes nothing itself. (There are at most eight, so taking the first moves few.) The listener
+/// is lent the replies before that, unless the call fails.
 ///
 /// # Errors
 /// `Unreadable` where the bytes are no message of replies, and `NoMemory`; nothing is learnt then.
-pub(crate) fn hear_message(
+pub(crate) fn hear_message<O: Listener>(
     alloc: Global,
     keys: &[Key],
     knowns: &mut Vec<Knowledge>,
     working: &mut usize,
     likely: usize,
     bytes: &[u8],
+    listener: &mut O,
 ) -> Result<Vec<Result<Heard, HearFault>>, HearFault>
     requires lawful { IsLawful keys.now }
     requires counted { working.old ≡ working_count keys.now knowns.old.items }
@@ -51,6 +54,7 @@ pub(crate) fn hear_message(
     let Ok(mut heard) = Vec::with_capacity(alloc, replies.len()) else {
         return Err(HearFault::NoMemory);
     };
+    listener.replied(replies.as_slice());
     while !replies.is_empty() {
         let reply = replies.remove(0);
         let subject = subject_of(keys, likely, &reply.id);

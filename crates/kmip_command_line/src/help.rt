@@ -1,4 +1,6 @@
 //! The texts of the help.
+//!
+//! A `.._USAGE` is the usage that the parser would print in the help, wrapped at 80 columns.
 
 pub(crate) const ABOUT: &str = "\
 kmipctl makes sure that the symmetric keys in a plan exist on a KMIP 2.1 server;
@@ -139,6 +141,8 @@ Exit status:
   1  it did not, the plan or the script is wrong, or something failed
   2  the command line is wrong";
 
+pub(crate) const SIM_USAGE: &str = "kmipctl sim [OPTIONS] --plan <PATH> --script <PATH>";
+
 pub(crate) const PLAN: &str = "Plan file; - for standard input [env: KMIPCTL_PLAN]";
 
 pub(crate) const SCRIPT: &str = "Script of the network, one word per line";
@@ -189,6 +193,10 @@ Exit status:
   1  a key is not finished, or something was refused or failed
   2  the command line is wrong";
 
+pub(crate) const RUN_USAGE: &str = "\
+kmipctl run [OPTIONS] --plan <PATH> --progress <PATH>
+       <--connect <ADDRESS>|--socket <PATH>|--loopback>";
+
 pub(crate) const LIST: &str = "Show the status of each key by the progress file alone";
 
 pub(crate) const LIST_LONG: &str = "\
@@ -238,6 +246,10 @@ Exit status:
   1  a requirement is not met or could not be checked, or something failed
   2  the command line is wrong";
 
+pub(crate) const PROBE_USAGE: &str = "\
+kmipctl probe [OPTIONS] --name-prefix <PREFIX>
+       <--connect <ADDRESS>|--socket <PATH>|--loopback>";
+
 pub(crate) const LOOK: &str = "Show the status of each key on a server, and change nothing";
 
 pub(crate) const LOOK_LONG: &str = "\
@@ -263,6 +275,10 @@ Exit status:
   1  a key is not finished or its status is not known, or something failed
   2  the command line is wrong";
 
+pub(crate) const LOOK_USAGE: &str = "\
+kmipctl look [OPTIONS] --plan <PATH>
+       <--connect <ADDRESS>|--socket <PATH>|--loopback>";
+
 pub(crate) const LOOK_GIVE_UP: &str = "Silence limit, 0 to 86400, 0 for none";
 
 pub(crate) const NAME_PREFIX: &str = "Prefix of both names, 1 to 62 printable characters";
@@ -283,6 +299,8 @@ Exit status:
   0  all connections were served
   1  the port is not free, or something failed
   2  the command line is wrong";
+
+pub(crate) const SERVE_USAGE: &str = "kmipctl serve [OPTIONS] --port <PORT> --connections <N>";
 
 pub(crate) const COMPLETIONS: &str = "Print a script that lets a shell complete command lines";
 

@@ -7,8 +7,8 @@ use crate::command_option::{
 use crate::environment::Environment;
 use crate::help::{
     ABOUT, AFTER_HELP, ANSWER, ANSWER_LONG, CHECK, CHECK_LONG, COMPLETIONS, COMPLETIONS_LONG, LIST,
-    LIST_LONG, LOOK, LOOK_LONG, PROBE, PROBE_LONG, RUN, RUN_LONG, SERVE, SERVE_LONG, SHOW,
-    SHOW_LONG, SIM, SIM_LONG,
+    LIST_LONG, LOOK, LOOK_LONG, LOOK_USAGE, PROBE, PROBE_LONG, PROBE_USAGE, RUN, RUN_LONG,
+    RUN_USAGE, SERVE, SERVE_LONG, SERVE_USAGE, SHOW, SHOW_LONG, SIM, SIM_LONG, SIM_USAGE,
 };
 use crate::wrong_value::WrongValue;
 use clap::error::ErrorKind;
@@ -35,6 +35,9 @@ pub(crate) struct Subcommand {
     /// Its help in a line, and in full.
     pub(crate) about: &'static str,
     long_about: &'static str,
+    /// Its usage, if the parser's own could be wider than 80 columns: after an error that one names each
+    /// option that was given.
+    usage: Option<&'static str>,
     pub(crate) options: &'static [CommandOption],
     /// Whether one of three options has to say where the server is.
     asks_a_server: bool,
@@ -46,6 +49,7 @@ const ANSWER_COMMAND: Subcommand = Subcommand {
     name: "answer",
     about: ANSWER,
     long_about: ANSWER_LONG,
+    usage: None,
     options: &ANSWER_OPTIONS,
     asks_a_server: false,
     keeps_progress: false,
@@ -55,6 +59,7 @@ const SHOW_COMMAND: Subcommand = Subcommand {
     name: "show",
     about: SHOW,
     long_about: SHOW_LONG,
+    usage: None,
     options: &SHOW_OPTIONS,
     asks_a_server: false,
     keeps_progress: false,
@@ -64,6 +69,7 @@ const CHECK_COMMAND: Subcommand = Subcommand {
     name: "check",
     about: CHECK,
     long_about: CHECK_LONG,
+    usage: None,
     options: &CHECK_OPTIONS,
     asks_a_server: false,
     keeps_progress: false,
@@ -73,6 +79,7 @@ const SIM_COMMAND: Subcommand = Subcommand {
     name: "sim",
     about: SIM,
     long_about: SIM_LONG,
+    usage: Some(SIM_USAGE),
     options: &SIM_OPTIONS,
     asks_a_server: false,
     keeps_progress: false,
@@ -82,6 +89,7 @@ const RUN_COMMAND: Subcommand = Subcommand {
     name: "run",
     about: RUN,
     long_about: RUN_LONG,
+    usage: Some(RUN_USAGE),
     options: &RUN_OPTIONS,
     asks_a_server: true,
     keeps_progress: true,
@@ -91,6 +99,7 @@ const LIST_COMMAND: Subcommand = Subcommand {
     name: "list",
     about: LIST,
     long_about: LIST_LONG,
+    usage: None,
     options: &LIST_OPTIONS,
     asks_a_server: false,
     keeps_progress: false,
@@ -100,6 +109,7 @@ const PROBE_COMMAND: Subcommand = Subcommand {
     name: "probe",
     about: PROBE,
     long_about: PROBE_LONG,
+    usage: Some(PROBE_USAGE),
     options: &PROBE_OPTIONS,
     asks_a_server: true,
     keeps_progress: false,
@@ -109,6 +119,7 @@ const LOOK_COMMAND: Subcommand = Subcommand {
     name: "look",
     about: LOOK,
     long_about: LOOK_LONG,
+    usage: Some(LOOK_USAGE),
     options: &LOOK_OPTIONS,
     asks_a_server: true,
     keeps_progress: false,
@@ -118,6 +129,7 @@ const SERVE_COMMAND: Subcommand = Subcommand {
     name: "serve",
     about: SERVE,
     long_about: SERVE_LONG,
+    usage: Some(SERVE_USAGE),
     options: &SERVE_OPTIONS,
     asks_a_server: false,
     keeps_progress: false,
@@ -127,6 +139,7 @@ const COMPLETIONS_COMMAND: Subcommand = Subcommand {
     name: "completions",
     about: COMPLETIONS,
     long_about: COMPLETIONS_LONG,
+    usage: None,
     options: &COMPLETIONS_OPTIONS,
     asks_a_server: false,
     keeps_progress: false,
@@ -228,6 +241,9 @@ fn command_of<'a>(
     let mut made = Command::new(alloc, command.name)
         .about(command.about)
         .long_about(command.long_about);
+    if let Some(usage) = command.usage {
+        made = made.override_usage(usage);
+    }
     for option in command.options {
         made = made.arg(arg_of(alloc, option, environment)?)?;
     }

@@ -2,7 +2,7 @@
 ghost use Rattle.std.specs.Prelude.{◌≡◌, IfOk};
 ghost use Rattle.kmip_plan_commands.specs.RunText.{is_end_refused};
 
-use kmip_account::Watch;
+use kmip_account::RunObserver;
 use kmip_json::{push_progress_fault, push_run};
 use kmip_plan_commands::{RunEnd, Unanswered};
 use kmip_trouble::{Cannot, push_told};
@@ -10,7 +10,7 @@ use kmip_ttlv::NoMemory;
 use std::alloc::Global;
 use std::io::Error;
 
-/// Appends the documents of the end of a run that was watched, whose progress is kept at the path, and
+/// Appends the documents of the end of a run that was observed, whose progress is kept at the path, and
 /// of a look before it that was perhaps not answered. Says whether something was refused, not kept or left
 /// unfinished.
 ///
@@ -20,7 +20,7 @@ use std::io::Error;
 /// Where there is no memory for them.
 pub(crate) fn push_end(
     alloc: Global,
-    watch: &mut Watch<'_>,
+    observer: &mut RunObserver<'_>,
     path: &str,
     failure: Option<&Error>,
     end: &RunEnd<'_>,
@@ -33,7 +33,7 @@ pub(crate) fn push_end(
         RunEnd::Refused(fault) => push_progress_fault(alloc, *fault, text)?,
         RunEnd::Unwritten => push_unwritten(alloc, path, failure, text)?,
         RunEnd::Stopped { client, stop, .. } => {
-            let mut tally = watch.tally(client)?;
+            let mut tally = observer.tally(client)?;
             tally.unanswered = unanswered;
             push_run(alloc, client, *stop, &tally, text)?;
         }

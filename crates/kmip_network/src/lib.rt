@@ -19,7 +19,6 @@ mod last_answer;
 mod linking;
 mod logged_dial;
 mod look_pause;
-mod look_then_run;
 mod look_watcher;
 mod looking;
 mod overheard;
@@ -32,6 +31,7 @@ mod saying;
 mod serving;
 mod serving_at_once;
 mod unmarked;
+mod until_run;
 mod watcher;
 
 pub use looking::look_at_server;

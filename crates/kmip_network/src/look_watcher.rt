@@ -5,7 +5,7 @@ use crate::looking::MARK_BYTES;
 use crate::unmarked::{unmarked_reply, unmarked_request};
 use kmip_account::ExchangeLog;
 use kmip_protocol::LinkFault;
-use kmip_runs::Observer;
+use kmip_runs::LinkObserver;
 use std::cell::Cell;
 
 /// Notes when an answer came, and gives each exchange to the log. The mark of the look, which is in the ids of
@@ -86,7 +86,7 @@ impl<'a> LookWatcher<'a> {
     }
 }
 
-impl<'a> Observer for LookWatcher<'a> {
+impl<'a> LinkObserver for LookWatcher<'a> {
     fn exchanged(&mut self, request: &[u8], answered: Result<Option<&[u8]>, LinkFault>) {
         if let Ok(Some(_)) = answered {
             self.last.note(self.log.rt());

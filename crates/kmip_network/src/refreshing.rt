@@ -7,12 +7,12 @@ use crate::disagreeing::{contradiction, report_unanswered};
 use crate::ending::push_end;
 use crate::last_answer::LastAnswer;
 use crate::look_pause::LookPause;
-use crate::look_then_run::LookThenRun;
 use crate::look_watcher::LookWatcher;
 use crate::looking::{MARK_BYTES, new_mark, printed, tell_given_up};
 use crate::repeating::Repeating;
 use crate::running::{first_wait, tell_end};
-use kmip_account::{Account, Findings, Teller, Watch};
+use crate::until_run::UntilRun;
+use kmip_account::{Account, Findings, RunObserver};
 use kmip_choices::{Format, RunOptions};
 use kmip_look::{Pause, Why};
 use kmip_message_commands::{CommandFault, ExitStatus, finished};
@@ -22,7 +22,7 @@ use kmip_refresh::{
     Agreement, Beginning, KeyLook, Refresh, RefreshOutcome, Refreshed, run_refreshed,
 };
 use kmip_run_files::{MachineKeeper, Start};
-use kmip_runs::Observed;
+use kmip_runs::{Observed, Pace};
 use kmip_trouble::{Obstacle, Trouble, print_documents, standard_output};
 use kmip_ttlv::NoMemory;
 use std::cell::Cell;
@@ -44,7 +44,8 @@ impl<'a> Refreshing<'a> {
         &self,
         input: &RunInput<'_>,
         keeper: &MachineKeeper<'_>,
-        watch: &mut Watch<'_>,
+        observer: &mut RunObserver<'_>,
+        has_given_up: bool,
         ended: Result<Refreshed<'_>, NoMemory>,
         unbegun: Option<Trouble>,
     ) -> Result<ExitStatus, Trouble> {
@@ -60,14 +61,15 @@ impl<'a> Refreshing<'a> {
             RefreshOutcome::Contradicted => Err(self.contradiction(looks)?),
             RefreshOutcome::Unanswered(end) => {
                 let unanswered = unanswered(looks);
-                let status = self.print(input, keeper, watch, end, unanswered)?;
+                let status = self.print(input, keeper, observer, end, unanswered)?;
                 report_unanswered(self.account, looks);
                 Ok(status)
             }
             RefreshOutcome::NotBegun => self.out_of_memory(), // why it was not begun is told above
             RefreshOutcome::Ran(end) => {
-                let status = self.print(input, keeper, watch, end, None)?;
-                tell_end(self.account, keeper, watch, status);
+                let status = self.print(input, keeper, observer, end, None)?;
+                let findings = observer.findings();
+                tell_end(self.account, keeper, findings, has_given_up, status);
                 Ok(status)
             }
         }
@@ -90,7 +92,7 @@ impl<'a> Refreshing<'a> {
         &self,
         input: &RunInput<'_>,
         keeper: &MachineKeeper<'_>,
-        watch: &mut Watch<'_>,
+        observer: &mut RunObserver<'_>,
         end: &RunEnd<'_>,
         unanswered: Option<Unanswered>,
     ) -> Result<ExitStatus, Trouble> {
@@ -111,7 +113,7 @@ impl<'a> Refreshing<'a> {
                 let failure = keeper.failure();
                 let made = push_end(
                     rt.alloc(),
-                    watch,
+                    observer,
                     input.path,
                     failure,
                     end,
@@ -155,9 +157,9 @@ pub(crate) fn run_after_look<L: Link + Drop>(
     let (mark, has_begun) = (Cell::new([0; MARK_BYTES]), Cell::new(false));
     let last = LastAnswer::none_yet(rt);
     let look = LookWatcher::new(log, &last, &mark, refreshing.count);
-    let observer = LookThenRun::new(look, Teller::new(account), &has_begun);
-    let mut link = Observed::new(link, observer);
-    let mut watch = Watch::new(account, findings, first_wait(options), options.give_up);
+    let mut link = Observed::new(link, UntilRun::new(look, &has_begun));
+    let mut pace = Pace::new(rt, first_wait(options), options.give_up);
+    let mut observer = RunObserver::new(account, findings);
     let mut pause = LookPause::new(rt, log, &last, first_wait(options), options.give_up);
     let mut beginning = Agreeing::new(account, refreshing.start, &has_begun);
     let mut repeating = Repeating::new(rt, options.give_up);
@@ -170,7 +172,8 @@ pub(crate) fn run_after_look<L: Link + Drop>(
             (pause, beginning),
             &mut link,
             keeper,
-            &mut watch,
+            &mut pace,
+            &mut observer,
         );
         pause = paused;
         beginning = begun;
@@ -181,7 +184,9 @@ pub(crate) fn run_after_look<L: Link + Drop>(
             }
             tell_given_up(rt, options.give_up);
         }
-        return refreshing.end(input, keeper, &mut watch, ended, beginning.into_trouble());
+        let has_given_up = pace.has_given_up();
+        let unbegun = beginning.into_trouble();
+        return refreshing.end(input, keeper, &mut observer, has_given_up, ended, unbegun);
     }
     Ok(ExitStatus::Refused) // the server was silent 2^64 - 1 times
 }
@@ -194,7 +199,8 @@ fn attempt<'b, L: Link, P: Pause, B: Beginning>(
     parts: (P, B),
     link: &mut L,
     keeper: &mut MachineKeeper<'_>,
-    watch: &mut Watch<'_>,
+    pace: &mut Pace<&HostRuntime>,
+    observer: &mut RunObserver<'_>,
 ) -> (Result<Refreshed<'b>, NoMemory>, P, B)
     requires { IsTrue (may_have input.now.batch) }
 {
@@ -209,11 +215,11 @@ fn attempt<'b, L: Link, P: Pause, B: Beginning>(
         refreshing.account.rt().alloc(),
         refreshing.account.plan(),
         input,
-        refreshing.start.saved(),
         &mut refresh,
         link,
         keeper,
-        watch,
+        pace,
+        observer,
     );
     refreshing.account.log().end_line();
     (ended, refresh.pause, refresh.beginning)

@@ -5,7 +5,7 @@ ghost use Rattle.kmip_messages.specs.Members.{may_have};
 use crate::ending::push_end;
 use crate::linking::{loopback, tcp_link, unix_link};
 use crate::refreshing::{Refreshing, run_after_look};
-use kmip_account::{Account, Findings, Teller, Watch};
+use kmip_account::{Account, Findings, RunObserver};
 use kmip_choices::{Format, Peer, RunOptions};
 use kmip_files::ProgressFile;
 use kmip_message_commands::ExitStatus;
@@ -15,7 +15,7 @@ use kmip_run_files::{
     MachineKeeper, MetricsFile, PlanFile, Start, check_progress, locked, plan_at,
     progress_to_begin_with,
 };
-use kmip_runs::Observed;
+use kmip_runs::Pace;
 use kmip_trouble::{Trouble, print_documents, standard_output};
 use kmip_ttlv::NoMemory;
 use std::alloc::Global;
@@ -100,6 +100,7 @@ fn run_over<L: Link + Drop>(
         path: options.progress.as_str(),
         limit: options.limit as usize,
         batch: batch_of(options.batch),
+        saved: start.saved(),
     };
     let account = keeper.account();
     if let Some(count) = start.looked_at() {
@@ -112,23 +113,30 @@ fn run_over<L: Link + Drop>(
         return run_after_look(&refreshing, &input, keeper, findings, link);
     }
     account.show_start(start.saved());
-    let mut link = Observed::new(link, Teller::new(account));
-    let mut watch = Watch::new(account, findings, first_wait(options), options.give_up);
+    let mut link = link;
+    let mut pace = Pace::new(account.rt(), first_wait(options), options.give_up);
+    let mut observer = RunObserver::new(account, findings);
     let status = match options.format {
-        Format::Text => run_in_text(&input, start.saved(), &mut link, keeper, &mut watch)?,
-        Format::Json => run_in_json(&input, start.saved(), &mut link, keeper, &mut watch),
+        Format::Text => run_in_text(&input, &mut link, keeper, &mut pace, &mut observer)?,
+        Format::Json => run_in_json(&input, &mut link, keeper, &mut pace, &mut observer),
     };
-    tell_end(account, keeper, &mut watch, status);
+    tell_end(
+        account,
+        keeper,
+        observer.findings(),
+        pace.has_given_up(),
+        status,
+    );
     Ok(status)
 }
 
 /// Carries out the plan, and prints in lines how that ended.
 fn run_in_text<L: Link>(
     input: &RunInput<'_>,
-    saved: Option<&str>,
     link: &mut L,
     keeper: &mut MachineKeeper<'_>,
-    watch: &mut Watch<'_>,
+    pace: &mut Pace<&HostRuntime>,
+    observer: &mut RunObserver<'_>,
 ) -> Result<ExitStatus, Trouble>
     requires { IsTrue (may_have input.now.batch) }
 {
@@ -139,10 +147,10 @@ fn run_in_text<L: Link>(
         rt.alloc(),
         plan,
         input,
-        saved,
         link,
         keeper,
-        watch,
+        pace,
+        observer,
         &mut writer,
     ))
 }
@@ -150,20 +158,20 @@ fn run_in_text<L: Link>(
 /// Carries out the plan, and prints in documents how that ended.
 fn run_in_json<L: Link>(
     input: &RunInput<'_>,
-    saved: Option<&str>,
     link: &mut L,
     keeper: &mut MachineKeeper<'_>,
-    watch: &mut Watch<'_>,
+    pace: &mut Pace<&HostRuntime>,
+    observer: &mut RunObserver<'_>,
 ) -> ExitStatus
     requires { IsTrue (may_have input.now.batch) }
 {
     let account = keeper.account();
     let (rt, plan) = (account.rt(), account.plan());
     let mut documents = Vec::new(rt.alloc());
-    let made = match run_to_end(rt.alloc(), plan, input, saved, link, keeper, watch) {
+    let made = match run_to_end(rt.alloc(), plan, input, link, keeper, pace, observer) {
         Ok(end) => push_end(
             rt.alloc(),
-            watch,
+            observer,
             input.path,
             keeper.failure(),
             &end,
@@ -180,14 +188,14 @@ fn run_in_json<L: Link>(
 pub(crate) fn tell_end(
     account: &Account<'_>,
     keeper: &MachineKeeper<'_>,
-    watch: &mut Watch<'_>,
+    findings: &Findings,
+    has_given_up: bool,
     status: ExitStatus,
 ) {
     if keeper.refusals() > 0 || matches!(status, ExitStatus::Failed(_)) {
         return;
     }
-    let has_given_up = watch.has_given_up();
-    let _ = account.tell_unfinished(watch.findings());
+    let _ = account.tell_unfinished(findings);
     if has_given_up {
         account.tell_given_up();
     }

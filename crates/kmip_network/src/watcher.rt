@@ -2,7 +2,7 @@
 
 use kmip_account::ExchangeLog;
 use kmip_protocol::LinkFault;
-use kmip_runs::Observer;
+use kmip_runs::LinkObserver;
 
 /// Gives each exchange to the log.
 #[derive(Drop)]
@@ -16,7 +16,7 @@ impl<'a> Watcher<'a> {
     }
 }
 
-impl<'a> Observer for Watcher<'a> {
+impl<'a> LinkObserver for Watcher<'a> {
     fn exchanged(&mut self, request: &[u8], answered: Result<Option<&[u8]>, LinkFault>) {
         let _ = self.log.exchanged(request, answered);
     }

@@ -226,13 +226,6 @@ ends_unwritten untouched a old new keys text limit read client told made why sam
     subst (λ told. EndsFrom untouched (λ knowns. Came limit (IsGoodStart text old.link) old new (begun_client keys knowns a.batch)) keys limit read (end_with client told made)) why
     (ends_start untouched a old new keys text limit read client told made same next is held t)
 
--- a progress that is refused is where the run ended
-pub ends_refused : (untouched : Type 0) (came : List Knowledge → Outcome → Type 0) (keys : List Key) (limit : ℕ) (read : Result (List Knowledge) ProgressFault) (fault : ProgressFault)
-    → untouched → read ≡ Err fault → EndsFrom untouched came keys limit read (Refused fault)
-ends_refused untouched came keys limit read fault kept is =
-    let Q : Result (List Knowledge) ProgressFault → Type 0 = λ read. EndsFrom untouched came keys limit read (Refused fault) in
-    subst Q (sym is) (kept, refl)
-
 -- and what a run over what the progress says promises of its link
 pub over_start : (a : ClientState) (old new : RunState) (keys : List Key) (text : Option (List ℕ)) (Whole : Type 0 → Type 0) → a.keys ≡ keys
     → (IsTrueText old.link.past.objects keys text → Held old.link.past.objects a.keys a.knowns)
@@ -272,15 +265,6 @@ over_printed good keys most old new (Err fault) o = record { safe = o.safe; any_
 
 -- ---- what is written of an end
 
--- two facts of a fault
-pub both_of_fault : (result : Result Bool CommandFault) (P Q : CommandFault → Type 0) → IfErr result P → IfErr result Q → IfErr result (λ fault. P fault × Q fault)
-both_of_fault (Ok refused) P Q p q = tt
-both_of_fault (Err fault) P Q p q = (p, q)
-
-pub second_of_fault : (result : Result Bool CommandFault) (P Q : CommandFault → Type 0) → IfErr result (λ fault. P fault × Q fault) → IfErr result Q
-second_of_fault (Ok refused) P Q both = tt
-second_of_fault (Err fault) P Q both = both.1
-
 -- what is printed of the end of a run is what was written
 pub writes_end : (report : Report) (path : List ℕ) (ends : Result RunEnd PlanFault → Type 0) (end : RunEnd) (result : Result Bool CommandFault) (old new : Option (List ℕ))
     → ends (Ok end)
@@ -288,49 +272,3 @@ pub writes_end : (report : Report) (path : List ℕ) (ends : Result RunEnd PlanF
     → IfOk result (λ refused. WritesEnd report path ends refused old new)
 writes_end report path ends end (Ok refused) old new holds w = record { end = Ok end; ended = holds; refused_is = w.0; written = w.1 }
 writes_end report path ends end (Err fault) old new holds w = tt
-
--- what is written for a plan is written for the text that it was read from
-pub writes_read : (untouched : Type 0) (came : List Key → List Knowledge → Outcome → Type 0) (read : Result (List Key) PlanFault) (keys : List Key) (saved : Option (List ℕ)) (limit : ℕ) (report : Report) (path : List ℕ) (result : Result Bool CommandFault) (old new : Option (List ℕ))
-    → read ≡ Ok keys
-    → IfOk result (λ refused. WritesEnd report path (EndsRun untouched came (Ok keys) saved limit) refused old new)
-    → IfOk result (λ refused. WritesEnd report path (EndsRun untouched came read saved limit) refused old new)
-writes_read untouched came read keys saved limit report path result old new is w =
-    let Q : Result (List Key) PlanFault → Type 0 = λ read. IfOk result (λ refused. WritesEnd report path (EndsRun untouched came read saved limit) refused old new) in
-    subst Q (sym is) w
-
-abbrev read_as : Result (List Key) PlanFault → Result (List Key) PlanFault
-read_as r = r
-
-same_keys : (keys other : List Key) → read_as (Ok keys) ≡ read_as (Ok other) → keys ≡ other
-same_keys keys other e = cc
-
--- what holds of the plan that was read holds of each that is what was read
-pub of_what_was_read : (P : List Key → Type 0) (read : Result (List Key) PlanFault) (keys : List Key) → read ≡ Ok keys → P keys
-    → (other : List Key) → read ≡ Ok other → P other
-of_what_was_read P read keys is holds other same = subst P (same_keys keys other (sym is ∙ same)) holds
-
--- a fault that is not want of memory is the one that reading gives
-read_fails : (fault : PlanFault) (read : Result (List Key) PlanFault) → FailsPlan fault read → is_memory fault ≡ false → read ≡ Err fault
-read_fails plan_faults.Toml read fails known = fails
-read_fails plan_faults.NoKeys read fails known = fails
-read_fails plan_faults.TooMany read fails known = fails
-read_fails (plan_faults.Missing field place) read fails known = fails
-read_fails (plan_faults.Unknown field place) read fails known = fails
-read_fails (plan_faults.BadName place) read fails known = fails
-read_fails (plan_faults.BadLength place) read fails known = fails
-read_fails (plan_faults.BadUsage place) read fails known = fails
-read_fails (plan_faults.BadTarget place) read fails known = fails
-read_fails (plan_faults.BadReason place) read fails known = fails
-read_fails (plan_faults.SameName place) read fails known = fails
-read_fails plan_faults.NoMemory read fails known = absurd cc
-
--- the line of a refusal is written for a text that is no plan
-pub writes_refusal : (untouched : Type 0) (came : List Key → List Knowledge → Outcome → Type 0) (read : Result (List Key) PlanFault) (fault : PlanFault) (saved : Option (List ℕ)) (limit : ℕ) (report : Report) (path : List ℕ) (result : Result Bool CommandFault) (old new : Option (List ℕ))
-    → untouched → FailsPlan fault read
-    → IfOk result (λ refused. is_memory fault ≡ false)
-    → IfOk result (λ refused. (refused ≡ true) × Appends old new (plan_refusal_text fault))
-    → IfOk result (λ refused. WritesEnd report path (EndsRun untouched came read saved limit) refused old new)
-writes_refusal untouched came read fault saved limit report path (Ok refused) old new kept fails known w =
-    let Q : Result (List Key) PlanFault → Type 0 = λ read. EndsRun untouched came read saved limit (Err fault) in
-    record { end = Err fault; ended = subst Q (sym (read_fails fault read fails known)) (kept, refl); refused_is = w.0; written = w.1 }
-writes_refusal untouched came read fault saved limit report path (Err f) old new kept fails known w = tt

@@ -71,24 +71,6 @@ call_ended report path status old new = record {
   otherwise = IfFailed status (λ fault. UnlessOutput fault (Appends old new (fault_line fault)));
 }
 
--- A call that prints the end of the run ended with this result. No fault is one of reading. At want of memory
--- nothing is written. Of a writer that failed, nothing is said.
-abbrev pub call_on_writer : Report → List ℕ → Result Bool CommandFault → Option (List ℕ) → Option (List ℕ) → CallEnd
-call_on_writer report path result old new = record {
-  tells = λ ends. IfOk result (λ refused. WritesEnd report path ends refused old new);
-  whole = λ P. IfOk result (λ refused. P);
-  otherwise = IfErr result (λ fault. (fault ≢ Input) × UnlessOutput fault (Appends old new []));
-}
-
--- A call that appends the end of the run to a text ended with this result. At want of memory, the only fault,
--- nothing is appended.
-abbrev pub call_in_memory : Report → List ℕ → Result Bool NoMemory → List ℕ → List ℕ → CallEnd
-call_in_memory report path result old new = record {
-  tells = λ ends. IfOk result (λ refused. WritesEnd report path ends refused (Some old) (Some new));
-  whole = λ P. IfOk result (λ refused. P);
-  otherwise = OnErr result (new ≡ old);
-}
-
 -- What came of the exchanges of a run that begins with these, where each is about these keys.
 abbrev pub CameOf : RunStart → RunChange → List Key → List Knowledge → Outcome → Type 0
 CameOf start change keys knowns =
@@ -113,19 +95,6 @@ pub record RunsOver (good : Type 0) (keys : List Key) (most : ℕ) (old new : Ru
   -- Over a link that is honest for the names of the plan, each message that was sent asks about keys of the
   -- plan, each once, and about no more than the input says. That is not said where it ends with a fault.
   pub few : old.link.honest (is_planned keys) → Whole (AsksFew keys most old.link.past new.link.past)
-
--- What a call that does what `run` does promises, for what was read of the text of a plan.
-pub record RunsText (read : Result (List Key) PlanFault) (start : RunStart) (change : RunChange) (ended : CallEnd) : Type 0 where
-  -- The run ended for what the text of the plan says: `EndsRun`. What is told of the end has come of the
-  -- exchanges. `Came` says what they taught, what was kept after each, when the limit is enough for all keys,
-  -- and when fewer are made.
-  pub text : ended.tells (EndsRead read start change)
-  -- Where it ends with a fault, nothing of this is told.
-  pub broken : ended.otherwise
-  -- Where the text is a plan, all of this holds.
-  pub planned : (keys : List Key) → read ≡ Ok keys
-      → RunsOver (IsGoodStart start.saved change.before.link keys) keys start.batch
-      change.before change.after ended.whole
 
 -- What a call that does what `run` does promises, for the keys of a plan that was read before.
 pub record RunsPlan (keys : List Key) (start : RunStart) (change : RunChange) (ended : CallEnd) : Type 0 where

@@ -14,32 +14,33 @@ use kmip_plan::Plan;
 use kmip_progress::ProgressFault;
 use kmip_protocol::Link;
 use kmip_protocol::laws::sound_is_safe;
-use kmip_runs::{Keeper, Patience, SaveFault, Stop, carry_out};
+use kmip_runs::{Keeper, Observer, Patience, SaveFault, Stop, carry_out};
 use kmip_ttlv::NoMemory;
 use std::alloc::Global;
 
 /// Carries out a plan over the link, from nothing or from what the text of a saved progress says. The
 /// keeper is given the text of what is known after each exchange. `patience` waits before each further
-/// exchange, and says whether it is made. Each message asks about at most as many keys as the input says.
+/// exchange, and says whether it is made. `observer` is told of each exchange. Each message asks about at most as
+/// many keys as the input says.
 ///
 /// The result is how the run ended: the progress was refused, and then nothing was asked or kept; or what
 /// was known could not be kept; or it stopped. Nothing is printed: `push_run_end` does that.
 ///
 /// # Errors
 /// Where memory ran out. What the keeper was given stays.
-pub fn run_to_end<'a, L: Link, K: Keeper, E: Patience>(
+pub fn run_to_end<'a, L: Link, K: Keeper, E: Patience, O: Observer>(
     alloc: Global,
     plan: &'a Plan,
     input: &RunInput<'_>,
-    saved: Option<&str>,
     link: &mut L,
     keeper: &mut K,
     patience: &mut E,
+    observer: &mut O,
 ) -> Result<RunEnd<'a>, NoMemory>
     // The `batch` of the input is a number from 1 to 8.
     requires { IsTrue (may_have input.now.batch) }
     ensures { RunsPlan plan.now
-        (run_start (option_map (λ text. text.now) saved.entry) input.now.batch input.now.limit)
+        (run_start (option_map (λ text. text.now) input.now.saved) input.now.batch input.now.limit)
         (run_change
         (run_state (L.seen link.old) (K.kept keeper.old) (E.has_given_up patience.old)
         (E.asked patience.old))
@@ -50,11 +51,19 @@ pub fn run_to_end<'a, L: Link, K: Keeper, E: Patience>(
 {
     onward_is_an_order();
     sound_is_safe();
-    match begin(alloc, plan, saved) {
+    match begin(alloc, plan, input.saved) {
         Ok(client) => {
             let mut client = client;
             client.set_batch(input.batch);
-            let made = carry_to_end(alloc, &mut client, input.limit, link, keeper, patience)?;
+            let made = carry_to_end(
+                alloc,
+                &mut client,
+                input.limit,
+                link,
+                keeper,
+                patience,
+                observer,
+            )?;
             let (stop, exchanges) = made;
             let Some(stop) = stop else {
                 return Ok(RunEnd::Unwritten);
@@ -75,13 +84,14 @@ pub fn run_to_end<'a, L: Link, K: Keeper, E: Patience>(
 ///
 /// # Errors
 /// Where memory ran out.
-fn carry_to_end<L: Link, K: Keeper, E: Patience>(
+fn carry_to_end<L: Link, K: Keeper, E: Patience, O: Observer>(
     alloc: Global,
     client: &mut Client<'_>,
     limit: usize,
     link: &mut L,
     keeper: &mut K,
     patience: &mut E,
+    observer: &mut O,
 ) -> Result<(Option<Stop>, usize), NoMemory>
     ensures { CarriesToEnd client.old limit
         (run_change
@@ -92,7 +102,7 @@ fn carry_to_end<L: Link, K: Keeper, E: Patience>(
         (AreUntouched link.old link.new keeper.old keeper.new))
         result client.new }
 {
-    let (ended, exchanges) = carry_out(alloc, client, link, keeper, patience, limit);
+    let (ended, exchanges) = carry_out(alloc, client, link, keeper, patience, observer, limit);
     match ended {
         Ok(Stop::NoMemory) | Err(SaveFault::NoMemory) => Err(NoMemory),
         Ok(stop) => Ok((Some(stop), exchanges)),

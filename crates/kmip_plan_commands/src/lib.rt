@@ -13,7 +13,7 @@
 //! program ends. `sim_bytes` does the same work in memory, where nothing but memory can fail.
 //! `sim_to_end` simulates alone, and `push_sim_end` says in words how that ended.
 //!
-//! The command `run`: carries out a plan, saves its progress, and reports on it. `run_to_end` does the
+//! The command `run`: `run_plan` carries out a plan, saves its progress, and reports on it. `run_to_end` does the
 //! work alone, and `push_run_end` says in words how it ended.
 //!
 //! The command `list`: what a progress says of each key of its plan. `list`, `run_list` and `list_bytes`
@@ -58,7 +58,7 @@ pub use playing::sim_to_end;
 pub use run_end::RunEnd;
 pub use run_input::RunInput;
 pub use run_tally::RunTally;
-pub use running::{run, run_bytes, run_plan, run_run};
+pub use running::run_plan;
 pub use sim_end::SimEnd;
 pub use sim_ending::push_sim_end;
 pub use sim_input::SimInput;

@@ -12,4 +12,6 @@ pub struct RunInput<'a> {
     pub limit: usize,
     /// How many keys a message asks about at most, 1 to 8.
     pub batch: usize,
+    /// The text of the progress that the run begins with; none if it begins with nothing.
+    pub saved: Option<&'a str>,
 }

@@ -1,6 +1,7 @@
 //! Why a link has no answer.
 ghost use Rattle.std.specs.Prelude.{◌≡◌};
 ghost use Rattle.kmip_protocol.specs.Faults.{link_fault_number, link_fault_name};
+ghost use Rattle.kmip_protocol.specs.declared.link_fault.LinkFault.TheVariants as faults;
 
 use kmip_ttlv::NoMemory;
 use thiserror::Error;
@@ -40,5 +41,13 @@ impl LinkFault {
             LinkFault::Frame => "Frame",
             LinkFault::NoMemory => "NoMemory",
         }
+    }
+}
+
+impl From<NoMemory> for LinkFault {
+    ghost from_gives = { λ _ e. e ≡ faults.NoMemory };
+
+    fn from(_e: NoMemory) -> LinkFault {
+        LinkFault::NoMemory
     }
 }

@@ -28,7 +28,7 @@ use kmip_plan::{Key, Plan};
 use kmip_plan_commands::{RunEnd, RunInput, begin, run_to_end};
 use kmip_progress::{Known, ProgressFault};
 use kmip_protocol::Link;
-use kmip_runs::{Keeper, Patience, Stop};
+use kmip_runs::{Keeper, Observer, Patience, Stop};
 use kmip_ttlv::NoMemory;
 use std::alloc::Global;
 
@@ -42,15 +42,15 @@ use std::alloc::Global;
 ///
 /// # Errors
 /// If memory runs out. What the keeper was given stays.
-pub fn run_refreshed<'a, L: Link, K: Keeper, E: Patience, P: Pause, B: Beginning>(
+pub fn run_refreshed<'a, L: Link, K: Keeper, E: Patience, O: Observer, P: Pause, B: Beginning>(
     alloc: Global,
     plan: &'a Plan,
     input: &RunInput<'_>,
-    saved: Option<&str>,
     refresh: &mut Refresh<'_, P, B>,
     link: &mut L,
     keeper: &mut K,
     patience: &mut E,
+    observer: &mut O,
 ) -> Result<Refreshed<'a>, NoMemory>
     // The `batch` of the input is a number from 1 to 8.
     requires batch { IsTrue (may_have input.now.batch) }
@@ -60,9 +60,9 @@ pub fn run_refreshed<'a, L: Link, K: Keeper, E: Patience, P: Pause, B: Beginning
     // the judgement says (`ComesOf`): nothing more, or a run from the link between, with all that `run_to_end`
     // promises (`RunsPlan`).
     ensures refreshes { Refreshes (λ l. L.seen l)
-        (keys_known plan.now (option_map (λ text. text.now) saved.entry)) refresh.old.mark.now
+        (keys_known plan.now (option_map (λ text. text.now) input.now.saved)) refresh.old.mark.now
         link.old result (λ between. FollowsLook plan.now
-        (run_start (option_map (λ text. text.now) saved.entry) input.now.batch input.now.limit)
+        (run_start (option_map (λ text. text.now) input.now.saved) input.now.batch input.now.limit)
         (run_change
         (run_state (L.seen between) (K.kept keeper.old) (E.has_given_up patience.old)
         (E.asked patience.old))
@@ -75,21 +75,21 @@ pub fn run_refreshed<'a, L: Link, K: Keeper, E: Patience, P: Pause, B: Beginning
     // There is one answer for each key of which the progress knows an identifier, in the order of the plan, and
     // its agreement is that of `agreement`.
     ensures judged { IfOk result (λ refreshed. refreshed.looks.items ≡ looks_judged
-        (keys_known plan.now (option_map (λ text. text.now) saved.entry))
+        (keys_known plan.now (option_map (λ text. text.now) input.now.saved))
         (lookeds_of refreshed.looks.items)) }
     // Unless the run was made, nothing was kept. Over a link that was honest for some names, looks at the known
     // keys were sent, and nothing else: no message that may change anything.
     ensures looks_alone { (names : Names) → (L.seen link.old).honest names
         → IfOk result (λ refreshed. UnlessRan refreshed.outcome ((keeper.new ≡ keeper.old)
         × LooksAlone names
-        (keys_of (keys_known plan.now (option_map (λ text. text.now) saved.entry)))
+        (keys_of (keys_known plan.now (option_map (λ text. text.now) input.now.saved)))
         refresh.old.mark.now (L.seen link.old) (L.seen link.new))) }
     // Let the link be honest for the names of the plan, and let the mark be new. Then each key about which the
     // server agrees stood so at some moment since the call began.
     ensures since { (L.seen link.old).honest (is_planned plan.now)
         → IsFresh refresh.old.mark.now (L.seen link.old).past → IfOk result (λ refreshed. AllZip
         (StoodSince (is_planned plan.now) (L.seen link.old).past (L.seen link.new).past)
-        (keys_known plan.now (option_map (λ text. text.now) saved.entry))
+        (keys_known plan.now (option_map (λ text. text.now) input.now.saved))
         refreshed.looks.items) }
     // If the run was made, each key that the progress says is finished had reached its target at such a moment,
     // or it is gone.
@@ -97,33 +97,35 @@ pub fn run_refreshed<'a, L: Link, K: Keeper, E: Patience, P: Pause, B: Beginning
         → IsFresh refresh.old.mark.now (L.seen link.old).past → IfOk result (λ refreshed.
         IfRan refreshed.outcome (AllZip
         (FinishedSince (is_planned plan.now) (L.seen link.old).past (L.seen link.new).past)
-        (keys_known plan.now (option_map (λ text. text.now) saved.entry))
+        (keys_known plan.now (option_map (λ text. text.now) input.now.saved))
         refreshed.looks.items)) }
 {
     states_have_places();
-    look_and_run(alloc, plan, input, saved, refresh, link, keeper, patience)
+    look_and_run(
+        alloc, plan, input, refresh, link, keeper, patience, observer,
+    )
 }
 
 /// Reads the progress, looks at the keys that it knows, and makes the run if the server agrees.
 ///
 /// # Errors
 /// If memory runs out.
-fn look_and_run<'a, L: Link, K: Keeper, E: Patience, P: Pause, B: Beginning>(
+fn look_and_run<'a, L: Link, K: Keeper, E: Patience, O: Observer, P: Pause, B: Beginning>(
     alloc: Global,
     plan: &'a Plan,
     input: &RunInput<'_>,
-    saved: Option<&str>,
     refresh: &mut Refresh<'_, P, B>,
     link: &mut L,
     keeper: &mut K,
     patience: &mut E,
+    observer: &mut O,
 ) -> Result<Refreshed<'a>, NoMemory>
     requires batch { IsTrue (may_have input.now.batch) }
     requires mark { length refresh.old.mark.now ≤ 16 }
     ensures { Refreshes (λ l. L.seen l)
-        (keys_known plan.now (option_map (λ text. text.now) saved.entry)) refresh.old.mark.now
+        (keys_known plan.now (option_map (λ text. text.now) input.now.saved)) refresh.old.mark.now
         link.old result (λ between. FollowsLook plan.now
-        (run_start (option_map (λ text. text.now) saved.entry) input.now.batch input.now.limit)
+        (run_start (option_map (λ text. text.now) input.now.saved) input.now.batch input.now.limit)
         (run_change
         (run_state (L.seen between) (K.kept keeper.old) (E.has_given_up patience.old)
         (E.asked patience.old))
@@ -131,7 +133,7 @@ fn look_and_run<'a, L: Link, K: Keeper, E: Patience, P: Pause, B: Beginning>(
         (E.asked patience.new))
         (AreUntouched between link.new keeper.old keeper.new)) result) }
 {
-    match begin(alloc, plan, saved) {
+    match begin(alloc, plan, input.saved) {
         Ok(client) => {
             let looks = look(alloc, &client, input.batch, refresh, link)?;
             let judgement = judgement_of(looks.as_slice());
@@ -155,7 +157,7 @@ fn look_and_run<'a, L: Link, K: Keeper, E: Patience, P: Pause, B: Beginning>(
                             outcome: RefreshOutcome::NotBegun,
                         });
                     }
-                    let end = run_to_end(alloc, plan, input, saved, link, keeper, patience)?;
+                    let end = run_to_end(alloc, plan, input, link, keeper, patience, observer)?;
                     Ok(Refreshed {
                         looks,
                         outcome: RefreshOutcome::Ran(end),
@@ -165,7 +167,7 @@ fn look_and_run<'a, L: Link, K: Keeper, E: Patience, P: Pause, B: Beginning>(
         }
         Err(ProgressFault::NoMemory) => Err(NoMemory),
         Err(_fault) => {
-            let end = run_to_end(alloc, plan, input, saved, link, keeper, patience)?;
+            let end = run_to_end(alloc, plan, input, link, keeper, patience, observer)?;
             Ok(Refreshed {
                 looks: Vec::new(alloc),
                 outcome: RefreshOutcome::Ran(end),

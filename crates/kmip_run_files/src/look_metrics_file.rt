@@ -2,7 +2,7 @@
 
 use crate::metrics_place::MetricsPlace;
 use crate::origin::now;
-use kmip_account::{ExchangeLog, LookCounts, LookMetrics, LookTimes};
+use kmip_account::{ExchangeLog, LookCounts, LookMetrics};
 use kmip_choices::LookOptions;
 use std::io;
 
@@ -40,25 +40,16 @@ impl<'a> LookMetricsFile<'a> {
 
     fn write_text(&self, log: &ExchangeLog<'_>, counts: LookCounts) -> io::Result<()> {
         let before = match self.place.text()? {
-            Some(text) => LookTimes::of_text(text.as_str()),
-            None => LookTimes::of_text(""),
+            Some(text) => LookMetrics::last_times(text.as_str()),
+            None => LookMetrics::last_times(""),
         };
-        let now = now(self.rt)?;
-        let answer = match log.seconds_since_answer() {
-            Some(seconds) => Some(now.saturating_sub(seconds)),
-            None => before.answer,
-        };
-        let finish = if counts.is_finished() {
-            Some(now)
-        } else {
-            before.finish
-        };
+        let (now, answered) = (now(self.rt)?, log.seconds_since_answer());
         let metrics = LookMetrics {
             plan: self.plan,
             counts,
             spent: log.spent(),
             milliseconds: log.milliseconds(),
-            last: LookTimes { answer, finish },
+            last: before.renewed(now, answered, counts.is_finished()),
         };
         let text = metrics.text(self.rt.alloc())?;
         self.place.write(text.as_str())

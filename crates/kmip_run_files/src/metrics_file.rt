@@ -91,33 +91,17 @@ impl<'a> MetricsFile<'a> {
             Ok(tally) => tally,
             Err(NoMemory) => return Err(Error::from(ErrorKind::OutOfMemory)),
         };
+        let answered = account.log().seconds_since_answer();
         let metrics = Metrics {
             plan: self.plan,
             is_in_progress,
             standing,
             tally: &tally,
             digest: self.digest.as_str(),
-            last: self.last_times(account, is_finished)?,
+            last: self.last.renewed(now(self.rt)?, answered, is_finished),
         };
         let text = metrics.text(self.rt.alloc())?;
         self.place.write(text.as_str())
-    }
-
-    /// The times after this run. If the server did not reply, those of before stay.
-    fn last_times(&self, account: &Account<'_>, is_finished: bool) -> io::Result<LastTimes> {
-        let Some(answered) = account.log().seconds_since_answer() else {
-            return Ok(self.last);
-        };
-        let now = now(self.rt)?;
-        let finish = if is_finished {
-            Some(now)
-        } else {
-            self.last.finish
-        };
-        Ok(LastTimes {
-            answer: Some(now.saturating_sub(answered)),
-            finish,
-        })
     }
 }
 
@@ -129,8 +113,8 @@ fn read(
 ) -> io::Result<(String, LastTimes)> {
     let digest = digest_of(rt.alloc(), plan.text.as_str())?;
     let last = match place.text()? {
-        Some(text) => LastTimes::of_text(text.as_str()),
-        None => LastTimes::of_text(""),
+        Some(text) => Metrics::last_times(text.as_str()),
+        None => Metrics::last_times(""),
     };
     Ok((digest, last))
 }

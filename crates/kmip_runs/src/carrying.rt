@@ -12,6 +12,7 @@ ghost use Rattle.kmip_runs.specs.Saved.{HasMemory};
 use crate::campaigning::laws_of_runs;
 use crate::driving::{stop_of, turn};
 use crate::keeper::Keeper;
+use crate::observer::Observer;
 use crate::patience::Patience;
 use crate::save_fault::SaveFault;
 use crate::sights::Sights;
@@ -44,6 +45,12 @@ use std::alloc::Global;
 /// At the end the keeper makes the last text outlast a crash. Where it cannot, it counts a refusal, and a
 /// crash may leave an older text, which is as true.
 ///
+/// `observer` is told of each exchange. Before a message is sent it is told what that asks (`asked`). It is then
+/// lent the replies that came (`replied`), or told why there are none (`missed`). If the exchange counts as made,
+/// it is lent what the client knows and told what the exchange brought (`learned`). That is after the keeper was
+/// given the text and `patience` was told. Once the run is ended over the link it is told so (`ended`). No clause
+/// says anything of the observer.
+///
 /// All of this is said of every link and of every keeper that a caller may bring. That the disk of a real
 /// machine keeps the rules no contract can say: it is a premise in words, as the honest link is.
 ///
@@ -54,12 +61,13 @@ use std::alloc::Global;
 /// Why the text of the last exchange was not saved; no further exchange is then made. It is `NoMemory` too if
 /// the text was not saved and memory ran out at the end of the run. Without such a text, want of memory in an
 /// exchange, or at the end of the run, is the reason to stop `Stop::NoMemory`.
-pub fn carry_out<L: Link, K: Keeper, P: Patience>(
+pub fn carry_out<L: Link, K: Keeper, P: Patience, O: Observer>(
     alloc: Global,
     client: &mut Client<'_>,
     link: &mut L,
     keeper: &mut K,
     patience: &mut P,
+    observer: &mut O,
     limit: usize,
 ) -> (Result<Stop, SaveFault>, usize)
     ensures { CarriesOut limit
@@ -73,8 +81,9 @@ pub fn carry_out<L: Link, K: Keeper, P: Patience>(
     laws_below();
     laws_of_runs();
     let _plan = client.plan();
-    let (carried, made) = exchange_in_turn(alloc, client, link, keeper, patience, limit);
+    let (carried, made) = exchange_in_turn(alloc, client, link, keeper, patience, observer, limit);
     let closed = close_run(alloc, link);
+    observer.ended();
     let _ = keeper.close(); // where that fails, a crash may leave an older text, which is as true
     (after_close(carried, closed), made)
 }
@@ -102,12 +111,13 @@ fn laws_below()
 ///
 /// # Errors
 /// Why the text of the last exchange was not saved.
-fn exchange_in_turn<L: Link, K: Keeper, P: Patience>(
+fn exchange_in_turn<L: Link, K: Keeper, P: Patience, O: Observer>(
     alloc: Global,
     client: &mut Client<'_>,
     link: &mut L,
     keeper: &mut K,
     patience: &mut P,
+    observer: &mut O,
     limit: usize,
 ) -> (Result<Stop, SaveFault>, usize)
     ensures made { MakesExchangesInTurn limit
@@ -125,8 +135,8 @@ fn exchange_in_turn<L: Link, K: Keeper, P: Patience>(
     };
     let mut sights = begun;
     for made in 0..limit {
-        let (carried, exchanges, asked) = exchange_once(alloc, client, link, keeper);
-        tell(client, &mut sights, patience, exchanges, asked);
+        let (carried, exchanges, asked) = exchange_once(alloc, client, link, keeper, observer);
+        tell(client, &mut sights, patience, observer, exchanges, asked);
         if !is_at_limit(&carried) {
             return (carried, made + exchanges);
         }
@@ -142,11 +152,12 @@ fn exchange_in_turn<L: Link, K: Keeper, P: Patience>(
 ///
 /// # Errors
 /// Why its text was not saved.
-fn exchange_once<L: Link, K: Keeper>(
+fn exchange_once<L: Link, K: Keeper, O: Observer>(
     alloc: Global,
     client: &mut Client<'_>,
     link: &mut L,
     keeper: &mut K,
+    observer: &mut O,
 ) -> (Result<Stop, SaveFault>, usize, usize)
     ensures made { MakesOneExchange (record {
       client = client.old;
@@ -163,7 +174,7 @@ fn exchange_once<L: Link, K: Keeper>(
     laws_below();
     // proof: a key that is settled is not worked on
     the_settled_are_not_worked_on();
-    let asked = match turn(alloc, client, link) {
+    let asked = match turn(alloc, client, link, observer) {
         Ok(Some(asked)) => asked,
         Ok(None) => return (Ok(stop_of(client)), 0, 0),
         Err(fault) => return (Ok(Stop::NoMemory), fault.exchanges(), 0),
@@ -175,10 +186,11 @@ fn exchange_once<L: Link, K: Keeper>(
 }
 
 /// Reports what one exchange brought, if one was made; it asked about `asked` keys.
-fn tell<P: Patience>(
+fn tell<P: Patience, O: Observer>(
     client: &Client<'_>,
     sights: &mut Sights,
     patience: &mut P,
+    observer: &mut O,
     exchanges: usize,
     asked: usize,
 )
@@ -190,6 +202,7 @@ fn tell<P: Patience>(
     if exchanges > 0 {
         let news = sights.take(client, asked);
         patience.exchanged(client, news);
+        observer.learned(client, news);
     }
 }
 

@@ -24,8 +24,8 @@ use crate::run::Run;
 use crate::save_fault::SaveFault;
 use crate::stop::Stop;
 use crate::tireless::Tireless;
-use kmip_client::Client;
 use kmip_client::laws::what_is_true_is_no_conflict;
+use kmip_client::{Client, NoListener};
 use kmip_plan::Plan;
 use kmip_progress::{Progress, ProgressFault};
 use kmip_protocol::Link;
@@ -202,7 +202,15 @@ fn crashed_run<'p, L: Link>(
         run,
     )?;
     let mut keeper = DiskKeeper::of(alloc, client, crash.calls)?;
-    let (carried, made) = carry_out(alloc, client, link, &mut keeper, &mut Tireless, run.limit);
+    let (carried, made) = carry_out(
+        alloc,
+        client,
+        link,
+        &mut keeper,
+        &mut Tireless,
+        &mut NoListener,
+        run.limit,
+    );
     in_memory(carried)?;
     let left = progress_left(alloc, plan, &keeper, crash.left)?;
     let cut = Run {

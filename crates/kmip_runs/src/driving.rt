@@ -12,13 +12,15 @@ ghost use Rattle.kmip_protocol.specs.Turns.{answers_part, is_unanswered, lost_ea
 ghost use Rattle.kmip_runs.specs.Drives.{Drives};
 ghost use Rattle.kmip_runs.specs.PrivateTurns.{MakesTurn, PutsQuestion};
 
+use crate::no_reply_reason::NoReplyReason;
+use crate::observer::Observer;
 use crate::stop::Stop;
 use crate::turn_fault::TurnFault;
 use kmip_client::laws::{
     onward_is_an_order, prolonged_plans_keep_the_truth, the_settled_are_not_worked_on,
     truth_is_for_good, what_is_known_was_heard, what_is_true_is_no_conflict,
 };
-use kmip_client::{Client, HearFault, Heard, Part, Question, Verdict};
+use kmip_client::{Client, HearFault, Heard, NoListener, Part, Question, Verdict};
 use kmip_plan::chain_laws::states_have_places;
 use kmip_plan::laws::keys_have_names;
 use kmip_protocol::amid_laws::{
@@ -31,7 +33,7 @@ use kmip_protocol::settling_laws::{
     room_is_left_for_prolonged_plans, sound_is_ready, the_finished_stand_at_the_end,
     who_needs_nothing_is_finished,
 };
-use kmip_protocol::{Link, answer_or_loss};
+use kmip_protocol::{Link, LinkFault, answer_or_loss};
 use kmip_ttlv::NoMemory;
 use std::alloc::Global;
 
@@ -60,7 +62,7 @@ pub fn drive<L: Link>(
     laws_below();
     let _plan = client.plan();
     for made in 0..limit {
-        match turn(alloc, client, link) {
+        match turn(alloc, client, link, &mut NoListener) {
             Ok(Some(_)) => {}
             Ok(None) => return (stop_of(client), made),
             Err(fault) => return (Stop::NoMemory, made + fault.exchanges()),
@@ -103,10 +105,11 @@ fn laws_below()
 /// # Errors
 /// Where there is no memory; the client is then as it was, or the keys that were asked about are
 /// looked at again.
-pub(crate) fn turn<L: Link>(
+pub(crate) fn turn<L: Link, O: Observer>(
     alloc: Global,
     client: &mut Client<'_>,
     link: &mut L,
+    observer: &mut O,
 ) -> Result<Option<usize>, TurnFault>
     ensures { MakesTurn (L.seen link.old) client.old result (L.seen link.new) client.new
         (L.follows link.old link.new) }
@@ -115,7 +118,7 @@ pub(crate) fn turn<L: Link>(
     let Some(question) = client.ask(alloc)? else {
         return Ok(None);
     };
-    put(alloc, client, link, &question)?;
+    put(alloc, client, link, observer, &question)?;
     Ok(Some(question.parts.as_slice().len()))
 }
 
@@ -123,10 +126,11 @@ pub(crate) fn turn<L: Link>(
 ///
 /// # Errors
 /// Where there is no memory; the keys that it asks about are then looked at again.
-fn put<L: Link>(
+fn put<L: Link, O: Observer>(
     alloc: Global,
     client: &mut Client<'_>,
     link: &mut L,
+    observer: &mut O,
     question: &Question,
 ) -> Result<(), TurnFault>
     requires { IsToBePut client.old question.now }
@@ -135,11 +139,23 @@ fn put<L: Link>(
 {
     laws_below();
     let _plan = client.plan();
-    let Ok(answer) = answer_or_loss(link.exchange(alloc, question.bytes.as_slice())) else {
+    observer.asked(question.parts.as_slice());
+    let answered = link.exchange(alloc, question.bytes.as_slice());
+    tell_nothing_came(&answered, observer);
+    let Ok(answer) = answer_or_loss(answered) else {
         lose_each(client, question.parts.as_slice());
         return Err(TurnFault::Unmade);
     };
-    learn(alloc, client, question, answer)
+    learn(alloc, client, observer, question, answer)
+}
+
+/// Tells the observer why nothing came; nothing is told if something did.
+fn tell_nothing_came<O: Observer>(answered: &Result<Option<Vec<u8>>, LinkFault>, observer: &mut O) {
+    match answered {
+        Ok(Some(_)) => {}
+        Ok(None) => observer.missed(NoReplyReason::Lost),
+        Err(fault) => observer.missed(NoReplyReason::Failed(*fault)),
+    }
 }
 
 /// Learns from the answer to the message; where there is none, the keys that it asks about are
@@ -147,9 +163,10 @@ fn put<L: Link>(
 ///
 /// # Errors
 /// Where there is no memory; the keys are then looked at again.
-fn learn(
+fn learn<O: Observer>(
     alloc: Global,
     client: &mut Client<'_>,
+    observer: &mut O,
     question: &Question,
     answer: Option<Vec<u8>>,
 ) -> Result<(), TurnFault>
@@ -167,7 +184,13 @@ fn learn(
         lose_each(client, question.parts.as_slice());
         return Ok(());
     };
-    hear(alloc, client, question.parts.as_slice(), reply.as_slice())
+    hear(
+        alloc,
+        client,
+        observer,
+        question.parts.as_slice(),
+        reply.as_slice(),
+    )
 }
 
 /// Learns from bytes that have come; the keys of the parts of a message that they do not answer are
@@ -175,9 +198,10 @@ fn learn(
 ///
 /// # Errors
 /// Where there is no memory; the keys of all parts are then looked at again.
-fn hear(
+fn hear<O: Observer>(
     alloc: Global,
     client: &mut Client<'_>,
+    observer: &mut O,
     parts: &[Part],
     reply: &[u8],
 ) -> Result<(), TurnFault>
@@ -197,15 +221,28 @@ fn hear(
         → TrueMessage client.old.keys objects reply.now
         → Held objects client.new.keys client.new.knowns }
 {
-    match client.hear(alloc, reply) {
+    match client.hear(alloc, reply, observer) {
         Ok(heard) => {
             lose_unanswered(client, parts, heard.as_slice());
             Ok(())
         }
         Err(fault) => {
+            tell_no_reply(&fault, reply, observer);
             lose_each(client, parts);
             unless_no_memory(fault)
         }
+    }
+}
+
+/// Tells the observer why these bytes brought no replies.
+fn tell_no_reply<O: Observer>(fault: &HearFault, bytes: &[u8], observer: &mut O) {
+    match fault {
+        HearFault::Unreadable(fault) => observer.missed(NoReplyReason::Unreadable(*fault, bytes)),
+        HearFault::NoMemory => observer.missed(NoReplyReason::NoMemory),
+        HearFault::StrangerId
+        | HearFault::WrongOperation
+        | HearFault::OtherIdentifier
+        | HearFault::OtherName => {} // these are faults of one reply
     }
 }
 

@@ -1,7 +1,7 @@
 //! Exchanges that are told as they are made.
 ghost use Rattle.std.specs.Prelude.{◌≡◌};
 
-use crate::observer::Observer;
+use crate::link_observer::LinkObserver;
 use kmip_protocol::{Link, LinkFault};
 use std::alloc::Global;
 
@@ -14,7 +14,7 @@ pub struct Observed<L, O> {
     observer: O,
 }
 
-impl<L: Link, O: Observer> Observed<L, O> {
+impl<L: Link, O: LinkObserver> Observed<L, O> {
     /// Carries this link, and tells this observer of its exchanges. Takes no memory.
     pub fn new(link: L, observer: O) -> Self
         // The link within is this one.
@@ -38,7 +38,7 @@ impl<L: Link, O: Observer> Observed<L, O> {
     }
 }
 
-impl<L: Link, O: Observer> Link for Observed<L, O> {
+impl<L: Link, O: LinkObserver> Link for Observed<L, O> {
     ghost seen = { λ observed. L.seen observed.link };
 
     ghost follows = { λ observed next. L.follows observed.link next.link };

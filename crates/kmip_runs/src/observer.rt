@@ -1,12 +1,31 @@
-//! Is told of exchanges, and of the end of a run.
-use kmip_protocol::LinkFault;
+//! Is told of the exchanges of a run, as values.
+use crate::exchange_news::ExchangeNews;
+use crate::no_reply_reason::NoReplyReason;
+use kmip_client::{Client, Listener, NoListener, Part};
 
-/// Is told of exchanges, and of the end of a run.
-pub trait Observer {
-    /// An exchange was made: the bytes that were sent, and what came of it, a reply, none for a
-    /// loss, or why there is no answer.
-    fn exchanged(&mut self, request: &[u8], answered: Result<Option<&[u8]>, LinkFault>);
+/// Is told of each exchange of a run as it is made. What it brings comes to `replied` of `Listener`, or to
+/// `missed`.
+pub trait Observer: Listener {
+    /// A message that asks this is about to be sent.
+    fn asked(&mut self, parts: &[Part]);
 
-    /// The run was ended: no exchange of it follows.
+    /// The exchange brought no replies.
+    fn missed(&mut self, reason: NoReplyReason<'_>);
+
+    /// An exchange was made, and its text was given to the keeper, unless memory ran out. `news` is what it
+    /// brought, and `client` has what is known now.
+    fn learned(&mut self, client: &Client<'_>, news: ExchangeNews);
+
+    /// The run has ended: no exchange of it follows.
     fn ended(&mut self);
+}
+
+impl Observer for NoListener {
+    fn asked(&mut self, _parts: &[Part]) {}
+
+    fn missed(&mut self, _reason: NoReplyReason<'_>) {}
+
+    fn learned(&mut self, _client: &Client<'_>, _news: ExchangeNews) {}
+
+    fn ended(&mut self) {}
 }

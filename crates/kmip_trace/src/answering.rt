@@ -74,8 +74,11 @@ fn push_replies_in(
     }
 }
 
-/// Appends what some replies say to what was asked.
-fn push_replies(
+/// Appends what the replies of a message say to what was asked, as `push_answer` does for its bytes.
+///
+/// # Errors
+/// Where there is no memory for it.
+pub fn push_replies(
     alloc: Global,
     asked: &[Request],
     replies: &[Reply],

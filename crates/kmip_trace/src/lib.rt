@@ -8,7 +8,7 @@ mod names;
 mod outcomes;
 mod reasons;
 
-pub use answering::push_answer;
+pub use answering::{push_answer, push_replies};
 pub use asking::{push_question, push_requests, requests_in};
 pub use names::{operation_word, state_of, state_word};
 pub use outcomes::push_outcome;

@@ -1,5 +1,5 @@
 //! A link to a server of this process, over TCP on this machine.
-ghost use Rattle.std.specs.Prelude.{◌≡◌, ◌↔◌, false, Ok, IsErr};
+ghost use Rattle.std.specs.Prelude.{◌≡◌, ◌≢◌, ◌↔◌, false, Ok, IfErr, IsErr};
 
 use crate::receiving::receive_message;
 use crate::sending::send_message;
@@ -114,7 +114,10 @@ impl<R: Net + Clock + Drop, S: Records + Drop> Loopback<R, S> {
     /// `Io` where the stream failed or ended first, `Frame` where what came is no message, and
     /// `NoMemory`.
     fn reply(&mut self, alloc: Global, stream: &mut R::Stream) -> Result<Vec<u8>, LinkFault>
-        ensures { self.new.link ≡ self.old.link }
+        ensures link { self.new.link ≡ self.old.link }
+        // If no request came, the server is as it was. So its want of memory is never told as a loss.
+        ensures unserved { IfErr result (λ fault. fault ≢ LinkFault.NoMemory
+            → self.new.server ≡ self.old.server) }
     {
         let Ok(mut framer) = Framer::new(alloc) else {
             return Err(LinkFault::NoMemory);
@@ -122,10 +125,8 @@ impl<R: Net + Clock + Drop, S: Records + Drop> Loopback<R, S> {
         let Some(request) = receive_message(alloc, stream, &mut framer)? else {
             return Err(LinkFault::Io);
         };
-        match self.server.handle(alloc, request.as_slice(), 0) {
-            Ok(reply) => Ok(reply),
-            Err(NoMemory) => Err(LinkFault::NoMemory),
-        }
+        let reply = self.server.handle(alloc, request.as_slice(), 0)?;
+        Ok(reply)
     }
 }
 

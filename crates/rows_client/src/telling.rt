@@ -1,7 +1,7 @@
 //! What a client knows, asks and says, as the transcript tells of it.
 
 use crate::messages::push_digits;
-use kmip_client::{Client, HearFault, Heard, Part, Question, Verdict};
+use kmip_client::{Client, HearFault, Heard, NoListener, Part, Question, Verdict};
 use kmip_ttlv::Text;
 use std::alloc::{AllocError, Global};
 use std::test::Fail;
@@ -53,7 +53,7 @@ pub fn push_heard(
     client: &mut Client<'_>,
     bytes: &[u8],
 ) -> Result<(), AllocError> {
-    match client.hear(alloc, bytes) {
+    match client.hear(alloc, bytes, &mut NoListener) {
         Ok(all) => push_all(text, all.as_slice()),
         Err(fault) => push_refusal(text, &fault),
     }

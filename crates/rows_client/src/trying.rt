@@ -4,7 +4,7 @@ ghost use Rattle.std.specs.Prelude.{◌≡◌, ◌<◌, length};
 use crate::changes::push_changes;
 use crate::talks::Talk;
 use crate::telling::{push_heard, push_standing};
-use kmip_client::Client;
+use kmip_client::{Client, NoListener};
 use std::alloc::Global;
 use std::test::Fail;
 
@@ -153,7 +153,7 @@ fn keep_at<'p>(
 
 /// Whether some reply of a message is learnt from.
 fn is_taken(alloc: Global, client: &mut Client<'_>, bytes: &[u8]) -> bool {
-    match client.hear(alloc, bytes) {
+    match client.hear(alloc, bytes, &mut NoListener) {
         Ok(all) => all.as_slice().iter().any(Result::is_ok),
         Err(_) => false,
     }

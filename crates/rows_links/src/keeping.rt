@@ -10,8 +10,8 @@ use crate::watching::{Count, Patient, Stopped};
 use kmip_client::Client;
 use kmip_message_commands::ExitStatus;
 use kmip_plan::{Plan, read_plan};
-use kmip_plan_commands::{Report, RunInput, Spent, begin, progress_line, run_run};
-use kmip_runs::{Keeper, Observed, Pace, SaveFault, Stop, carry_out, next_wait};
+use kmip_plan_commands::{Report, RunInput, Spent, begin, progress_line, run_plan};
+use kmip_runs::{Keeper, Pace, SaveFault, Stop, carry_out, next_wait};
 use kmip_scripted::Scripted;
 use kmip_server::ListStore;
 use std::alloc::{AllocError, Global};
@@ -21,9 +21,6 @@ use std::io::Write;
 use std::str::from_utf8;
 use std::test::Fail;
 use test_support::Call;
-
-/// A link to a server in memory that follows a script, and tells who counts.
-type Watched = Observed<Scripted<ListStore>, Count>;
 
 /// What the first line of a block names.
 #[derive(Clone, Copy)]
@@ -45,15 +42,15 @@ struct Case<'c> {
     file: &'c str,
     client: Client<'c>,
     clock: &'c Stopped,
-    link: Watched,
+    link: Scripted<ListStore>,
     patience: Patient<'c>,
+    count: Count,
 }
 
 /// What `run` is told beside its link.
 #[derive(Clone, Copy)]
 struct Order<'o> {
-    /// The text of the plan.
-    plan: &'o str,
+    plan: &'o Plan,
     /// In which form its end is printed.
     report: Report,
     /// How many exchanges it may make.
@@ -111,7 +108,7 @@ fn take_calls(
     let clock = Stopped {
         slept: Cell::new(0),
     };
-    let link = link_of(rt.alloc(), heading)?;
+    let link = script_link(rt.alloc(), heading.words)?;
     let client = Client::fresh(rt.alloc(), plan)?;
     let mut case = Case {
         file: heading.plan,
@@ -119,6 +116,7 @@ fn take_calls(
         clock: &clock,
         link,
         patience: Patient::new(Pace::new(&clock, heading.wait, heading.give_up)),
+        count: Count::new(),
     };
     take_turns(rt, &mut case, calls, told)
 }
@@ -137,18 +135,6 @@ fn take_turns(
         told.push(text)?;
     }
     Ok(())
-}
-
-/// A link to an empty server.
-fn link_of(alloc: Global, heading: &Heading<'_>) -> Result<Watched, Fail> {
-    let link = script_link(alloc, heading.words)?;
-    let count = Count {
-        replies: 0,
-        losses: 0,
-        faults: 0,
-        ends: 0,
-    };
-    Ok(Observed::new(link, count))
 }
 
 /// Does what a line says, and writes what is told of it.
@@ -183,9 +169,9 @@ fn run(
     saved: Option<&str>,
 ) -> Result<(), Fail> {
     let settings = Settings::of(words)?;
-    let plan = fs::read_to_string(rt, settings.plan.unwrap_or(case.file))?;
+    let plan = plan_in(rt, settings.plan.unwrap_or(case.file))?;
     let order = Order {
-        plan: plan.as_str(),
+        plan: &plan,
         report: settings.report,
         limit: settings.limit,
         batch: batch_of(settings.batch)?,
@@ -261,15 +247,17 @@ fn run_with<K: Keeper, W: Write>(
 ) -> ExitStatus
     requires { IsTrue (may_have order.now.batch) }
 {
-    let (plan, saved) = (order.plan, order.saved);
     let input = RunInput {
         report: order.report,
         path: "over there",
         limit: order.limit,
         batch: order.batch,
+        saved: order.saved,
     };
-    let (link, patience) = (&mut case.link, &mut case.patience);
-    run_run(alloc, plan, &input, saved, link, keeper, patience, writer)
+    let (link, patience, count) = (&mut case.link, &mut case.patience, &mut case.count);
+    run_plan(
+        alloc, order.plan, &input, link, keeper, patience, count, writer,
+    )
 }
 
 /// Writes how a command ended.
@@ -287,6 +275,7 @@ fn carry(alloc: Global, text: &mut String, case: &mut Case<'_>, words: &str) -> 
         &mut case.link,
         &mut shelf,
         &mut case.patience,
+        &mut case.count,
         settings.limit,
     );
     push_carried(text, carried, made)?;
@@ -348,7 +337,7 @@ fn push_waits(text: &mut String, first: u64) -> Result<(), AllocError> {
 
 /// Writes how many messages were sent, what was told of them, and for how long it was slept.
 fn push_told(text: &mut String, case: &Case<'_>) -> Result<(), AllocError> {
-    push_count(text, sent_over(case.link.link()), case.link.observer())?;
+    push_count(text, sent_over(&case.link), &case.count)?;
     let (slept, wait) = (case.clock.slept.get(), case.patience.pace().wait());
     writeln!(text, "slept {slept} ms, to wait {wait} ms")
 }

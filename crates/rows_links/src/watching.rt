@@ -1,7 +1,8 @@
 //! A clock that moves by sleeping alone, and who counts the exchanges that it is told of.
 
-use kmip_client::Client;
-use kmip_runs::{ExchangeNews, LinkFault, Observer, Pace, Patience};
+use kmip_batch_items::Reply;
+use kmip_client::{Client, Listener, Part};
+use kmip_runs::{ExchangeNews, NoReplyReason, Observer, Pace, Patience};
 use std::cell::Cell;
 use std::io;
 use std::time::{Clock, Duration};
@@ -30,20 +31,44 @@ impl Clock for Stopped {
 /// Counts the exchanges that it is told of, and the ends of runs.
 #[derive(Drop)]
 pub(crate) struct Count {
+    /// Exchanges that brought bytes.
     pub(crate) replies: usize,
     pub(crate) losses: usize,
+    /// Exchanges in which the link failed.
     pub(crate) faults: usize,
     pub(crate) ends: usize,
 }
 
-impl Observer for Count {
-    fn exchanged(&mut self, _request: &[u8], answered: Result<Option<&[u8]>, LinkFault>) {
-        match answered {
-            Ok(Some(_)) => self.replies = self.replies.saturating_add(1),
-            Ok(None) => self.losses = self.losses.saturating_add(1),
-            Err(_) => self.faults = self.faults.saturating_add(1),
+impl Count {
+    pub(crate) fn new() -> Self {
+        Count {
+            replies: 0,
+            losses: 0,
+            faults: 0,
+            ends: 0,
         }
     }
+}
+
+impl Listener for Count {
+    fn replied(&mut self, _replies: &[Reply]) {
+        self.replies = self.replies.saturating_add(1);
+    }
+}
+
+impl Observer for Count {
+    fn asked(&mut self, _parts: &[Part]) {}
+
+    fn missed(&mut self, reason: NoReplyReason<'_>) {
+        let count = match reason {
+            NoReplyReason::Lost => &mut self.losses,
+            NoReplyReason::Failed(_) => &mut self.faults,
+            NoReplyReason::Unreadable(_, _) | NoReplyReason::NoMemory => &mut self.replies,
+        };
+        *count = count.saturating_add(1);
+    }
+
+    fn learned(&mut self, _client: &Client<'_>, _news: ExchangeNews) {}
 
     fn ended(&mut self) {
         self.ends = self.ends.saturating_add(1);

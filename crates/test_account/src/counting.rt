@@ -1,7 +1,7 @@
 //! What is counted of a run, and its text. The counts and the text were worked out by hand.
 
 use Operation::{Activate, Create, Destroy, GetAttributes, Locate, Revoke};
-use kmip_account::{LastTimes, LookCounts, LookMetrics, LookTimes, Metrics};
+use kmip_account::{LastTimes, LookCounts, LookMetrics, Metrics};
 use kmip_batch_items::Operation;
 use kmip_plan::read_plan;
 use kmip_plan_commands::{RunTally, Spent};
@@ -192,11 +192,29 @@ const TIMES: [(&str, Option<u64>); 9] = [
 #[test]
 fn reads_the_last_times(rt: HostRuntime) {
     for (text, wanted) in &TIMES {
-        let is_right = LastTimes::of_text(text).finish == *wanted;
+        let is_right = Metrics::last_times(text).finish == *wanted;
         assert_true(&rt, is_right, text);
     }
-    let answer = LastTimes::of_text(BEGUN).answer;
+    let answer = Metrics::last_times(BEGUN).answer;
     assert_true(&rt, answer == KNOWN_TIMES.answer, "the last answer");
+}
+
+/// How many seconds before second 2,000,000,000 the server last replied, whether all keys are finished, and the last
+/// reply and finish that are known then, after those of `KNOWN_TIMES`.
+const RENEWALS: [(Option<u64>, bool, Option<u64>, Option<u64>); 4] = [
+    (None, false, Some(1_795_820_401), Some(1_795_820_400)),
+    (None, true, Some(1_795_820_401), Some(1_795_820_400)),
+    (Some(3), false, Some(1_999_999_997), Some(1_795_820_400)),
+    (Some(3), true, Some(1_999_999_997), Some(2_000_000_000)),
+];
+
+#[test]
+fn renews_times_only_by_a_reply(rt: HostRuntime) {
+    for (answered, is_finished, answer, finish) in &RENEWALS {
+        let last = KNOWN_TIMES.renewed(2_000_000_000, *answered, *is_finished);
+        let is_right = last.answer == *answer && last.finish == *finish;
+        assert_true(&rt, is_right, "the times after a command");
+    }
 }
 
 /// The metrics of a look.
@@ -240,7 +258,7 @@ fn tells_metrics_of_looks(rt: HostRuntime) -> Result<(), Fail> {
             seconds: 0,
         },
         milliseconds: 45,
-        last: LookTimes::of_text(LOOKED),
+        last: LookMetrics::last_times(LOOKED),
     };
     let text = metrics.text(rt.alloc())?;
     assert_true(&rt, text.as_str() == LOOKED, "of a look");

@@ -1,9 +1,11 @@
 //! Runs whose disk stops at each call in turn.
 
 use crate::asserting::assert_stand;
+use kmip_client::NoListener;
 use kmip_disk::{Disk, MemoryDisk};
 use kmip_objects::KeyState;
-use kmip_plan_commands::{Report, RunInput, run_bytes};
+use kmip_plan::read_plan;
+use kmip_plan_commands::{Report, RunInput, run_to_end};
 use kmip_runs::{FileKeeper, Tireless};
 use kmip_scripted::{Scripted, read_script};
 use kmip_server::Server;
@@ -61,19 +63,19 @@ fn run(
         path: "progress",
         limit: 100,
         batch: 1,
-    };
-    let mut output = Vec::new(alloc);
-    let is_refused = run_bytes(
-        alloc,
-        PLAN,
-        &input,
         saved,
+    };
+    let plan = read_plan(alloc, PLAN)?;
+    let end = run_to_end(
+        alloc,
+        &plan,
+        &input,
         link,
         &mut keeper,
         &mut Tireless,
-        &mut output,
+        &mut NoListener,
     )?;
-    Ok((!is_refused, keeper.into_disk()))
+    Ok((!end.is_refused(), keeper.into_disk()))
 }
 
 /// How a machine stops, and what it finds afterwards: after how many calls of the first run, of the second one,

@@ -4,7 +4,7 @@ use crate::plans::PAIR;
 use crate::setback::Setback;
 use crate::talking::print_known;
 use kmip_batch_items::standard::MOST_QUESTIONS;
-use kmip_client::{Client, HearFault, Heard};
+use kmip_client::{Client, HearFault, Heard, NoListener};
 use kmip_plan::read_plan;
 use kmip_ttlv::NoMemory;
 use std::alloc::Global;
@@ -102,7 +102,7 @@ fn ask(alloc: Global, client: &mut Client<'_>, wanted: &[u8]) -> Result<&'static
 
 /// Lets the client hear the replies. Memory was lacking also where it was for one of them.
 fn hear(alloc: Global, client: &mut Client<'_>, reply: &[u8]) -> Result<&'static str, NoMemory> {
-    match client.hear(alloc, reply) {
+    match client.hear(alloc, reply, &mut NoListener) {
         Ok(all) if lacks_memory(all.as_slice()) => Err(NoMemory),
         Ok(_) => Ok("heard"),
         Err(HearFault::NoMemory) => Err(NoMemory),

@@ -2,7 +2,7 @@
 
 use crate::plans::ACTIVE;
 use crate::setback::Setback;
-use kmip_client::{Client, HearFault, Heard, News, Question};
+use kmip_client::{Client, HearFault, Heard, News, NoListener, Question};
 use kmip_plan::read_plan;
 use kmip_ttlv::NoMemory;
 use std::alloc::Global;
@@ -132,7 +132,7 @@ fn said_of_question(question: &Question, wanted: &[u8]) -> Said {
 
 /// Lets the client hear a message of one reply: what came of it.
 fn hear(alloc: Global, client: &mut Client<'_>, reply: &[u8]) -> Result<Said, NoMemory> {
-    match client.hear(alloc, reply) {
+    match client.hear(alloc, reply, &mut NoListener) {
         Ok(all) => Ok(said_of_replies(all.as_slice())),
         Err(HearFault::NoMemory) => Err(NoMemory),
         Err(fault) => Ok(said_of_fault(fault)),

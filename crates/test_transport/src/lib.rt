@@ -12,6 +12,8 @@ mod carrying;
 #[cfg(test)]
 mod conversing;
 #[cfg(test)]
+mod crowded;
+#[cfg(test)]
 mod cut_replies;
 #[cfg(test)]
 mod cut_requests;

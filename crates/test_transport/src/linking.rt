@@ -1,6 +1,7 @@
 //! Links over TCP and a Unix socket, with the peer in the same process.
 
 use crate::asserting::{assert_link, assert_number, assert_received};
+use crate::crowded::Crowded;
 use crate::dripping::Dripping;
 use crate::serving::new_server;
 use kmip_server::{ListStore, Records};
@@ -12,7 +13,7 @@ use std::os::unix::net;
 use std::os::unix::net::UnixListener;
 use std::process::Abort;
 use std::test::Fail;
-use std::time::Duration;
+use std::time::{Clock, Duration};
 use std::{fs, process};
 use test_support::{CREATE_K1, CREATE_K1_REPLY, LOCATE_K1, LOCATE_K1_NONE};
 
@@ -60,9 +61,9 @@ fn assert_fails<D: Dial + Drop>(
 }
 
 /// The server's reply to this request is this, over a stream of its own.
-fn assert_replies(
+fn assert_replies<R: Net + Clock + Drop>(
     rt: &(impl Abort + AllocGlobal),
-    link: &mut Loopback<HostRuntime, ListStore>,
+    link: &mut Loopback<R, ListStore>,
     request: &[u8],
     reply: &[u8],
 ) -> Result<(), LinkFault> {
@@ -72,9 +73,9 @@ fn assert_replies(
 }
 
 /// The same of a request and a reply in hexadecimal.
-fn assert_exchanges(
+fn assert_exchanges<R: Net + Clock + Drop>(
     rt: &(impl Abort + AllocGlobal),
-    link: &mut Loopback<HostRuntime, ListStore>,
+    link: &mut Loopback<R, ListStore>,
     request: &str,
     reply: &str,
 ) -> Result<(), Fail> {
@@ -85,9 +86,9 @@ fn assert_exchanges(
 }
 
 /// The server's replies to both requests, behind which it has one object.
-fn assert_carries(
+fn assert_carries<R: Net + Clock + Drop>(
     rt: &(impl Abort + AllocGlobal),
-    link: &mut Loopback<HostRuntime, ListStore>,
+    link: &mut Loopback<R, ListStore>,
 ) -> Result<(), Fail> {
     assert_exchanges(rt, link, LOCATE_K1, LOCATE_K1_NONE)?;
     assert_exchanges(rt, link, CREATE_K1, CREATE_K1_REPLY)?;
@@ -100,6 +101,23 @@ fn carries_requests_to_its_own_server(rt: HostRuntime) -> Result<(), Fail> {
     let server = new_server(rt.alloc());
     let mut link = Loopback::new(rt.clone()?, server, Duration::from_secs(10))?;
     assert_carries(&rt, &mut link)
+}
+
+/// Another process connects to the server's port before the link does, at each of its connections: the link is
+/// served all the same, and that process is not.
+#[test]
+fn serves_no_other_process(rt: HostRuntime) -> Result<(), Fail> {
+    let other = Cell::new(None);
+    let server = new_server(rt.alloc());
+    let net = Crowded::new(&rt, &other);
+    let mut link = Loopback::new(net, server, Duration::from_secs(10))?;
+    assert_carries(&rt, &mut link)?;
+    let Some(mut stream) = other.take() else {
+        return Err(Fail::new("no other process connected"));
+    };
+    let count = stream.read(&mut [0; 1])?;
+    assert_number(&rt, count, 0, "bytes to the other process");
+    Ok(())
 }
 
 #[test]

@@ -5,7 +5,7 @@ use Rattle.kmip_runs.proofs.GoodLemmas.{keeps_then}
 use Rattle.kmip_runs.proofs.driving.hear.Goals as goal
 
 pub returns-in-Ok-clause-kept : goal.returns-in-Ok-clause-kept
-returns-in-Ok-clause-kept c =
+returns-in-Ok-clause-kept g c =
     keeps_then c.args.client.now c.hear.new.self c.lose_unanswered.new.client
     (record {
       keys_stay = ap (λ (s : ClientState). s.keys) c.hear.ensures.stays;

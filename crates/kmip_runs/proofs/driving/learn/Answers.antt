@@ -5,16 +5,16 @@ use Rattle.kmip_runs.proofs.TurnLemmas.{if_fault}
 use Rattle.kmip_runs.proofs.driving.learn.Goals as goal
 
 pub returns-in_default-clause-taught : goal.returns-in_default-clause-taught
-returns-in_default-clause-taught c = search rules
+returns-in_default-clause-taught g c = search rules
 
 pub returns-in_default-clause-kept : goal.returns-in_default-clause-kept
-returns-in_default-clause-kept c = search rules
+returns-in_default-clause-kept g c = search rules
 
 pub returns-clause-held : goal.returns-clause-held
-returns-clause-held c = λ objects held so.
+returns-clause-held g c = λ objects held so.
     c.hear.ensures.held objects held
     (subst (λ bytes. TrueMessage c.args.client.now.keys objects bytes) (sym c.as_slice-3.ensures.value)
     (subst (λ answer. IfSome answer (λ v. TrueMessage c.args.client.now.keys objects v.items)) c.in-Some.is so))
 
 pub returns-clause-unheard : goal.returns-clause-unheard
-returns-clause-unheard c = if_fault _ _ c.hear.result (λ fault is. (is, subst (λ o. IsSome o) (sym c.in-Some.is) refl)) c.hear.ensures.unheard
+returns-clause-unheard g c = if_fault _ _ c.hear.result (λ fault is. (is, subst (λ o. IsSome o) (sym c.in-Some.is) refl)) c.hear.ensures.unheard

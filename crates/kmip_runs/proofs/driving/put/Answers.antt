@@ -27,47 +27,47 @@ returns-in_default g c =
     let client = c.args.client.now in
     let next = c.lose_each.new.client in
     let old = g.L.Link.seen c.args.link.now in
-    let new = g.L.Link.seen c.exchange.new.self in
+    let new = g.L.Link.seen c.exchange-answered.new.self in
     let l = c.laws_below.ensures in
     let lawful = c.plan-plan.ensures.lawful in
     let names = is_planned client.keys in
-    let answered = answer_in (λ v. v.items) c.exchange.result in
+    let answered = answer_in (λ v. v.items) c.exchange-answered.result in
     let none : or_loss answered ≡ None = search rules in
     let lost =
     subst (λ parts. next ≡ record client { knowns = lost_each client.keys parts client.knowns }) c.as_slice-in_default.ensures c.lose_each.ensures.lost in
     let unmade = λ (honest : old.honest names).
     broken_asked names client old.past new.past c.args.question.now answered c.requires none
-    (subst (λ bytes. Exchanged names old.past bytes answered new.past) c.as_slice.ensures (c.exchange.ensures.honestly names honest).honest.1) in
+    (subst (λ bytes. Exchanged names old.past bytes answered new.past) c.as_slice-2.ensures (c.exchange-answered.ensures.honestly names honest).honest.1) in
     record {
       tries = record {
         keeps = c.lose_each.ensures.kept;
         nearer = search rules;
         paid = search rules;
-        honest = λ names honest. (c.exchange.ensures.honestly names honest).honest.0;
-        counts = λ names honest. no_fewer names old.past new.past c.as_slice.result.now _ old.disturbances new.disturbances (c.exchange.ensures.honestly names honest).disturbed;
+        honest = λ names honest. (c.exchange-answered.ensures.honestly names honest).honest.0;
+        counts = λ names honest. no_fewer names old.past new.past c.as_slice-2.result.now _ old.disturbances new.disturbances (c.exchange-answered.ensures.honestly names honest).disturbed;
         ended = search rules;
         followed = search rules;
       };
       well = λ good just.
-          let may = subst (λ bytes. JustifiedMessage client.keys old.past.objects bytes) (sym c.as_slice.ensures) just in
+          let may = subst (λ bytes. JustifiedMessage client.keys old.past.objects bytes) (sym c.as_slice-2.ensures) just in
           let stays =
-          left l client old new c.as_slice.result.now _ lawful good may c.exchange.ensures.amid in
+          left l client old new c.as_slice-2.result.now _ lawful good may c.exchange-answered.ensures.amid in
           let left =
           good_left client next old new stays c.lose_each.ensures.kept.keys_stay (c.lose_each.ensures.held new.past.objects stays.held) in
           record {
             good = left.0;
             onward = left.1;
             further =
-                further_asked l client old new c.as_slice.result.now _ c.requires.places c.args.question.now _ lawful c.requires.about c.as_slice.ensures
-                c.exchange.ensures.amid (λ names calm. (c.exchange.ensures.calmly names calm).calm)
+                further_asked l client old new c.as_slice-2.result.now _ c.requires.places c.args.question.now _ lawful c.requires.about c.as_slice-2.ensures
+                c.exchange-answered.ensures.amid (λ names calm. (c.exchange-answered.ensures.calmly names calm).calm)
                 (λ is. absurd cc) may good;
           };
       honestly = λ honest. record {
         tries = record {
-          stays_honest = (c.exchange.ensures.honestly names honest).honest.0;
+          stays_honest = (c.exchange-answered.ensures.honestly names honest).honest.0;
           learnt = tt;
           broken = (lost_facts l.lost client next c.args.question.now lost, unmade honest);
-          takes_nothing_back = exchanged_grown names old.past new.past c.as_slice.result.now _ (c.exchange.ensures.honestly names honest).honest.1;
+          takes_nothing_back = exchanged_grown names old.past new.past c.as_slice-2.result.now _ (c.exchange-answered.ensures.honestly names honest).honest.1;
         };
         sent = (unmade honest).sent_stays ∙ sym (append-nil old.past.sent);
       };
@@ -81,40 +81,40 @@ returns g c =
     let client = c.args.client.now in
     let next = c.learn.new.client in
     let old = g.L.Link.seen c.args.link.now in
-    let new = g.L.Link.seen c.exchange.new.self in
+    let new = g.L.Link.seen c.exchange-answered.new.self in
     let l = c.laws_below.ensures in
     let lawful = c.plan-plan.ensures.lawful in
     let names = is_planned client.keys in
     let question = c.args.question.now in
     let hands = λ (honest : old.honest names).
-    subst (λ bytes. HandsOver names old.past bytes (option_map (λ v. v.items) c.in-Ok.answer) new.past) c.as_slice.ensures
-    (handed_over names old.past new.past c.as_slice.result.now _ _ (sym c.in-Ok.ensures) (c.exchange.ensures.honestly names honest).honest.1) in
+    subst (λ bytes. HandsOver names old.past bytes (option_map (λ v. v.items) c.in-Ok.answer) new.past) c.as_slice-2.ensures
+    (handed_over names old.past new.past c.as_slice-2.result.now _ _ (sym c.in-Ok.ensures) (c.exchange-answered.ensures.honestly names honest).honest.1) in
     record {
       tries = record {
         keeps = c.learn.ensures.kept;
         nearer = λ settling.
             on_ok c.learn.result
-            (nearer_one l client next old new c.as_slice.result.now _ question _ lawful c.requires c.as_slice.ensures
-            (λ names calm. (c.exchange.ensures.calmly names calm).calm) (sym c.in-Ok.ensures) settling c.learn.ensures.kept.keys_stay)
+            (nearer_one l client next old new c.as_slice-2.result.now _ question _ lawful c.requires c.as_slice-2.ensures
+            (λ names calm. (c.exchange-answered.ensures.calmly names calm).calm) (sym c.in-Ok.ensures) settling c.learn.ensures.kept.keys_stay)
             c.learn.ensures.taught;
         paid = λ good honest.
             on_ok c.learn.result
-            (paid_one l client next old new c.as_slice.result.now _ question _ lawful c.requires c.as_slice.ensures
-            (λ names honest. (c.exchange.ensures.honestly names honest).honest) (λ names honest. (c.exchange.ensures.honestly names honest).disturbed)
+            (paid_one l client next old new c.as_slice-2.result.now _ question _ lawful c.requires c.as_slice-2.ensures
+            (λ names honest. (c.exchange-answered.ensures.honestly names honest).honest) (λ names honest. (c.exchange-answered.ensures.honestly names honest).disturbed)
             (sym c.in-Ok.ensures) good honest c.learn.ensures.kept.keys_stay)
             c.learn.ensures.taught;
-        honest = λ names honest. (c.exchange.ensures.honestly names honest).honest.0;
-        counts = λ names honest. no_fewer names old.past new.past c.as_slice.result.now _ old.disturbances new.disturbances (c.exchange.ensures.honestly names honest).disturbed;
+        honest = λ names honest. (c.exchange-answered.ensures.honestly names honest).honest.0;
+        counts = λ names honest. no_fewer names old.past new.past c.as_slice-2.result.now _ old.disturbances new.disturbances (c.exchange-answered.ensures.honestly names honest).disturbed;
         ended = search rules;
         followed = search rules;
       };
       well = λ good just.
-          let may = subst (λ bytes. JustifiedMessage client.keys old.past.objects bytes) (sym c.as_slice.ensures) just in
+          let may = subst (λ bytes. JustifiedMessage client.keys old.past.objects bytes) (sym c.as_slice-2.ensures) just in
           let stays =
-          left l client old new c.as_slice.result.now _ lawful good may c.exchange.ensures.amid in
+          left l client old new c.as_slice-2.result.now _ lawful good may c.exchange-answered.ensures.amid in
           let so =
-          told l client.keys old.past new.past c.as_slice.result.now _ _ stays.sound (sym c.in-Ok.ensures)
-          (c.exchange.ensures.amid client.keys good.amid_for good.sound may).1 in
+          told l client.keys old.past new.past c.as_slice-2.result.now _ _ stays.sound (sym c.in-Ok.ensures)
+          (c.exchange-answered.ensures.amid client.keys good.amid_for good.sound may).1 in
           let left =
           good_left client next old new stays c.learn.ensures.kept.keys_stay
           (c.learn.ensures.held new.past.objects stays.held (if_handed _ c.in-Ok.answer (λ v. v.items) so)) in
@@ -122,13 +122,13 @@ returns g c =
             good = left.0;
             onward = left.1;
             further =
-                further_asked l client old new c.as_slice.result.now _ c.requires.places question _ lawful c.requires.about c.as_slice.ensures
-                c.exchange.ensures.amid (λ names calm. (c.exchange.ensures.calmly names calm).calm)
+                further_asked l client old new c.as_slice-2.result.now _ c.requires.places question _ lawful c.requires.about c.as_slice-2.ensures
+                c.exchange-answered.ensures.amid (λ names calm. (c.exchange-answered.ensures.calmly names calm).calm)
                 (λ is. (_, sym c.in-Ok.ensures)) may good;
           };
       honestly = λ honest. record {
         tries = record {
-          stays_honest = (c.exchange.ensures.honestly names honest).honest.0;
+          stays_honest = (c.exchange-answered.ensures.honestly names honest).honest.0;
           learnt =
               on_ok c.learn.result (learnt_one l.lost names client next old.past new.past question _ c.requires (hands honest)) c.learn.ensures.taught;
           broken =
@@ -138,7 +138,7 @@ returns g c =
                 subst (λ f. IsBrokenOff client.keys client.batch old.past new.past f) (sym unheard.0)
                     (broken_handed names client old.past new.past question _ c.requires (some_mapped c.in-Ok.answer (λ v. v.items) unheard.1) (hands honest)),
               ));
-          takes_nothing_back = exchanged_grown names old.past new.past c.as_slice.result.now _ (c.exchange.ensures.honestly names honest).honest.1;
+          takes_nothing_back = exchanged_grown names old.past new.past c.as_slice-2.result.now _ (c.exchange-answered.ensures.honestly names honest).honest.1;
         };
         sent =
             if_fault _ _ c.learn.result

@@ -8,15 +8,15 @@ use Rattle.kmip_client.specs.Truth.{TrueMessage}
 use Rattle.kmip_client.proofs.MessageLemmas.{Kept, kept_by_message, held_by_message}
 use Rattle.kmip_client.proofs.client.Client.hear.Goals as goal
 
-kept_here : (c : goal.After-hear_message) → Kept c.self.inside.plan.now c.self.inside.knowns.items c.hear_message.new.knowns.items c.self.inside.next
-kept_here c =
+kept_here : (g : _) (c : goal.After-hear_message g) → Kept c.self.inside.plan.now c.self.inside.knowns.items c.hear_message.new.knowns.items c.self.inside.next
+kept_here g c =
     kept_by_message c.self.inside.plan.now c.keys-keys.result.now c.args.bytes.now c.self.inside.knowns.items c.hear_message.new.knowns.items c.self.inside.next
     c.self.inside.working c.hear_message.result c.steps_have_places.ensures.within c.states_have_places.ensures.within c.keys-keys.ensures.value
     c.hear_message.ensures.known c.hear_message.ensures.fits c.hear_message.ensures.same c.self.invariant.0
 
 pub invariant_of-self : goal.invariant_of-self
-invariant_of-self c =
-    let kept = kept_here c in (
+invariant_of-self g c =
+    let kept = kept_here g c in (
       record {
         lawful = kept.shaped.lawful;
         each = kept.shaped.each;
@@ -28,14 +28,14 @@ invariant_of-self c =
     )
 
 pub returns-clause-kept : goal.returns-clause-kept
-returns-clause-kept c = subst (λ (s : ClientState). AllZip IsKept s.knowns c.hear_message.new.knowns.items) c.self.view_is (kept_here c).kept
+returns-clause-kept g c = subst (λ (s : ClientState). AllZip IsKept s.knowns c.hear_message.new.knowns.items) c.self.view_is (kept_here g c).kept
 
 pub returns-clause-settled : goal.returns-clause-settled
-returns-clause-settled c =
-    subst (λ (s : ClientState). VerdictsStay s.keys s.knowns c.hear_message.new.knowns.items) c.self.view_is (kept_here c).stays
+returns-clause-settled g c =
+    subst (λ (s : ClientState). VerdictsStay s.keys s.knowns c.hear_message.new.knowns.items) c.self.view_is (kept_here g c).stays
 
 pub returns-clause-held : goal.returns-clause-held
-returns-clause-held c = λ objects held so.
+returns-clause-held g c = λ objects held so.
     held_by_message objects c.self.inside.plan.now c.keys-keys.result.now c.args.bytes.now c.self.inside.knowns.items c.hear_message.new.knowns.items
     c.hear_message.result c.states_have_places.ensures.within c.keys-keys.ensures.value c.hear_message.ensures.known c.hear_message.ensures.same
     (subst (λ (s : ClientState). Held objects s.keys s.knowns) (sym c.self.view_is) held)

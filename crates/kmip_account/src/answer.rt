@@ -1,0 +1,63 @@
+//! What came of an exchange, by its bytes.
+
+use crate::silence::Silence;
+use crate::wire::Wire;
+use kmip_batch_items::{MessageFault, Outcome, Reply};
+use kmip_messages::read_reply;
+use kmip_protocol::LinkFault;
+use kmip_ttlv::NoMemory;
+use std::alloc::Global;
+
+/// What came of an exchange.
+#[derive(Drop)]
+pub(crate) enum Answer {
+    Replies(Vec<Reply>),
+    /// No reply came that can be read.
+    Silent(Silence),
+}
+
+impl Answer {
+    /// By the bytes that came, or by what was noted of the streams.
+    ///
+    /// # Errors
+    /// If memory runs out.
+    pub(crate) fn of(
+        alloc: Global,
+        answered: Result<Option<&[u8]>, LinkFault>,
+        wire: &Wire,
+    ) -> Result<Answer, NoMemory> {
+        match answered {
+            Ok(Some(reply)) => match read_reply(alloc, reply) {
+                Ok(replies) => Ok(Answer::Replies(replies)),
+                Err(MessageFault::NoMemory) => Err(NoMemory),
+                Err(fault) => Ok(Answer::Silent(Silence::unreadable(fault, reply))),
+            },
+            Ok(None) => Ok(Answer::Silent(wire.silence(None))),
+            Err(fault) => Ok(Answer::Silent(wire.silence(Some(fault)))),
+        }
+    }
+
+    /// The replies; none if there is a silence.
+    pub(crate) fn replies(&self) -> &[Reply] {
+        match self {
+            Answer::Replies(replies) => replies.as_slice(),
+            Answer::Silent(_) => &[],
+        }
+    }
+
+    /// Why there is no reply that can be read, if there is none.
+    pub(crate) fn silence(&self) -> Option<Silence> {
+        match self {
+            Answer::Replies(_) => None,
+            Answer::Silent(silence) => Some(*silence),
+        }
+    }
+
+    /// How many searches by name it answers.
+    pub(crate) fn found_names(&self) -> usize {
+        self.replies()
+            .iter()
+            .filter(|reply| matches!(reply.outcome, Outcome::Located(_)))
+            .count()
+    }
+}

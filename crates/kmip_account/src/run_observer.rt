@@ -1,0 +1,96 @@
+//! What `run` reports and finds out of its exchanges while it works.
+
+use crate::account::Account;
+use crate::asked::Asked;
+use crate::exchange::Exchange;
+use crate::findings::Findings;
+use crate::silence::Silence;
+use kmip_batch_items::Reply;
+use kmip_client::{Client, Listener, Part};
+use kmip_plan_commands::RunTally;
+use kmip_runs::{ExchangeNews, NoReplyReason, Observer};
+use kmip_ttlv::NoMemory;
+
+/// Gives each exchange of a run to its account, which reports it, and to its findings.
+#[derive(Drop)]
+pub struct RunObserver<'a> {
+    account: &'a Account<'a>,
+    findings: &'a mut Findings,
+    /// What the message under way asks.
+    asked: Asked,
+}
+
+impl<'a> RunObserver<'a> {
+    /// One that gives them to these.
+    pub fn new(account: &'a Account<'a>, findings: &'a mut Findings) -> Self {
+        RunObserver {
+            account,
+            findings,
+            asked: Asked::none(),
+        }
+    }
+
+    /// What the run has found out.
+    pub fn findings(&self) -> &Findings {
+        self.findings
+    }
+
+    /// What is counted of the run, which has come so far as the client knows.
+    ///
+    /// # Errors
+    /// If memory runs out.
+    pub fn tally(&mut self, client: &Client<'_>) -> Result<RunTally, NoMemory> {
+        self.findings.know_all(client);
+        self.account.tally(self.findings)
+    }
+
+    /// The exchange that was under way brought these replies, or none for this reason.
+    fn exchanged(&mut self, replies: &[Reply], silence: Option<Silence>) {
+        let (account, asked) = (self.account, self.asked);
+        let exchange = Exchange {
+            keys: account.plan().keys(),
+            asked: asked.parts(),
+            replies,
+            silence,
+        };
+        account.report(&exchange, self.findings);
+        self.findings.hear(account.rt().alloc(), &exchange);
+    }
+}
+
+impl<'a> Listener for RunObserver<'a> {
+    fn replied(&mut self, replies: &[Reply]) {
+        self.exchanged(replies, None);
+    }
+}
+
+impl<'a> Observer for RunObserver<'a> {
+    fn asked(&mut self, parts: &[Part]) {
+        self.asked = Asked::of(parts);
+        self.account.log().begin_exchange();
+    }
+
+    fn missed(&mut self, reason: NoReplyReason<'_>) {
+        let wire = self.account.log().wire();
+        let silence = match reason {
+            NoReplyReason::Lost => wire.silence(None),
+            NoReplyReason::Failed(fault) => wire.silence(Some(fault)),
+            NoReplyReason::Unreadable(fault, reply) => Silence::unreadable(fault, reply),
+            NoReplyReason::NoMemory => Silence::NoMemory,
+        };
+        self.exchanged(&[], Some(silence));
+    }
+
+    fn learned(&mut self, client: &Client<'_>, news: ExchangeNews) {
+        if let ExchangeNews::Grew = news {
+            self.account.log().note_news();
+        }
+        let asked = self.asked;
+        self.findings.learn(client, asked.parts());
+        self.account.show(client);
+    }
+
+    fn ended(&mut self) {
+        self.account.end_line();
+    }
+}
