@@ -20,24 +20,19 @@ import socket
 import stat
 import subprocess
 import sys
+import time
 
-PLAN = '''[[key]]
-name = "k1"
-algorithm = "AES"
-length = 256
-usage = ["encrypt", "decrypt"]
-target = "active"
-'''
-CHECKED = 'k1 AES 256 0000000c active: Create Activate\n'
-FINISHED = 'k1 active 2/2 finished\nfinished 1 of 1\nstop AllFinished 3\n'
-ALL_KNOWN = 'kmip-progress 2\nk1 active - 2 31\nend 1\n'
-SIMULATED = ('run 1 AllFinished 3\nk1 active 2/2 finished\nfinished 1 of 1\n'
-             'ask 1 Locate k1\nask 2 Create k1\nask 3 Activate k1\nrecord 1 k1 Active\n')
-NOTHING_KNOWN = 'kmip-progress 2\nk1 active - 0 -\nend 1\n'
-# Where, when and for which keys a progress was saved: for a shorter key than that of the plan.
-OTHER_ORIGIN = 'kmipctl origin 1\nserver tcp 127.0.0.1:1\nkept 1\nkey k1 AES 128 0000000c\n'
-OTHER_ATTRIBUTES = (' was saved for other attributes: key "k1": the length is 256, and was 128; the attributes of an object do '
-                    'not change: restore them in the plan, or give the key another name')
+sys.dont_write_bytecode = True
+
+from nine_keys import BATCHES, CASE, NINE, checked, looked, messages, plan, progress, report
+
+PLAN, CHECKED, ALL_KNOWN = plan(), checked(), progress()
+NONE_DONE = [0 for _ in NINE]
+NOTHING_KNOWN = progress(done=NONE_DONE)
+# What a run prints that has finished all keys on a new server.
+FINISHED = {batch: report(f'AllFinished {len(messages(batch))}') for batch in BATCHES}
+OTHER_ATTRIBUTES = (f' was saved for other attributes: key "{CASE.name}": the length is 256, and was 128; the '
+                    'attributes of an object do not change: restore them in the plan, or give the key another name')
 # What has not ended after so many seconds never does.
 EVER = 150
 # A Structure with nothing in it.
@@ -53,6 +48,7 @@ CIRCLE = 'Too many levels of symbolic links (os error 40)'
 TAKEN = 'Address already in use (os error 98)'
 DENIED = 'Permission denied (os error 13)'
 NO_FILE_LEFT = 'Too many open files (os error 24)'
+NO_QUOTA = 'Disk quota exceeded (os error 122)'
 UNKNOWN_EFFECT = 'the last request may have taken effect'
 RESTORE = ('restore the file from a backup, or run with --afresh, which searches for each key and creates those that are '
            'missing')
@@ -74,6 +70,7 @@ CHECK_AFTER = (*CHECK, '--after', 'plan.toml')
 SIM = ('sim', '--plan', 'plan.toml', '--script', 'empty.script')
 SIM_THEN = (*SIM, '--then', 'plan.toml')
 RUN = ('run', '--plan', 'plan.toml', '--loopback')
+RUN_ALL = (*RUN, '--batch', '8')
 RUN_THERE = (*RUN[:-1], '--connect', '127.0.0.1:1')
 LIST = ('list', '--plan', 'plan.toml')
 PROBE = ('probe', '--name-prefix', 'p', '--loopback')
@@ -88,7 +85,24 @@ SERVERS = '<--connect <ADDRESS>|--socket <PATH>|--loopback>'
 HELP = "\nFor more information, try '--help'.\n"
 RUN_USAGE = f'\nUsage: kmipctl run [OPTIONS] --plan <PATH> --progress <PATH>\n       {SERVERS}\n{HELP}'
 PROBE_USAGE = f'\nUsage: kmipctl probe [OPTIONS] --name-prefix <PREFIX>\n       {SERVERS}\n{HELP}'
+LOOK_USAGE = f'\nUsage: kmipctl look [OPTIONS] --plan <PATH>\n       {SERVERS}\n{HELP}'
 CHECK_USAGE = f'\nUsage: kmipctl check [OPTIONS] --plan <PATH>\n{HELP}'
+
+
+def origin_of(keys=NINE):
+    """Where, when and for which keys a progress was saved."""
+    lines = [f'key {key.name} {key.algorithm} {key.length} {key.mask():08x}\n' for key in keys]
+    return ''.join(['kmipctl origin 1\nserver tcp 127.0.0.1:1\nkept 1\n', *lines])
+
+
+def simulated(batch):
+    """What a simulation prints over a network that loses nothing. The keys are made in their order."""
+    sent = messages(batch)
+    asks = [', '.join(f'{operation} {NINE[place - 1].name}' for operation, place in questions) for questions in sent]
+    lines = [f'run 1 AllFinished {len(sent)}', *report('AllFinished').splitlines()[:-1],
+             *(f'ask {number} {ask}' for number, ask in enumerate(asks, 1)),
+             *(f'record {number} {key.name} {key.state(key.steps())}' for number, key in enumerate(NINE, 1))]
+    return '\n'.join([*lines, ''])
 
 
 def document_of(printed, told):
@@ -234,13 +248,20 @@ class Causes:
 
     def refused_progress(self):
         for what, text, fault, told in (
-                ('cut off', 'kmip-progress 2\nk1 active', '2 Cut',
-                 ': cut off: the line "end" with the number of keys is missing after 25 bytes'),
-                ('another first line', 'progress 2\nend 0\n', '1 BadText',
+                ('cut off', ALL_KNOWN[:ALL_KNOWN.index('end')], '2 Cut',
+                 ': cut off: the line "end" with the number of keys is missing after '
+                 f'{ALL_KNOWN.index("end")} bytes'),
+                ('cut off within the line of a key', ALL_KNOWN[:ALL_KNOWN.index(CASE.name) + len(CASE.name)], '2 Cut',
+                 ': cut off: the line "end" with the number of keys is missing after '
+                 f'{ALL_KNOWN.index(CASE.name) + len(CASE.name)} bytes'),
+                ('another first line', ALL_KNOWN.removeprefix('kmip-'), '1 BadText',
                  ':1: "progress 2" is not the first line of a progress file'),
-                ('a bad line', 'kmip-progress 2\nk1 active - 0 31\nk2 active - many 31\nend 2\n', '1 BadText',
-                 ':3: "k2 active - many 31" is not a line of a progress file'),
-                ('another count', 'kmip-progress 2\nend 3\n', '1 BadText',
+                ('a bad line', ALL_KNOWN.replace(' - 2 37\n', ' - many 37\n'), '1 BadText',
+                 ':8: "k~7! active - many 37" is not a line of a progress file'),
+                # Of a text 64 characters are shown at most, as many as the name has.
+                ('a bad line that is longer than what is shown', ALL_KNOWN.replace(' - 2 39\n', ' - many 39\n'),
+                 '1 BadText', f':10: "{CASE.name}".. is not a line of a progress file'),
+                ('another count', ALL_KNOWN.replace('end 9', 'end 8'), '1 BadText',
                  ': the last line counts another number of keys')):
             self.start()
             self.put('plan.progress', text.encode())
@@ -270,8 +291,9 @@ class Causes:
         self.start()
         self.put('plan.progress', ALL_KNOWN)
         path = self.path('plan.progress.origin')
+        other = origin_of([*NINE[:-1], CASE.but(length=128)])
         for what, text, printed, told, commands in (
-                ('of other attributes', OTHER_ORIGIN, 'progress refused: 3 OtherPlan\n', f'plan.progress{OTHER_ATTRIBUTES}',
+                ('of other attributes', other, 'progress refused: 3 OtherPlan\n', f'plan.progress{OTHER_ATTRIBUTES}',
                  (RUN_THERE, LIST)),
                 ('that is none', 'something else\n', 'cannot read plan.progress\n',
                  f'{path}: it does not say where a progress was saved; {REMOVE}', (RUN, RUN_THERE))):
@@ -297,9 +319,10 @@ class Causes:
                 if leftover == 'a link':
                     self.put('target', 'kept')
                 more = ('--afresh',) if state == 'put aside' else ()
-                done = self.run((*RUN, '--progress', 'p', *more), capture_output=True)
-                self.look(f'a progress that is {state}, and beside it {leftover}', (done.returncode, 0), (done.stdout, FINISHED),
-                          (done.stderr, ''), (self.is_kept(real), True), (os.path.islink(self.path('p')), 'link' in state),
+                done = self.run((*RUN_ALL, '--progress', 'p', *more), capture_output=True)
+                self.look(f'a progress that is {state}, and beside it {leftover}', (done.returncode, 0),
+                          (done.stdout, FINISHED['8']), (done.stderr, ''), (self.is_kept(real), True),
+                          (os.path.islink(self.path('p')), 'link' in state),
                           (os.path.lexists(self.path(f'{real}.new')), False),
                           (self.text('target') if os.path.exists(self.path('target')) else None,
                            'kept' if leftover == 'a link' else None),
@@ -310,28 +333,30 @@ class Causes:
         status = os.lstat(self.path(name))
         return self.text(name) == ALL_KNOWN and stat.S_ISREG(status.st_mode) and stat.S_IMODE(status.st_mode) == 0o600
 
-    def order_of_calls(self):
-        """The bytes of a text are on the disk before it takes the place of the old one. The folder is brought to the disk if
-        the file is new, once it was put aside, and at the end of a run."""
-        what = 'the order of what is done to files'
+    def order_of_calls(self, batch):
+        """The bytes of a text are on the disk before it takes the place of the old one. The folder is brought to the
+        disk if the file is new, once it was put aside, and at the end of a run. A text is written after the first
+        exchange, and after each later one that changes it: on a new server, if it has another question than Locate."""
+        what = f'the order of what is done to files, {batch} keys a message'
         tracing = ['strace', '-f', '-qq', '-o', self.path('trace'), '-e', 'trace=openat,fdatasync,fsync,rename,renameat,renameat2']
         if not shutil.which('strace') or subprocess.run([*tracing, 'true'], capture_output=True).returncode:
             self.skip(what, 'as no strace can be had')
             return
         text = ['make p.new', 'sync p.new', 'rename p.new p']
+        texts = text * sum(any(operation != 'Locate' for operation, _ in questions) for questions in messages(batch))
         origin = ['make p.origin.new', 'sync p.origin.new', 'rename p.origin.new p.origin', 'sync .']
         for state, known, more, wanted in (
-                ('a new progress', None, (), [*origin, *text, 'sync .', *text, 'sync .']),
-                ('an old progress', NOTHING_KNOWN, (), [*origin, *text, 'sync .']),
+                ('a new progress', None, (), [*origin, *text, 'sync .', *texts, 'sync .']),
+                ('an old progress', NOTHING_KNOWN, (), [*origin, *text, *texts, 'sync .']),
                 ('a progress that is put aside', NOTHING_KNOWN, ('--afresh',),
-                 ['rename p p.before', 'sync .', *origin, *text, 'sync .', *text, 'sync .'])):
+                 ['rename p p.before', 'sync .', *origin, *text, 'sync .', *texts, 'sync .'])):
             self.start()
             self.put('trace', '')
             if known:
                 self.put('p', known, 0o600)
-            done = self.run((*RUN, '--progress', 'p', *more), first=tracing, capture_output=True)
-            calls = calls_in(self.text('trace'), self.folder)
-            self.look(f'{what}: {state}', (done.stdout, FINISHED), (without_repeats(calls, text), wanted))
+            done = self.run((*RUN, '--progress', 'p', '--batch', batch, *more), first=tracing, capture_output=True)
+            self.look(f'{what}: {state}', (done.stdout, FINISHED[batch]),
+                      (calls_in(self.text('trace'), self.folder), wanted))
 
     def denied(self):
         """What may not be read is never taken as missing: a run that cannot read its progress does not begin with nothing."""
@@ -348,7 +373,7 @@ class Causes:
                 ('empty.script', 'cannot read empty.script\n', f'empty.script: {DENIED}', (SIM,))):
             self.start()
             self.put('plan.progress', ALL_KNOWN, 0o600)
-            self.put('plan.progress.origin', OTHER_ORIGIN.replace('128', '256'), 0o600)
+            self.put('plan.progress.origin', origin_of(), 0o600)
             self.put('plan.progress.lock', '', 0o600)
             before = sorted(os.listdir(self.folder))
             os.chmod(self.path(name), 0)
@@ -377,19 +402,46 @@ class Causes:
                   (self.text('closed/plan.progress'), ALL_KNOWN))
         self.start()
 
-    def unsynced_folder(self):
+    def unsynced_folder(self, batch):
         """At the end of a run the folder of a progress that was there before is not brought to the disk."""
-        what = 'a folder that cannot be brought to the disk'
+        what = f'a folder that cannot be brought to the disk, {batch} keys a message'
         # The first fsync is that of the folder for the origin: the bytes of files are brought there by fdatasync.
         failing = ['strace', '-f', '-qq', '-o', '/dev/null', '-e', 'inject=fsync:error=EIO:when=2']
         if not shutil.which('strace') or subprocess.run([*failing, 'true'], capture_output=True).returncode:
             self.skip(what, 'as no strace can be had')
             return
         self.start()
-        self.run((*RUN, '--progress', 'p', '--limit', '1'), stdout=subprocess.PIPE, stderr=subprocess.PIPE)
-        done = self.run((*RUN, '--progress', 'p'), first=failing, capture_output=True)
-        self.look(what, (done.returncode, 0), (done.stdout, FINISHED), (self.text('p'), ALL_KNOWN),
+        words = (*RUN, '--progress', 'p', '--batch', batch)
+        self.run((*words, '--limit', '1'), stdout=subprocess.PIPE, stderr=subprocess.PIPE)
+        done = self.run(words, first=failing, capture_output=True)
+        self.look(what, (done.returncode, 0), (done.stdout, FINISHED[batch]), (self.text('p'), ALL_KNOWN),
                   (done.stderr, f'p: {NO_DISK}; saved, but a power failure may restore the previous version, which is also correct\n'))
+        self.start()
+
+    def failing(self, what, inject):
+        """The words before a command some calls of which fail so; none, and the row is skipped, if no strace can be had."""
+        words = ['strace', '-f', '-qq', '-o', '/dev/null', '-e', f'inject={inject}']
+        if not shutil.which('strace') or subprocess.run([*words, 'true'], capture_output=True).returncode:
+            self.skip(what, 'as no strace can be had')
+            return None
+        return words
+
+    def unmade_calls(self):
+        """What the system refuses though no file, disk or port of these rows is in its way: a quota, and any port at all."""
+        run, unwritten = (*RUN, '--progress', 'p'), 'cannot write p\n'
+        no_port = f'127.0.0.1:0: {TAKEN}'
+        for what, inject, words, printed, told in (
+                ('a quota that is used up before the run', 'fdatasync:error=EDQUOT', run, unwritten,
+                 f'p.origin: {NO_QUOTA}; free some space and run again'),
+                ('a quota that is used up in the run', 'fdatasync:error=EDQUOT:when=2', run, unwritten,
+                 f'p: {NO_QUOTA}; {UNKNOWN_EFFECT}: free some space and run again'),
+                ('no port is free, run', 'bind:error=EADDRINUSE', run, 'cannot listen\n', no_port),
+                ('no port is free, look', 'bind:error=EADDRINUSE', ('look', '--plan', 'plan.toml', '--loopback'),
+                 'cannot listen\n', no_port),
+                ('no port is free, probe', 'bind:error=EADDRINUSE', PROBE, 'cannot listen\n', no_port)):
+            self.start()
+            if before := self.failing(what, inject):
+                self.case(what, words, printed, [told], first=before)
         self.start()
 
     def on_disk(self, what, options, left, printed, told):
@@ -425,6 +477,7 @@ class Causes:
                      'cannot write disk/plan.progress\n', f'.lock: {READ_ONLY}; mount the file system for writing and run again')
 
     def sockets(self):
+        self.start()
         path = 's' * 108
         for words in ((*RUN[:-1], '--progress', 'p'), PROBE[:-1]):
             self.case(f'{words[0]} with a path that is too long for a socket', (*words, '--socket', path),
@@ -448,6 +501,23 @@ class Causes:
         self.look('a server that can open no connection', (done.returncode, 1),
                   (rest, f'cannot accept a connection on port {port}: 100 failures in a row\n'),
                   (done.stderr, f'127.0.0.1:{port}: {NO_FILE_LEFT}\n'))
+        self.failing_accepts()
+
+    def failing_accepts(self):
+        """Failures to accept a connection count only in a row: a hundred of them with connections between end no server."""
+        # It takes two seconds, and no file is asked for.
+        for at_once in () if self.before else (1, 2):
+            what = f'a server that fails to accept a connection every second time, {at_once} at once'
+            if not (before := self.failing(what, 'accept4:error=EMFILE:when=1+2')):
+                continue
+            words = [*before, *self.before, self.program, 'serve', '--port', '0', '--connections', '150', '--at-once', str(at_once)]
+            with subprocess.Popen(words, stdin=subprocess.DEVNULL, stdout=subprocess.PIPE, stderr=subprocess.PIPE, text=True) as server:
+                port = int(server.stdout.readline().split()[1])
+                served = sum(is_ended_by(port) for _ in range(150))
+                if served < 150:
+                    server.terminate()
+                printed, told = server.communicate(timeout=EVER)
+            self.look(what, (served, 150), (printed, ''), (told, ''), (server.returncode, 0))
 
     def outputs(self):
         """Each command where standard output takes nothing."""
@@ -484,24 +554,31 @@ class Causes:
                       [f'standard input: {FOLDER}'], stdin=folder)
             os.close(folder)
 
-    def plans_of_input(self):
+    def plans_of_input(self, batch):
         """Plans on standard input."""
         self.start()
+        many = ('--batch', batch)
         rows = [
             (('check', '--plan', '-'), CHECKED, [], 0),
             (('check', '--plan', '-', '--after', 'plan.toml'), f'{CHECKED}prolongs\n', [], 0),
             ((*CHECK, '--after', '-'), f'{CHECKED}prolongs\n', [], 0),
-            (('sim', '--plan', '-', '--script', 'empty.script'), SIMULATED, [], 0),
-            (('run', '--plan', '-', '--progress', 'p', '--loopback'), FINISHED, [], 0),
-            (('look', '--plan', '-', '--loopback'), 'k1 active - none to do: Create Activate\nfinished 0 of 1\n', [], 1),
+            (('sim', '--plan', '-', '--script', 'empty.script', *many), simulated(batch), [], 0),
+            (('run', '--plan', '-', '--progress', 'p', '--loopback', *many), FINISHED[batch], [], 0),
+            (('look', '--plan', '-', '--loopback', *many), ''.join([*looked(done=NONE_DONE), 'finished 0 of 9\n']),
+             [], 1),
         ]
         for words, printed, told, status in rows:
-            with open(self.path('plan.toml')) as plan:
-                self.case(' '.join(words), words, printed, told, status=status, stdin=plan)
+            with open(self.path('plan.toml')) as given:
+                self.case(' '.join(words), words, printed, told, status=status, stdin=given)
         words = ('list', '--plan', '-', '--progress', 'p')
-        with open(self.path('plan.toml')) as plan:
-            done = self.run(words, stdin=plan, capture_output=True)
-        self.look(' '.join(words), (done.returncode, 0), (done.stdout, 'k1 active 2/2 finished 1\nfinished 1 of 1\n'))
+        with open(self.path('plan.toml')) as given:
+            done = self.run(words, stdin=given, capture_output=True)
+        lines = [f'{key.line(key.steps())[:-1]} {number}\n' for number, key in enumerate(NINE, 1)]
+        self.look(' '.join(words), (done.returncode, 0), (done.stdout, ''.join([*lines, 'finished 9 of 9\n'])))
+
+    def refused_input(self):
+        """Standard input that is no plan, and files that are called as it is."""
+        self.start()
         self.unread_input()
         self.named_as_input()
 
@@ -525,12 +602,13 @@ class Causes:
             with open(self.path('input')) as given:
                 self.case(f'{" ".join(more)} of no plan', more, 'plan refused: 4 Missing name at key 1\n', [missing],
                           stdin=given)
-        self.put('input', PLAN.replace('k1', 'k2'))
+        others = [*NINE[:-1], CASE.but(name='other')]
+        self.put('input', plan(others))
         with open(self.path('input')) as given:
             self.case('input that does not prolong a file', (*words, '--after', 'plan.toml'),
-                      CHECKED.replace('k1', 'k2') + 'prolongs not\n',
-                      ['standard input: "k1" of plan.toml is missing: the earlier keys must come first, in the same order'],
-                      stdin=given)
+                      f'{checked(others)}prolongs not\n',
+                      [f'standard input: "{CASE.name}" of plan.toml is missing: the earlier keys must come first, in '
+                       'the same order'], stdin=given)
 
     def named_as_input(self):
         """A file that is called as standard input is read by another path, and by this one where it is no plan's."""
@@ -538,9 +616,9 @@ class Causes:
         self.case('check --plan ./-', ('check', '--plan', './-'), CHECKED, [], status=0)
         self.case('check --after ./-', (*CHECK, '--after', './-'), f'{CHECKED}prolongs\n', [], status=0)
         self.put('-', '')
-        self.case('sim --script -', ('sim', '--plan', 'plan.toml', '--script', '-'), SIMULATED, [], status=0)
+        self.case('sim --script -', ('sim', '--plan', 'plan.toml', '--script', '-'), simulated('1'), [], status=0)
         os.remove(self.path('-'))
-        self.case('run --progress -', (*RUN, '--progress', '-'), FINISHED, [], status=0)
+        self.case('run --progress -', (*RUN_ALL, '--progress', '-'), FINISHED['8'], [], status=0)
         self.look('a progress of that name', (self.text('-'), ALL_KNOWN))
 
     def variables(self):
@@ -553,7 +631,7 @@ class Causes:
         rows = [
             (('check',), {b'KMIPCTL_PLAN': b'plan.toml'}, CHECKED, [], 0),
             (('check', '--plan', 'plan.toml'), {b'KMIPCTL_PLAN': b'\xff'}, CHECKED, [], 0),
-            ((*RUN, '--progress', 'p'), {**both, b'KMIPCTL_PROGRESS': b'q'}, FINISHED, [], 0),
+            ((*RUN_ALL, '--progress', 'p'), {**both, b'KMIPCTL_PROGRESS': b'q'}, FINISHED['8'], [], 0),
             (('check',), {b'KMIPCTL_PLAN': b'\xff'}, f'error: the value of KMIPCTL_PLAN is not UTF-8\n{CHECK_USAGE}', [], 2),
             (run, both, TWO_SERVERS + RUN_USAGE, [], 2),
             (run, {b'KMIPCTL_CONNECT': b'kms:5696'}, NO_ADDRESS_IN_VARIABLE + RUN_USAGE, [wrong + name], 2),
@@ -571,12 +649,12 @@ class Causes:
         """Nothing that is printed may land in a file that is opened."""
         for what in ('0<&-', '1>&-', '2>&-', '0<&- 1>&- 2>&-'):
             self.start()
-            command = f'exec "$0" run --plan plan.toml --progress p --loopback --verbose {what}'
+            command = f'exec "$0" run --plan plan.toml --progress p --loopback --batch 8 --verbose {what}'
             done = subprocess.run([*self.before, 'sh', '-c', command, self.program], cwd=self.folder, text=True, timeout=EVER,
                                   stdin=subprocess.DEVNULL, capture_output=True)
             self.look(f'run with {what}', (done.returncode, 0), (self.text('p.lock'), ''), (self.text('p'), ALL_KNOWN),
-                      (done.stdout, '' if '1>' in what else FINISHED),
-                      (len(done.stderr.splitlines()), 0 if '2>' in what else 3))
+                      (done.stdout, '' if '1>' in what else FINISHED['8']),
+                      (len(done.stderr.splitlines()), 0 if '2>' in what else sum(map(len, messages('8')))))
 
     def addresses(self):
         self.start()
@@ -599,8 +677,12 @@ class Causes:
         self.case(' '.join(words), words, f"error: the argument '--identifiers' cannot be used with '--json'\n{RUN_USAGE}",
                   ['--json prints the identifiers too: leave out --identifiers'], status=2)
         value, why = rows[0]
-        words = ('probe', '--name-prefix', 'p', '--connect', value)
-        self.case(' '.join(words), words, NO_ADDRESS_AND_PORT + PROBE_USAGE, [f'{WANTED}"{value}" {why}'], status=2)
+        for words, usage in ((('probe', '--name-prefix', 'p', '--connect', value), PROBE_USAGE),
+                             (('look', '--plan', 'plan.toml', '--connect', value), LOOK_USAGE)):
+            self.case(' '.join(words), words, NO_ADDRESS_AND_PORT + usage, [f'{WANTED}"{value}" {why}'], status=2)
+        for words in (('check', '--plan', b'\xff'), (b'\xff',)):
+            self.case(f'{" ".join(map(str, words))}, a command line that is not UTF-8', words, '',
+                      ['the command line is not UTF-8'], status=2)
 
     def terminals(self):
         """What a command that reads from a terminal says before it does."""
@@ -619,9 +701,12 @@ class Causes:
 
     def all(self):
         self.start()
+        for batch in BATCHES:
+            for part in (self.order_of_calls, self.unsynced_folder, self.plans_of_input):
+                part(batch)
         for part in (self.unread_plans, self.unread_progress, self.refused_progress, self.unwritten_progress,
-                     self.refused_origins, self.kept_files, self.order_of_calls, self.denied, self.unsynced_folder, self.disks,
-                     self.sockets, self.outputs, self.inputs, self.plans_of_input, self.variables, self.closed_streams,
+                     self.refused_origins, self.kept_files, self.denied, self.unmade_calls, self.disks, self.sockets,
+                     self.outputs, self.inputs, self.refused_input, self.variables, self.closed_streams,
                      self.addresses, self.terminals):
             part()
 
@@ -645,6 +730,20 @@ def fill_up(zeros, file):
             return
 
 
+def is_ended_by(port):
+    """Whether the server at a port accepts a connection over which nothing comes, and ends it. Before the connection ends,
+    and after, it has time to wait for something."""
+    try:
+        with socket.create_connection(('127.0.0.1', port), timeout=EVER) as connection:
+            time.sleep(0.002)
+            connection.shutdown(socket.SHUT_WR)
+            is_ended = connection.recv(1) == b''
+        time.sleep(0.002)
+        return is_ended
+    except OSError:
+        return False
+
+
 def calls_in(trace, folder):
     """What is done to files by the calls of a trace: each name is that in the folder."""
     done, open_files = [], {}
@@ -658,16 +757,6 @@ def calls_in(trace, folder):
         elif found := re.search(r'rename\w*\((.*)\) += 0$', line):
             done.append(' '.join(['rename', *map(named, re.findall(r'"([^"]*)"', found[1]))]))
     return done
-
-
-def without_repeats(calls, some):
-    """These calls, where some that are repeated at once stand once."""
-    left = []
-    for call in calls:
-        left.append(call)
-        if left[-len(some):] == some == left[-2 * len(some):-len(some)]:
-            del left[-len(some):]
-    return left
 
 
 def users(program, folder):

@@ -4,8 +4,8 @@
     bench/largest.py PROGRAM FOLDER
 
 A message asks about one key. The server is this file's own. What `run`, `look` and `list` print, and the progress file, are
-compared with what that server holds. Each row has a sentence and `ok`, or what went wrong. The last line counts what is
-wrong, and the exit status is 0 if nothing is. Sockets on 127.0.0.1 only.
+compared with what that server holds. The longest item is shown too. Each row has a sentence and `ok`, or what went wrong.
+The last line counts what is wrong, and the exit status is 0 if nothing is. Sockets on 127.0.0.1 only.
 """
 
 import json
@@ -85,6 +85,10 @@ class Uuids:
             return identifier(uid) + kmip.item(kmip.ATTRIBUTES, kmip.STRUCTURE, held)
         return self.moved(operation, uid)
 
+    def uid(self, key):
+        """The identifier of a key; of one that was not made, a word that says so."""
+        return self.names.get(key.name, 'not-made')
+
     def located(self, name):
         return identifier(self.names[name]) if name in self.names else b''
 
@@ -153,6 +157,22 @@ class Largest:
             with open(self.path(form)) as file:
                 self.look(f'the progress file of the run in {form}', (file.read(), progress(server)))
             self.others(form, server)
+        self.identifiers(servers['text'])
+
+    def identifiers(self, server):
+        """A run that finds all done, and prints the identifier of each key: the longest report that there is."""
+        running = self.start('run', '--progress', self.path('text'), '--connect', server.address, '--identifiers')
+        printed, _ = running.communicate()
+        wanted = ''.join(f'{line_of("list", key, server)}\n' for key in KEYS) + 'finished 1000 of 1000\nstop AllFinished 0\n'
+        self.look('the report of 1,000 keys with their identifiers', (running.returncode, 0), (printed, wanted))
+
+    def longest_item(self):
+        """The canonical form of the longest item has all its bytes: a Structure of 511 Integers and an empty Byte String."""
+        integers, empty = kmip.number(kmip.OPERATION, kmip.INTEGER, 7) * 511, kmip.item(kmip.ITEM_ID, kmip.BYTES, b'')
+        item = kmip.item(kmip.REQUEST, kmip.STRUCTURE, integers + empty)
+        line = f'{item.hex()}\n'
+        done = subprocess.run([self.program, 'show', '--canon'], input=line, capture_output=True, text=True)
+        self.look('an item of 8,192 bytes in its canonical form', (len(item), 8192), (done.returncode, 0), (done.stdout, line))
 
     def others(self, form, server):
         """`look` and `list` about these keys."""
@@ -162,7 +182,7 @@ class Largest:
             lines = printed.splitlines()
             if form == 'json':
                 found = [[one[name] for name in ('key', 'identifier', 'verdict')] for one in map(json.loads, lines[:-1])]
-                wanted = [[key.name, server.names[key.name], 'finished'] for key in KEYS]
+                wanted = [[key.name, server.uid(key), 'finished'] for key in KEYS]
             else:
                 found, wanted = lines[:-1], [line_of(command, key, server) for key in KEYS]
             last = '{"finished":1000,"of":1000}' if form == 'json' else 'finished 1000 of 1000'
@@ -172,7 +192,7 @@ class Largest:
 
 
 def reached(server):
-    return [server.states[server.names[key.name]] for key in KEYS]
+    return [server.states.get(server.uid(key)) for key in KEYS]
 
 
 def report():
@@ -183,7 +203,7 @@ def report():
 def documents(server):
     """What a run prints in JSON once all is done."""
     lines = [{'key': key.name, 'target': key.target, 'done': key.steps(), 'of': key.steps(), 'verdict': 'finished',
-              'identifier': server.names[key.name], 'steps': key.steps()} for key in KEYS]
+              'identifier': server.uid(key), 'steps': key.steps()} for key in KEYS]
     return [*lines, {'end': 'AllFinished', 'finished': 1000, 'of': 1000, 'exchanges': EXCHANGES, 'lost': 0, 'refused': 0,
                      'unreadable': 0, 'steps': EXCHANGES - MOST_KEYS, 'cause': None}]
 
@@ -195,13 +215,13 @@ def without_time(document):
 def progress(server):
     """The text of a progress file once all is done."""
     lines = [f'{key.name} {key.target} {UNSPECIFIED if key.target in ("revoked", "destroyed") else "-"} {key.steps()} '
-             f'{server.names[key.name].encode().hex()}\n' for key in KEYS]
+             f'{server.uid(key).encode().hex()}\n' for key in KEYS]
     return 'kmip-progress 2\n' + ''.join(lines) + 'end 1000\n'
 
 
 def line_of(command, key, server):
     """What `look` or `list` prints of a key that is finished."""
-    uid, state = server.names[key.name], STATES[STEPS[key.target][-1][1]]
+    uid, state = server.uid(key), STATES[STEPS[key.target][-1][1]]
     if command == 'look':
         return f'{key.name} {key.target} {uid} {state} finished'
     return f'{key.name} {key.target} {key.steps()}/{key.steps()} finished {uid}'
@@ -210,6 +230,7 @@ def line_of(command, key, server):
 def main():
     largest = Largest(os.path.realpath(sys.argv[1]), os.path.realpath(sys.argv[2]))
     largest.runs()
+    largest.longest_item()
     print(f'{largest.rows} rows, {largest.wrong} wrong')
     return 1 if largest.wrong else 0
 

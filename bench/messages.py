@@ -55,10 +55,10 @@ def questions_in(request):
     return [(int.from_bytes(part[OPERATION], 'big'), part[ITEM_ID]) for part in batch]
 
 
-def request_of(question):
-    """A request with this Batch Item alone."""
-    header = item(VERSION, STRUCTURE, number(MAJOR, INTEGER, 2) + number(MINOR, INTEGER, 1)) + number(BATCH_COUNT, INTEGER, 1)
-    return item(REQUEST, STRUCTURE, item(REQUEST_HEADER, STRUCTURE, header) + question)
+def request_of(questions, count=1):
+    """A request with these Batch Items: with one alone unless it is said."""
+    header = item(VERSION, STRUCTURE, number(MAJOR, INTEGER, 2) + number(MINOR, INTEGER, 1)) + number(BATCH_COUNT, INTEGER, count)
+    return item(REQUEST, STRUCTURE, item(REQUEST_HEADER, STRUCTURE, header) + questions)
 
 
 def reply(items, version=(2, 1)):

@@ -40,6 +40,9 @@ COUNTED = ['keys{verdict="finished"}', 'keys{verdict="working"}', 'keys{verdict=
            'exchanges{outcome="answered"}', 'exchanges{outcome="lost"}', 'exchanges{outcome="unreadable"}',
            'refused', 'steps', 'run_in_progress']
 TIME = 'last_finish_timestamp_seconds'
+# So many seconds ago, in words.
+AGES = ((60, '1 minute ago'), (61, '1 minute ago'), (3600, '1 hour ago'), (5400, '1 hour ago'), (2 * 3600 + 5, '2 hours ago'),
+        (86400, '1 day ago'), (3 * 86400 + 5, '3 days ago'))
 UNWRITTEN = '{}: {}; the metrics are not written, and nothing else changes; {}\n'
 # The questions about the nine keys on a new server: a Locate of each, and its steps. The fewest messages about up to eight
 # keys are as many as the questions about one key: to destroy it takes five.
@@ -125,7 +128,7 @@ class Origins:
         self.look('all is known to be done', self.run(*where),
                   (0, FINISHED.format(0), ALONE.format(self.progress, 'a moment ago', f'127.0.0.1:{port}')))
         origin = self.read('progress.origin')
-        for seconds, age in ((61, '1 minute ago'), (2 * 3600 + 5, '2 hours ago'), (3 * 86400 + 5, '3 days ago')):
+        for seconds, age in AGES:
             self.write('progress.origin', re.sub(r'kept \d+', f'kept {int(time.time()) - seconds}', origin))
             self.look(age, self.run(*where), (0, FINISHED.format(0), ALONE.format(self.progress, age, f'127.0.0.1:{port}')))
         self.look('and looked at once more', self.run(*where, '--afresh'), (0, FINISHED.format(2), ''))
@@ -170,6 +173,14 @@ class Origins:
                 self.look(f'another {field} {" ".join(more)}'.strip(),
                           self.run(*where, *more, plan=os.path.join(self.folder, 'other.toml')),
                           (1, 'progress refused: 3 OtherPlan\n', told))
+        # A mask of no usage, and one with a bit that has no word, are told in hexadecimal.
+        origin = self.read('progress.origin')
+        for mask, was in (('00000000', 'of mask 00000000'), ('00000201', 'sign of mask 00000201')):
+            self.write('progress.origin', origin.replace('0000000c', mask))
+            told = (f'{self.progress} was saved for other attributes: key "k1": the usage is encrypt decrypt, and was {was}; '
+                    'the attributes of an object do not change: restore them in the plan, or give the key another name\n')
+            self.look(f'a progress of a key whose usage is {mask}', self.run(*where), (1, 'progress refused: 3 OtherPlan\n', told))
+        self.write('progress.origin', origin)
         self.write('longer.toml', PLAN + KEY.format('k2', 'AES', 128, '"encrypt"', 'created'))
         self.look('a plan that prolongs it', self.run(*where, plan=os.path.join(self.folder, 'longer.toml')),
                   (0, 'k1 active 2/2 finished\nk2 created 1/1 finished\nfinished 2 of 2\nstop AllFinished 4\n', ''))
@@ -216,10 +227,20 @@ class Origins:
                   self.contradicted(other, 'k1: {} has object 1 after 2 of 2 steps; {} has no object of this name'))
         self.look('where it is kept is not told then', self.read('progress.origin'), None)
         self.look('with no exchange it is listed', self.run('--connect', other, '--limit', '0')[:2], (0, FINISHED.format(0)))
-        self.write('progress.origin', 'something else\n')
-        status, printed, _ = self.run(*where)
-        self.look('an origin that is none', (status, printed), (1, f'cannot read {self.progress}\n'))
+        for what, text in self.no_origins(where[1]):
+            self.write('progress.origin', text)
+            status, printed, _ = self.run(*where)
+            self.look(f'an origin that {what}', (status, printed), (1, f'cannot read {self.progress}\n'))
         self.look('believed all the same', self.run(*where, '--believe')[:2], (0, FINISHED.format(0)))
+
+    def no_origins(self, address):
+        """Texts that do not say where, when and for which keys a progress was saved, each with what is wrong with it."""
+        key = 'key k1 AES 256 0000000c\n'
+        return [('is none', 'something else\n'),
+                ('has no server', f'kmipctl origin 1\nkept 1\n{key}'),
+                ('has no time', f'kmipctl origin 1\nserver tcp {address}\n{key}'),
+                ('has a time that is no number', f'kmipctl origin 1\nserver tcp {address}\nkept soon\n{key}'),
+                ('has a line of something else', f'kmipctl origin 1\nserver tcp {address}\nkept 1\n{key}soon\n')]
 
     def refreshed(self):
         """Runs that first ask the server about what the file knows."""
@@ -388,7 +409,7 @@ class Origins:
         kept = f'saved against 127.0.0.1:{port}, '
         self.look('of a file that was saved against a server', self.list(), (0, listed, kept + 'a moment ago\n'))
         origin = self.read('progress.origin')
-        for seconds, age in ((61, '1 minute ago'), (2 * 3600 + 5, '2 hours ago'), (3 * 86400 + 5, '3 days ago')):
+        for seconds, age in AGES:
             self.write('progress.origin', re.sub(r'kept \d+', f'kept {int(time.time()) - seconds}', origin))
             self.look(age, self.list(), (0, listed, f'{kept}{age}\n'))
         self.write('progress.origin', re.sub(r'kept \d+', f'kept {int(time.time()) + 3600}', origin))
@@ -400,9 +421,10 @@ class Origins:
                 'the attributes of an object do not change: restore them in the plan, or give the key another name\n')
         self.look('for a key with another length', self.list(os.path.join(self.folder, 'other.toml')),
                   (1, 'progress refused: 3 OtherPlan\n', told))
-        self.write('progress.origin', 'something else\n')
         useless = 'it does not say where a progress was saved; run needs --believe to use the progress'
-        self.look('beside an origin that is none', self.list(), (0, listed, f'{self.progress}.origin: {useless}\n'))
+        for what, text in self.no_origins(f'127.0.0.1:{port}'):
+            self.write('progress.origin', text)
+            self.look(f'beside an origin that {what}', self.list(), (0, listed, f'{self.progress}.origin: {useless}\n'))
         os.remove(self.progress + '.origin')
         self.look('of a file of which nothing is told', self.list(),
                   (0, listed, f'the server of {self.progress} is not known\n'))
@@ -580,7 +602,10 @@ class Origins:
                 (1, {'length': 128}, 'the length is 128, and was 256'),
                 (8, {'length': 192}, 'the length is 192, and was 256'),
                 (8, {'usage': ('encrypt',)}, 'the usage is encrypt, and was encrypt decrypt'),
-                (8, {'algorithm': 'HMAC-SHA256'}, 'the algorithm is HMAC-SHA256, and was AES')):
+                (8, {'algorithm': 'HMAC-SHA256'}, 'the algorithm is HMAC-SHA256, and was AES'),
+                (1, {'usage': ('wrap-key',)}, 'the usage is wrap-key, and was encrypt decrypt wrap-key unwrap-key'),
+                (2, {'usage': ('mac-generate',)}, 'the usage is mac-generate, and was mac-generate mac-verify'),
+                (2, {'usage': ('mac-verify',)}, 'the usage is mac-verify, and was mac-generate mac-verify')):
             key = NINE[place].but(**changed)
             self.write('other.toml', plan_of([*NINE[:place], key, *NINE[place + 1:]]))
             told = (f'{self.progress} was saved for other attributes: key "{key.name}": {why}; '

@@ -8,6 +8,7 @@ Each row prints what it looks at and `ok`, or what went wrong. Sockets on 127.0.
 is 0 where all is as it has to be.
 """
 
+import concurrent.futures
 import contextlib
 import json
 import os
@@ -22,21 +23,11 @@ import time
 
 sys.dont_write_bytecode = True
 
-from messages import CREATE, LOCATE, questions_in
-from nine_keys import BATCHES, NINE, plan as plan_of, report
+from messages import CREATE, LOCATE, objects_of, questions_in
+from nine_keys import BATCHES, CASE, NINE, looked, messages, numbers_by, plan as plan_of, progress, report
 
-EXAMPLE = os.path.join(os.path.dirname(os.path.realpath(__file__)), '..', 'examples', 'plan.toml')
-PLAN = '''[[key]]
-name = "k1"
-algorithm = "AES"
-length = 256
-usage = ["encrypt", "decrypt"]
-target = "active"
-'''
-WORKING = 'k1 active 0/2 working\nfinished 0 of 1\nstop Limit 3\n'
-FINISHED = 'k1 active 2/2 finished\nfinished 1 of 1\nstop AllFinished {}\n'
-NOTHING_KNOWN = 'kmip-progress 2\nk1 active - 0 -\nend 1\n'
-ALL_KNOWN = 'kmip-progress 2\nk1 active - 2 31\nend 1\n'
+NONE_DONE, ALL_DONE = [0 for _ in NINE], [key.steps() for key in NINE]
+NOTHING_KNOWN, ALL_KNOWN = progress(done=NONE_DONE), progress()
 UNTOLD = 'no reply: whether p-1 is free could not be told; nothing was made\n'
 UNREADABLE = ("the server's reply can't be read ({}): whether p-1 is free could not be told; "
               'nothing was made\n')
@@ -62,6 +53,8 @@ PATIENT = ('--timeout', '60')
 HELD = ('--timeout', '3600')
 # What has not ended or come after so many seconds never does.
 EVER = 150
+# The numbers of all messages, from 1.
+ALL_MESSAGES = range(1, 2 ** 32)
 # The head of a reply of 144 bytes, and a Locate that found nothing of the name k2.
 HEAD = bytes.fromhex('42007b0100000090')
 OF_ANOTHER = HEAD + bytes.fromhex(
@@ -167,15 +160,32 @@ class Listed:
     def __call__(self, peer):
         with peer:
             while request := message(peer):
-                behaviour = self.behaviours[min(len(self.messages), len(self.behaviours) - 1)]
+                behaviour = self.behaviour(request)
                 self.messages.append(request)
                 if not behaviour(self, peer, request):
                     return
+
+    def behaviour(self, request):
+        return self.behaviours[min(len(self.messages), len(self.behaviours) - 1)]
 
     def reply_to(self, request):
         with socket.create_connection(('127.0.0.1', self.port)) as server:
             server.sendall(request)
             return message(server)
+
+
+class AtLast(Listed):
+    """A server that is bad at messages about the last key: at those of these numbers among them, from 1."""
+
+    def __init__(self, port, bad, numbers):
+        super().__init__(port)
+        self.bad, self.numbers, self.count = bad, numbers, 0
+
+    def behaviour(self, request):
+        if not any(CASE.name.encode() in identity for _, identity in questions_in(request)):
+            return answered
+        self.count += 1
+        return self.bad if self.count in self.numbers else answered
 
 
 def answered(listed, peer, request):
@@ -215,6 +225,17 @@ def answered_in_http(listed, peer, request):
     peer.sendall(b'HTTP/1.1 400 Bad Request\r\n\r\n')
 
 
+def answered_about_another(listed, peer, request):
+    peer.sendall(OF_ANOTHER)
+
+
+def answered_without_a_count(listed, peer, request):
+    """The Batch Count of the reply is nine, and no reply to a request of up to eight questions has so many."""
+    reply = listed.reply_to(request)
+    place = reply.index(bytes.fromhex('42000d0200000004'))
+    peer.sendall(reply[:place + 11] + bytes([9]) + reply[place + 12:])
+
+
 def answered_in_version_1_0(listed, peer, request):
     """The message takes effect, and the reply is of another version than the request."""
     reply = listed.reply_to(request)
@@ -247,6 +268,19 @@ def listening(behaviour):
     """A port whose connections each behave so."""
     listener = socket.socket()
     listener.bind(('127.0.0.1', 0))
+    accept_at(listener, behaviour)
+    return listener.getsockname()[1]
+
+
+def listening_at(path, behaviour):
+    """Listens at a Unix socket whose connections each behave so."""
+    listener = socket.socket(socket.AF_UNIX)
+    listener.bind(path)
+    accept_at(listener, behaviour)
+
+
+def accept_at(listener, behaviour):
+    """Lets each connection of what listens behave so."""
     listener.listen(50)
 
     def behave(peer):
@@ -261,7 +295,6 @@ def listening(behaviour):
             threading.Thread(target=behave, args=(peer,), daemon=True).start()
 
     threading.Thread(target=accept, daemon=True).start()
-    return listener.getsockname()[1]
 
 
 def time_limit(behaviour):
@@ -277,6 +310,37 @@ def until(condition):
     return condition()
 
 
+def told_of(port, told):
+    """The lines that are told about the peer at a port, without times."""
+    told = told.replace(f'127.0.0.1:{port}', 'PEER')
+    return re.sub(r'again after \d+ s$', 'again after T s', told, flags=re.M).splitlines()
+
+
+def working(count):
+    """What a run prints that knows nothing of any key after so many messages."""
+    return report(f'Limit {count}', done=NONE_DONE)
+
+
+def finished(sent):
+    """What a run prints that has finished all keys by these messages."""
+    return report(f'AllFinished {len(sent)}')
+
+
+def untold(key, identifier, why):
+    """What a look prints of a key of which nothing is told."""
+    return f'{key.name} {key.target} {identifier} not told: {why}\n'
+
+
+def looks_of(lines):
+    """What a look prints whose keys have these lines."""
+    return ''.join([*lines, f'finished {sum(line.split()[-1] == "finished" for line in lines)} of {len(lines)}\n'])
+
+
+def rounds(batch):
+    """How often a look asks about up to so many keys: each time by a Locate and a Get Attributes."""
+    return -(-len(NINE) // int(batch))
+
+
 def soon(took):
     """The fact that this took no longer than it may."""
     return took < LONGEST, f'it took {took:.2f} s, and may take {LONGEST}'
@@ -285,12 +349,12 @@ def soon(took):
 class Peers:
     def __init__(self, program, folder):
         self.program, self.folder, self.wrong = program, folder, 0
-        self.progress = os.path.join(folder, 'progress')
-        self.plan, self.nine = os.path.join(folder, 'plan.toml'), os.path.join(folder, 'nine.toml')
+        self.plan, self.progress = os.path.join(folder, 'plan.toml'), os.path.join(folder, 'progress')
 
-    def words(self, where, *more, plan=None):
-        return [self.program, 'run', '--plan', plan or self.plan, '--progress', self.progress, *where,
-                '--wait', '0', *more]
+    def words(self, where, *more, known=None):
+        """The words of a run with this progress, or with the one of the rows."""
+        return [self.program, 'run', '--plan', self.plan, '--progress', known or self.progress, *where, '--wait', '0',
+                *more]
 
     def ended(self, words):
         """The exit status of a command, or that it does not end; what is printed and told; and the seconds that it
@@ -306,9 +370,9 @@ class Peers:
                 status = f'killed, as it had not ended after {EVER} s'
         return status, printed, told, time.monotonic() - start
 
-    def run(self, where, *more, plan=None):
+    def run(self, where, *more):
         """The exit status, what is printed, and the seconds that it takes; what is told meanwhile is kept."""
-        status, printed, self.told, took = self.ended(self.words(where, *more, plan=plan))
+        status, printed, self.told, took = self.ended(self.words(where, *more))
         return status, printed, took
 
     def written(self, name):
@@ -340,45 +404,57 @@ class Peers:
                                       text=True)
         return server, int(server.stdout.readline().split()[1])
 
-    def bad_peers(self):
+    def bad_peers(self, batch):
         for behaviour in (silent, dripping, talking_rubbish, closing_in_the_middle, answering_another_question):
             self.forget()
             port = listening(behaviour)
-            status, printed, took = self.run(('--connect', f'127.0.0.1:{port}'), '--limit', '3', *time_limit(behaviour))
-            self.look(f'a peer that is {behaviour.__name__.replace("_", " ")}',
-                      (status == 1, status), (printed == WORKING, printed), soon(took),
-                      (self.known() == NOTHING_KNOWN, self.known()))
+            status, printed, took = self.run(('--connect', f'127.0.0.1:{port}'), '--limit', '3', '--batch', batch,
+                                             *time_limit(behaviour))
+            self.look(f'a peer that is {in_words(behaviour)}, {batch} keys a message', (status == 1, status),
+                      (printed == working(3), printed), soon(took), (self.known() == NOTHING_KNOWN, self.known()))
         server, port = self.serve('--connections', '1')
-        status, printed, _ = self.run(('--connect', f'127.0.0.1:{port}'))
-        self.look('a server behind them', (status == 0, status), (printed == FINISHED.format(3), printed),
-                  (self.known() == ALL_KNOWN, self.known()), (server.wait() == 0, server.returncode))
+        status, printed, _ = self.run(('--connect', f'127.0.0.1:{port}'), '--batch', batch)
+        self.look(f'a server behind them, {batch} keys a message', (status == 0, status),
+                  (printed == finished(messages(batch)), printed), (self.known() == ALL_KNOWN, self.known()),
+                  (server.wait() == 0, server.returncode))
 
-    def closing_peer(self):
-        """A peer that closes behind each reply costs the second exchange. That is the Create of a plan of one
-        key, which is looked for and made anew, and the Locate of the second key of the examples' plan."""
-        server, port = self.serve('--connections', '1000000')
-        where = ('--connect', f'127.0.0.1:{listening(closing_behind_the_reply(port))}')
+    def closing_peer(self, batch):
+        """A peer that closes behind each reply costs the second message, and no other."""
+        server, behind = self.serve('--connections', '1000000')
+        port = listening(closing_behind_the_reply(behind))
         self.forget()
-        status, printed, _ = self.run(where, '--limit', '20')
-        self.look('a peer that is closing behind each reply', (status == 0, status),
-                  (printed == FINISHED.format(5), printed), (self.known() == ALL_KNOWN, self.known()))
-        self.forget()
-        status, printed, _ = self.run(where, '--limit', '50', plan=EXAMPLE)
-        self.look('a longer plan over it', (status == 0, status),
-                  (printed.endswith('finished 7 of 7\nstop AllFinished 24\n'), printed))
-        status, printed, _ = self.probe(where)
-        self.look('a probe over it', (status == 0, status), (printed.count(': yes\n') == 8, printed))
+        status, printed, _ = self.run(('--connect', f'127.0.0.1:{port}'), '--limit', '50', '--batch', batch)
+        sent = messages(batch, ['pass', 'lose-request'])
+        self.look(f'a peer that is closing behind each reply, {batch} keys a message', (status == 0, status),
+                  (printed == finished(sent), printed),
+                  (self.known() == progress(numbers=numbers_by(sent)), self.known()),
+                  (told_of(port, self.told) == [f'no reply from PEER: {CLOSED}; trying again',
+                                                'PEER answers again after T s'], self.told))
+        self.closing_costs_nothing(port, batch, looks_of(looked(numbers=numbers_by(sent))))
         server.kill()
         server.wait()
 
-    def no_peer(self):
+    def closing_costs_nothing(self, port, batch, finished):
+        """Each question of a look and of a probe has a stream of its own: a peer that closes behind each reply costs none."""
+        path = os.path.join(self.folder, f'closing-{batch}')
+        listening_at(path, closing_behind_the_reply(port))
+        for over, words in ('TCP', ('--connect', f'127.0.0.1:{port}')), ('a Unix socket', ('--socket', path)):
+            status, printed, told, _ = self.ended([self.program, 'look', '--plan', self.plan, *words, '--batch', batch])
+            self.look(f'a look over such a peer, over {over}, {batch} keys a message', (status == 0, status),
+                      (printed == finished, printed), (told == '', told))
+            prefix = f'{over.split()[-1]}-{batch}'
+            status, printed, told, _ = self.ended([self.program, 'probe', '--name-prefix', prefix, *words])
+            self.look(f'a probe over such a peer, over {over}, the {prefix} one', (status == 0, status),
+                      (printed.count(': yes\n') == 8, printed), (told == '', told))
+
+    def no_peer(self, batch):
         self.forget()
         with socket.socket() as closed:
             closed.bind(('127.0.0.1', 0))
             port = closed.getsockname()[1]
-            status, printed, _ = self.run(('--connect', f'127.0.0.1:{port}'), '--limit', '3')
-        self.look('a port where nobody listens', (status == 1, status), (printed == WORKING, printed),
-                  (self.known() == NOTHING_KNOWN, self.known()),
+            status, printed, _ = self.run(('--connect', f'127.0.0.1:{port}'), '--limit', '3', '--batch', batch)
+        self.look(f'a port where nobody listens, {batch} keys a message', (status == 1, status),
+                  (printed == working(3), printed), (self.known() == NOTHING_KNOWN, self.known()),
                   (self.told.splitlines() == [
                       f'no reply from 127.0.0.1:{port}: the connection was refused; trying again',
                       'no reply in 3 exchanges'], self.told))
@@ -402,72 +478,104 @@ class Peers:
             status, printed, took = self.run(('--socket', path), '--limit', '3', '--timeout', '1')
             for one in waiting:
                 one.close()
-        self.look('a Unix socket with no room for one more', (status == 1, status), (printed == WORKING, printed),
+        self.look('a Unix socket with no room for one more', (status == 1, status), (printed == working(3), printed),
                   (len(waiting) < 100, len(waiting)), (2.9 < took, took), soon(took))
 
     def look_at(self, port, *more):
         """The exit status, what is printed and told, and the seconds that it takes."""
         return self.ended([self.program, 'look', '--plan', self.plan, '--connect', f'127.0.0.1:{port}', *more])
 
-    def looks(self):
+    def looks(self, batch):
         """A look asks each question four times at most, and says why nothing is told."""
-        untold = 'k1 active - not told: {}\nfinished 0 of 1\n'
-        for behaviour, why, reason in (
-                (talking_rubbish, 'no reply', 'the server did not reply in KMIP: it answers in HTTP'),
-                (closing_in_the_middle, 'no reply', 'the connection was closed within a reply'),
-                (answering_another_question, 'no reply', None),
-                (answering_in_version_1_0, 'unreadable reply', 'an unreadable reply (Version: KMIP 1.0)'),
-                (answering_without_a_count, 'unreadable reply', 'an unreadable reply (BatchCount)')):
-            port = listening(behaviour)
-            status, printed, told, took = self.look_at(port, *PATIENT)
-            wanted = f'no reply from 127.0.0.1:{port}: {reason}; trying again\n' if reason else ''
-            self.look(f'a look at a peer that is {behaviour.__name__.replace("_", " ")}', (status == 1, status),
-                      (printed == untold.format(why), printed), (told == wanted, told), soon(took))
-        for behaviour in (silent, dripping):
-            port = listening(behaviour)
-            status, printed, told, took = self.look_at(port, '--give-up', '1', *time_limit(behaviour))
-            wanted = (f'no reply from 127.0.0.1:{port}: timed out after 1 s; trying again\n'
-                      'gave up: no answer came for 1 s\n')
-            self.look(f'a look that gives up at a peer that is {behaviour.__name__}', (status == 1, status),
-                      (printed == untold.format('no reply'), printed), (told == wanted, told), soon(took))
-
-    def looks_amid_losses(self):
-        """Over a server whose first replies are lost: what is asked, and what is told of it."""
-        finished = 'k1 active 1 Active finished\nfinished 1 of 1\n'
-        server, port = self.serve('--connections', '1000000', '--verbose')
-        status, printed, told, _ = self.look_at(port, *PATIENT)
-        self.look('a look at a new server', (status == 1, status), (told == '', told),
-                  (printed == 'k1 active - none to do: Create Activate\nfinished 0 of 1\n', printed))
-        self.forget()
-        self.run(('--connect', f'127.0.0.1:{port}'), '--limit', '2')
-        status, printed, told, _ = self.look_at(port, '--verbose', *PATIENT)
-        self.look('a look at a key on its way', (status == 1, status),
-                  (printed == 'k1 active 1 PreActive to do: Activate\nfinished 0 of 1\n', printed),
-                  (re.fullmatch(r'\d+\.\d{3} Locate k1: found 1 \(\d+ ms\)\n'
-                                r'\d+\.\d{3} GetAttributes 1: 1 is PreActive \(\d+ ms\)\n', told), told))
-        self.run(('--connect', f'127.0.0.1:{port}'))
-        for lost, count in (((), 2), ((1, 2, 3), 5), ((2, 3, 4), 5), ((1, 3), 4)):
-            losing = Losing(port, lost)
-            status, printed, told, _ = self.look_at(listening(losing), *PATIENT)
-            reasons = re.sub(r'127\.0\.0\.1:\d+', 'PEER', re.sub(r'after \d+ s', 'after T s', told))
-            closed = 'no reply from PEER: the connection was closed before a reply (if there is a tunnel, see its log); trying again\n'
-            spells = {(): 0, (1, 2, 3): 1, (2, 3, 4): 1, (1, 3): 2}[lost]
-            self.look(f'a look at a finished key, with {len(lost)} replies lost', (status == 0, status),
-                      (printed == finished, printed), (losing.count == count, losing.count),
-                      (reasons == (closed + 'PEER answers again after T s\n') * spells, told))
-        losing = Losing(port, (2, 3, 4, 5))
-        status, printed, told, _ = self.look_at(listening(losing), *PATIENT)
-        self.look('a look whose second question gets no reply', (status == 1, status),
-                  (printed == 'k1 active 1 not told: no reply\nfinished 0 of 1\n', printed), (losing.count == 5, losing.count))
+        server, behind = self.serve('--connections', '1000000')
+        for bad, why, reason in (
+                (answered_in_http, 'no reply', IN_HTTP), (cut, 'no reply', CUT),
+                (answered_about_another, 'no reply', None),
+                (answered_in_version_1_0, 'unreadable reply', IN_VERSION_1_0),
+                (answered_without_a_count, 'unreadable reply', 'an unreadable reply (BatchCount)')):
+            peer = AtLast(behind, bad, ALL_MESSAGES)
+            port = listening(peer)
+            status, printed, told, took = self.look_at(port, '--batch', batch, *PATIENT)
+            wanted = looks_of([*looked(done=NONE_DONE)[:-1], untold(CASE, '-', why)])
+            self.look(f'a look, of which messages about the last key are {in_words(bad)}, {batch} keys a message',
+                      (status == 1, status), (printed == wanted, printed), (peer.count == 4, peer.count), soon(took),
+                      (told == (f'no reply from 127.0.0.1:{port}: {reason}; trying again\n' if reason else ''), told))
         server.kill()
         server.wait()
+        for behaviour in (silent, dripping):
+            port = listening(behaviour)
+            status, printed, told, took = self.look_at(port, '--give-up', '1', '--batch', batch, *time_limit(behaviour))
+            wanted = looks_of([untold(key, '-', 'no reply' if place < int(batch) else 'not asked')
+                               for place, key in enumerate(NINE)])
+            self.look(f'a look that gives up at a peer that is {behaviour.__name__}, {batch} keys a message',
+                      (status == 1, status), (printed == wanted, printed), soon(took),
+                      (told == f'no reply from 127.0.0.1:{port}: timed out after 1 s; trying again\n'
+                               'gave up: no answer came for 1 s\n', told))
+
+    def looks_amid_losses(self, batch):
+        """Over a server of which replies about the last key are lost: what is asked, and what is told of it."""
+        server, port = self.serve('--connections', '1000000', '--verbose')
+        status, printed, told, _ = self.look_at(port, '--batch', batch, *PATIENT)
+        self.look(f'a look at a new server, {batch} keys a message', (status == 1, status), (told == '', told),
+                  (printed == looks_of(looked(done=NONE_DONE)), printed))
+        self.forget()
+        # Of each key a Locate and a Create.
+        self.run(('--connect', f'127.0.0.1:{port}'), '--limit', str(2 * len(NINE)))
+        status, printed, told, _ = self.look_at(port, '--verbose', '--batch', batch, *PATIENT)
+        lines = [re.sub(r'^\d+\.\d{3} | \(\d+ ms\)$', '', line) for line in told.splitlines()]
+        wanted = [line for number, key in enumerate(NINE, 1)
+                  for line in (f'Locate {key.name}: found {number}', f'GetAttributes {number}: {number} is PreActive')]
+        # The keys of a message come first, and then the last key alone.
+        wanted = wanted[0 if batch == '1' else -2:]
+        self.look(f'a look at keys on their way, {batch} keys a message', (status == 1, status),
+                  (printed == looks_of(looked(done=[1 for _ in NINE])), printed),
+                  (len(lines) == 2 * rounds(batch), lines), (lines[-len(wanted):] == wanted, lines))
+        self.run(('--connect', f'127.0.0.1:{port}'))
+        for lost in ((), (1, 2, 3), (2, 3, 4), (1, 3)):
+            losing = AtLast(port, closed, lost)
+            peer = listening(losing)
+            status, printed, told, _ = self.look_at(peer, '--batch', batch, *PATIENT)
+            spells = {(): 0, (1, 2, 3): 1, (2, 3, 4): 1, (1, 3): 2}[lost]
+            asked = len(losing.messages)
+            self.look(f'a look at finished keys, {len(lost)} replies about the last one lost, {batch} keys a message',
+                      (status == 0, status), (printed == looks_of(looked()), printed),
+                      (asked == 2 * rounds(batch) + len(lost), asked),
+                      (told_of(peer, told) == [f'no reply from PEER: {CLOSED}; trying again',
+                                               'PEER answers again after T s'] * spells, told))
+        losing = AtLast(port, closed, (2, 3, 4, 5))
+        status, printed, told, took = self.look_at(listening(losing), '--batch', batch, *PATIENT)
+        # It waits for 100 ms before it asks again, and twice as long each further time.
+        self.look(f'a look whose last question gets no reply, {batch} keys a message', (status == 1, status),
+                  (printed == looks_of([*looked()[:-1], untold(CASE, len(NINE), 'no reply')]), printed),
+                  (losing.count == 5, losing.count), (0.7 <= took, took))
+        self.ids_of_looks(port, batch)
+        server.kill()
+        server.wait()
+
+    def ids_of_looks(self, port, batch):
+        """No question of a look has the id of a question of another look: a late reply to one answers no other."""
+        listed, asked = Listed(port, answered), []
+        between = listening(listed)
+        for _ in range(3):
+            status, printed, _, _ = self.look_at(between, '--batch', batch, *PATIENT)
+            asked.append([identity for request in listed.messages for _, identity in questions_in(request)])
+            del listed.messages[:]
+        ids = [identity for some in asked for identity in some]
+        self.look(f'the ids of the questions of three looks, {batch} keys a message', (status == 0, status),
+                  ([len(some) for some in asked] == [2 * len(NINE)] * 3, asked), (len(set(ids)) == len(ids), ids))
 
     def probes(self):
         for behaviour in (silent, dripping, talking_rubbish, closing_in_the_middle):
             words = [self.program, 'probe', '--name-prefix', 'p', '--connect', f'127.0.0.1:{listening(behaviour)}']
             status, printed, _, took = self.ended([*words, *time_limit(behaviour)])
-            self.look(f'a probe of a peer that is {behaviour.__name__.replace("_", " ")}', (status == 1, status),
+            self.look(f'a probe of a peer that is {in_words(behaviour)}', (status == 1, status),
                       (printed == UNTOLD, printed), soon(took))
+        server, port = self.serve('--connections', '1000000')
+        status, printed, _ = self.probe(('--connect', f'127.0.0.1:{listening(closing_behind_the_reply(port))}'))
+        self.look('a probe of a peer that is closing behind each reply', (status == 0, status),
+                  (printed.count(': yes\n') == 8, printed))
+        server.kill()
+        server.wait()
 
     def probe(self, where, *more):
         """What comes of a probe: the exit status, and what is printed and told."""
@@ -478,7 +586,7 @@ class Peers:
         for behaviour, why in ((answering_in_version_1_0, 'Version: it answers in KMIP 1.0'),
                                (answering_without_a_count, 'BatchCount')):
             status, printed, _ = self.probe(('--connect', f'127.0.0.1:{listening(behaviour)}'))
-            self.look(f'a probe of a peer that is {behaviour.__name__.replace("_", " ")}', (status == 1, status),
+            self.look(f'a probe of a peer that is {in_words(behaviour)}', (status == 1, status),
                       (printed == UNREADABLE.format(why), printed))
 
     def lost_looks(self):
@@ -515,8 +623,8 @@ class Peers:
             server.kill()
             server.wait()
 
-    def told_exchanges(self):
-        """With --verbose, probe and serve tell each exchange in a line."""
+    def told_probe(self):
+        """With --verbose, a probe tells each exchange in a line."""
         status, printed, told = self.probe(('--loopback',), '--verbose')
         lines = [re.sub(r'^\d+\.\d{3} | \(\d+ ms\)$', '', line) for line in told.splitlines()]
         self.look('a probe that tells its exchanges', (status == 0, status), (printed == KEPT, printed),
@@ -524,15 +632,28 @@ class Peers:
                                  'Create p-1: refused, reason 53 (Non Unique Name Attribute)'], lines[:4]),
                   (lines[-2:] == ['Revoke 2: revoked 2', 'Destroy 2: destroyed 2'], lines[-2:]),
                   (len(lines) == 25, len(lines)))
+
+    def told_messages(self, batch):
+        """With --verbose, a server tells each message in a line: what it is asked, and what it replies. The replies are
+        looked at in messages about one key. The numbers of objects are those of the plan's places."""
         self.forget()
         words = [self.program, 'serve', '--port', '0', '--connections', '1', '--verbose']
         with subprocess.Popen(words, stdout=subprocess.PIPE, stderr=subprocess.PIPE, text=True) as server:
             port = server.stdout.readline().split()[1]
-            self.run(('--connect', f'127.0.0.1:{port}'), '--limit', '1')
-            told = server.stderr.read()
+            self.run(('--connect', f'127.0.0.1:{port}'), '--batch', batch)
+            told = server.stderr.read().splitlines()
             status = server.wait()
-        self.look('a server that tells its one exchange', (status == 0, status),
-                  (told == 'Locate k1: found none\n', told))
+        replies = {'Locate': 'found none', 'Create': 'created as {}', 'Activate': 'activated {}',
+                   'Revoke': 'revoked {}', 'Destroy': 'destroyed {}'}
+        asked = lambda word, number: f'{word} {NINE[number - 1].name if word in ("Locate", "Create") else number}'
+        wanted = [', '.join(asked(*question) for question in questions) for questions in messages(batch)]
+        if batch == '1':
+            wanted = [f'{line}: {replies[word].format(number)}'
+                      for line, [(word, number)] in zip(wanted, messages(batch))]
+        else:
+            told = [line.split(': ')[0] for line in told]
+        self.look(f'a server that tells its exchanges, {batch} keys a message', (status == 0, status),
+                  (told == wanted, told))
 
     def files(self):
         self.forget()
@@ -558,7 +679,7 @@ class Peers:
                   (not os.path.exists(self.progress), 'there is a progress'),
                   (f'{beside}: File exists' in self.told or f'{beside}: Is a directory' in self.told, self.told))
         status, printed, _ = self.run(('--loopback',))
-        self.look('and that can', (status == 0, status), (printed == FINISHED.format(3), printed),
+        self.look('and that can', (status == 0, status), (printed == finished(messages('1')), printed),
                   (self.known() == ALL_KNOWN, self.known()))
 
     @contextlib.contextmanager
@@ -604,34 +725,34 @@ class Peers:
             printed, told = self.read('printed'), self.read('told')
             self.look('a run that waits for the end of another', (is_at_work, 'the other has ended'),
                       (is_waiting, 'it has not waited'), (second.returncode == 0, second.returncode),
-                      (printed == FINISHED.format(3), printed), (told == waiting, told), soon(took),
+                      (printed == finished(messages('1')), printed), (told == waiting, told), soon(took),
                       (first.returncode == 1, first.returncode))
         status, printed, _ = self.run(('--connect', f'127.0.0.1:{port}'), '--lock-wait', '3600', '--verbose')
-        self.look('a run that need not wait', (status == 0, status), (printed == FINISHED.format(0), printed),
+        self.look('a run that need not wait', (status == 0, status), (printed == finished([]), printed),
                   ('waiting' not in self.told, self.told))
         server.kill()
         server.wait()
 
-    def told_of(self, port):
-        """The lines that the last run told about the peer at a port, without times."""
-        told = self.told.replace(f'127.0.0.1:{port}', 'PEER')
-        return re.sub(r'again after \d+ s$', 'again after T s', told, flags=re.M).splitlines()
-
-    def bad_then_silent(self):
-        """A peer that fails early and is silent then: the next exchange has its time limit all the same, and its own reason."""
-        for first, reason, then in ((closed, CLOSED, left_silent), (reset, CLOSED, left_silent), (cut, CUT, left_silent),
-                                    (answered_in_http, IN_HTTP, left_silent), (reset, CLOSED, dripped),
-                                    (answered_in_version_1_0, IN_VERSION_1_0, left_silent)):
-            server, behind = self.serve('--connections', '1000000')
-            self.forget()
-            port = listening(Listed(behind, first, then))
-            status, printed, took = self.run(('--connect', f'127.0.0.1:{port}'), *SHORT, '--limit', '2')
-            self.look(f'a peer whose first message is {in_words(first)}, and each further one is {in_words(then)}', (status == 1, status),
-                      (printed == WORKING.replace('Limit 3', 'Limit 2'), printed), (3 <= took, took), soon(took),
-                      (self.told_of(port) == [f'no reply from PEER: {reason}; trying again',
-                                              'no reply from PEER: timed out after 3 s', 'no reply in 2 exchanges'], self.told))
-            server.kill()
-            server.wait()
+    def bad_then_silent(self, batch):
+        """A peer that fails early and is silent then: the next exchange has its time limit all the same, and its own
+        reason. As each run waits for its time limit, they are made at once, with a progress each."""
+        server, behind = self.serve('--connections', '1000000')
+        peers = [(first, reason, then, listening(Listed(behind, first, then))) for first, reason, then in (
+            (closed, CLOSED, left_silent), (reset, CLOSED, left_silent), (cut, CUT, left_silent),
+            (answered_in_http, IN_HTTP, left_silent), (reset, CLOSED, dripped),
+            (answered_in_version_1_0, IN_VERSION_1_0, left_silent))]
+        runs = [self.words(('--connect', f'127.0.0.1:{port}'), *SHORT, '--limit', '2', '--batch', batch,
+                           known=f'{self.progress}.{port}') for *_, port in peers]
+        with concurrent.futures.ThreadPoolExecutor(len(runs)) as pool:
+            ends = list(pool.map(self.ended, runs))
+        for (first, reason, then, port), (status, printed, told, took) in zip(peers, ends):
+            self.look(f'a peer whose first message is {in_words(first)}, and each further one is {in_words(then)}, '
+                      f'{batch} keys a message', (status == 1, status), (printed == working(2), printed),
+                      (3 <= took, took), soon(took), (told_of(port, told) == [
+                          f'no reply from PEER: {reason}; trying again', 'no reply from PEER: timed out after 3 s',
+                          'no reply in 2 exchanges'], told))
+        server.kill()
+        server.wait()
 
     def good_then_silent(self, batch):
         """A server that answers the first message about nine keys, and is silent then: what it said of a key is told, and of the
@@ -640,16 +761,15 @@ class Peers:
         self.forget()
         listed = Listed(behind, answered, left_silent)
         port = listening(listed)
-        status, printed, took = self.run(('--connect', f'127.0.0.1:{port}'), *SHORT, '--limit', '2', '--batch', batch,
-                                         plan=self.nine)
+        status, printed, took = self.run(('--connect', f'127.0.0.1:{port}'), *SHORT, '--limit', '2', '--batch', batch)
         words = {LOCATE: 'Locate', CREATE: 'Create'}
         last = {identity[1:].decode(): f'{words[operation]} not answered 1 time' for operation, identity
                 in questions_in(listed.messages[-1])}
         located = {identity[1:].decode(): 'last reply to Locate: found none' for _, identity in questions_in(listed.messages[0])}
         wanted = [f'{key.name}: {(located | last).get(key.name, "not requested yet")}' for key in NINE]
         self.look(f'a server that answers once and is silent then, {batch} keys a message', (status == 1, status),
-                  (printed == report('Limit 2', done=[0] * 9), printed), soon(took), (len(last) == int(batch), last),
-                  (self.told_of(port) == ['no reply from PEER: timed out after 3 s', *wanted], self.told))
+                  (printed == working(2), printed), soon(took), (len(last) == int(batch), last),
+                  (told_of(port, self.told) == ['no reply from PEER: timed out after 3 s', *wanted], self.told))
         server.kill()
         server.wait()
 
@@ -666,14 +786,19 @@ class Peers:
                 listed = Listed(behind, *[answered] * before, bad, answered)
                 port = listening(listed)
                 status, printed, _ = self.run(('--connect', f'127.0.0.1:{port}'), '--batch', batch, '--json',
-                                              *(SHORT if bad == answered_late else PATIENT), plan=self.nine)
-                end = json.loads(printed.splitlines()[-1])
+                                              *(SHORT if bad == answered_late else PATIENT))
+                *told, end = map(json.loads, printed.splitlines())
                 counts = [end[name] for name in ('end', 'finished', 'exchanges', 'refused', 'steps', 'cause', counted)]
-                wanted = ['AllFinished', 9, len(listed.messages), 0, sum(key.steps() for key in NINE), None, 1]
+                wanted = ['AllFinished', 9, len(listed.messages), 0, sum(ALL_DONE), None, 1]
+                objects = objects_of(behind, [key.name for key in NINE])
+                keys = [{'key': key.name, 'target': key.target, 'done': key.done([found]), 'of': key.steps(),
+                         'verdict': 'finished', 'identifier': found[0].decode(), 'steps': key.steps()}
+                        for key in NINE for found in objects[key.name]]
                 self.look(f'a server whose message {before + 1} is {in_words(bad)}, {batch} keys a message',
                           (status == 0, status), (counts == wanted, counts), (end['lost'] + end['unreadable'] == 1, end),
-                          (self.told_of(port) == [f'no reply from PEER: {reason}; trying again',
-                                                  'PEER answers again after T s'], self.told))
+                          (told == keys, told), ([key['done'] for key in told] == ALL_DONE, told),
+                          (told_of(port, self.told) == [f'no reply from PEER: {reason}; trying again',
+                                                        'PEER answers again after T s'], self.told))
                 server.kill()
                 server.wait()
 
@@ -713,7 +838,7 @@ class Peers:
         with socket.create_connection(('127.0.0.1', port)):
             status, printed, took = self.run(('--connect', f'127.0.0.1:{port}'))
         self.look('a server behind a silent client', (status == 0, status),
-                  (printed == FINISHED.format(3), printed), soon(took))
+                  (printed == finished(messages('1')), printed), soon(took))
         # The server sees the end of a connection a little later than the run that has ended it.
         is_settled = until(lambda: files() <= at_rest)
         before = memory()
@@ -725,7 +850,7 @@ class Peers:
         after = memory()
         # The server may touch a page meanwhile; the least that could leak by connection is 160 KB in all.
         self.look('ten thousand connections one after the other', (status == 0, status),
-                  (printed == FINISHED.format(2), printed), (is_settled, (at_rest, files())),
+                  (printed == finished(messages('1', done=ALL_DONE)), printed), (is_settled, (at_rest, files())),
                   (after - before < 64, (before, after)))
         server.kill()
         server.wait()
@@ -737,24 +862,23 @@ def main():
     os.makedirs(folder)
     peers = Peers(program, folder)
     with open(peers.plan, 'w') as plan:
-        plan.write(PLAN)
-    with open(peers.nine, 'w') as plan:
         plan.write(plan_of())
-    peers.bad_peers()
-    peers.bad_then_silent()
     for batch in BATCHES:
+        peers.bad_peers(batch)
+        peers.bad_then_silent(batch)
         peers.good_then_silent(batch)
         peers.bad_then_good(batch)
-    peers.closing_peer()
-    peers.no_peer()
+        peers.closing_peer(batch)
+        peers.no_peer(batch)
+        peers.looks(batch)
+        peers.looks_amid_losses(batch)
+        peers.told_messages(batch)
     peers.full_socket()
-    peers.looks()
-    peers.looks_amid_losses()
     peers.probes()
     peers.unreadable_peers()
     peers.lost_looks()
     peers.hanging_probes()
-    peers.told_exchanges()
+    peers.told_probe()
     peers.files()
     peers.waiting_runs()
     peers.no_client()

@@ -11,6 +11,7 @@ exit status is 0 where none did.
 
 import json
 import os
+import re
 import shutil
 import subprocess
 import sys
@@ -126,6 +127,11 @@ REFUSED = [
      ':4: key 1 "a": the length is -1: for AES it must be 128, 192 or 256'),
     ('a length that is an array', plan(key(length='[1, [2], {a = 3}]')), '7 BadLength at key 1',
      ':4: key 1 "a": the length is [1, [..], {..}]: for AES it must be 128, 192 or 256'),
+    ('a length that is an array of 64', plan(key(length=str([1] * 64))), '7 BadLength at key 1',
+     f':4: key 1 "a": the length is {[1] * 64}: for AES it must be 128, 192 or 256'),
+    # Of an array no more than 64 elements are shown.
+    ('a length that is an array of 65', plan(key(length=str([1] * 65))), '7 BadLength at key 1',
+     f':4: key 1 "a": the length is {str([1] * 64)[:-1]}, ..]: for AES it must be 128, 192 or 256'),
     ('a usage that is a text', plan(key(usage='"sign"')), '8 BadUsage at key 1',
      f':5: key 1 "a": the usage is "sign": it must be {USAGES}'),
     ('no usage in the array', plan(key(usage='[]')), '8 BadUsage at key 1',
@@ -134,6 +140,8 @@ REFUSED = [
      f':5: key 1 "a": the usage has "crypt": use {USAGES}'),
     ('a usage twice', plan(key(usage='["sign", "verify", "verify", "sign"]')), '8 BadUsage at key 1',
      f':5: key 1 "a": the usage has "verify" twice: use {USAGES}'),
+    ('a usage twice, and another between', plan(key(usage='["sign", "verify", "sign"]')), '8 BadUsage at key 1',
+     f':5: key 1 "a": the usage has "sign" twice: use {USAGES}'),
     ('a usage twice, and an unknown one', plan(key(usage='["sign", "sign", 5]')), '8 BadUsage at key 1',
      f':5: key 1 "a": the usage has 5: use {USAGES}'),
     ('an unknown usage in an array of several lines', plan(key(), key(name='"b"', usage='[\n"sign",\n"crypt"\n]')),
@@ -214,6 +222,13 @@ PROLONGS_NOT = [
 OF_ANOTHER_PLAN = [
     ('a progress of a further target', plan(key(target='"created"')), ['a active - 2 31'],
      ':6: key 1 "a": the target is "created", and was "active" in OLD: "active" does not lead to it'),
+    ('a progress with a finished key before one of a further target', plan(key(), key(name='"b"', target='"created"')),
+     ['a active - 2 31', 'b active - 0 -'],
+     ':12: key 2 "b": the target is "created", and was "active" in OLD: "active" does not lead to it'),
+    ('a progress with a revoked key before one of a further target',
+     plan(key(), key(name='"b"', target='"revoked"'), key(name='"c"', target='"created"')),
+     ['a active - 2 31', 'b revoked 1 3 32', 'c active - 0 -'],
+     ':18: key 3 "c": the target is "created", and was "active" in OLD: "active" does not lead to it'),
     ('a progress of another reason', plan(key(target='"revoked"', reason='"superseded"')), ['a revoked 4 3 31'],
      ':7: key 1 "a": the reason is "superseded", and was "affiliation-changed" in OLD: it must not change'),
     ('a progress of a reason, and none is given', plan(key(target='"revoked"')), ['a revoked 7 3 31'],
@@ -331,8 +346,8 @@ class Trial:
         for row, text, lines, why in OF_ANOTHER_PLAN:
             path = self.written('plan.toml', text)
             for number in (2, 1) if ' - ' in lines[0] else (2,):
-                # Format 1 has no reasons.
-                said = lines if number == 2 else [line.replace(' - ', ' ', 1) for line in lines]
+                # Format 1 has no reasons: of each line the third word is left out.
+                said = lines if number == 2 else [re.sub(r'^(\S+ \S+) \S+', r'\1', line) for line in lines]
                 known = '\n'.join([f'kmip-progress {number}', *said, f'end {len(said)}', ''])
                 progress = self.written('plan.progress', known)
                 self.look(f'{row}, format {number}', ['run', '--plan', path, '--progress', progress, '--loopback'],

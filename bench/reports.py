@@ -16,21 +16,19 @@ import shutil
 import socket
 import subprocess
 import sys
-import threading
 
-KEY = '''[[key]]
-name = '{}'
-algorithm = "{}"
-length = {}
-usage = [{}]
-target = "{}"
-'''
-ODD = 'a"b\\c'
-PLAN = KEY.format(ODD, 'AES', 256, '"encrypt", "decrypt"', 'active') + KEY.format(
-    'second', 'HMAC-SHA256', 256, '"mac-generate"', 'discarded')
-FURTHER = PLAN.replace('"active"', '"destroyed"')
-CREATE, DESTROY = ['Create', 'Activate'], ['Create', 'Destroy']
-LIFE = ['Create', 'Activate', 'Revoke', 'Destroy']
+sys.dont_write_bytecode = True
+
+from nine_keys import BATCHES, CASE, LONGEST_NAME, NINE, messages, numbers_by, plan, progress, report
+
+# The name of the last key has characters that JSON writes in another way.
+LAST = CASE.but(name='a"b\\c' + 'x' * (LONGEST_NAME - 5))
+KEYS = [*NINE[:-1], LAST]
+NUMBERS = range(1, len(KEYS) + 1)
+NONE_DONE, ALL_DONE = [0 for _ in KEYS], [key.steps() for key in KEYS]
+NO_NUMBERS = [None for _ in KEYS]
+# The number of a symmetric key among the Object Types of the standard.
+SYMMETRIC_KEY = 2
 PREMISES = ['names are unique', 'names stay used after Destroy', 'a step made twice changes nothing',
             'an active object is not destroyed', 'Locate finds objects by their names',
             'Locate finds destroyed objects', 'Get Attributes tells all six attributes', 'the batch id is echoed']
@@ -40,12 +38,18 @@ STORED = pathlib.Path(__file__).resolve().parent.parent / 'crates' / 'rows_kmipc
 HOLDS = 'the promise holds here: each key is made once, and its steps are made once and in order'
 
 
-def checked(name, algorithm, usage, target, steps, length=256):
-    return {'key': name, 'algorithm': algorithm, 'length': length, 'usage': usage, 'target': target, 'steps': steps}
+def checked(key):
+    return {'key': key.name, 'algorithm': key.algorithm, 'length': key.length, 'usage': key.mask(),
+            'target': key.target, 'steps': key.words()}
 
 
-def listed(name, target, done, of, verdict, identifier, steps=None):
-    line = {'key': name, 'target': target, 'done': done, 'of': of, 'verdict': verdict, 'identifier': identifier}
+def verdict_of(key, done):
+    return 'finished' if done == key.steps() else 'working'
+
+
+def listed(key, done, number, steps=None, verdict=None):
+    line = {'key': key.name, 'target': key.target, 'done': done, 'of': key.steps(),
+            'verdict': verdict or verdict_of(key, done), 'identifier': None if number is None else str(number)}
     return line if steps is None else {**line, 'steps': steps}
 
 
@@ -54,10 +58,18 @@ def ended(end, finished, of, exchanges, steps, cause=None, lost=0, refused=0, un
             'unreadable': unreadable, 'steps': steps, 'milliseconds': 'T', 'cause': cause}
 
 
-def looked(name, target, identifier, state, verdict, to_do, told=(None, None, None, None), not_told=None):
-    kind, algorithm, length, usage = told
-    return {'key': name, 'target': target, 'identifier': identifier, 'state': state, 'verdict': verdict, 'to_do': to_do,
-            'type': kind, 'algorithm': algorithm, 'length': length, 'usage': usage, 'not_told': not_told}
+def looked(key, done, number, verdict=None, made=None):
+    """What a look says of a key whose object was made as another one, or as itself, and had so many steps."""
+    told = made or key
+    return {'key': key.name, 'target': key.target, 'identifier': None if number is None else str(number),
+            'state': told.state(done) if done else None, 'verdict': verdict or verdict_of(key, done),
+            'to_do': [] if verdict else key.words()[done:], 'type': SYMMETRIC_KEY if done else None,
+            'algorithm': told.algorithm if done else None, 'length': told.length if done else None,
+            'usage': told.mask() if done else None, 'not_told': None}
+
+
+def untold(key, why):
+    return {**looked(key, 0, None), 'to_do': [], 'not_told': why}
 
 
 def fault(what, at=None, why=None, cause=None):
@@ -96,7 +108,7 @@ class Reports:
         self.servers = []
         shutil.rmtree(folder, ignore_errors=True)
         os.makedirs(folder)
-        self.plan = self.write('plan.toml', PLAN)
+        self.plan = self.write('plan.toml', plan(KEYS))
         self.progress = os.path.join(folder, 'progress')
 
     def write(self, name, text):
@@ -140,71 +152,71 @@ class Reports:
         self.rows += 1
 
     def plans(self):
-        keys = [checked(ODD, 'AES', 12, 'active', CREATE), checked('second', 'HMAC-SHA256', 128, 'discarded', DESTROY)]
-        further = [{**keys[0], 'target': 'destroyed', 'steps': LIFE}, keys[1]]
-        path = self.write('further.toml', FURTHER)
+        keys, last = [checked(key) for key in KEYS], LAST.but(target='destroyed')
+        path = self.write('further.toml', plan([*KEYS[:-1], last]))
         self.look('check', ['check', '--plan', self.plan], 0, *keys)
-        self.look('check of a plan that prolongs', ['check', '--plan', path, '--after', self.plan], 0, *further,
-                  {'prolongs': True})
+        self.look('check of a plan that prolongs', ['check', '--plan', path, '--after', self.plan], 0, *keys[:-1],
+                  checked(last), {'prolongs': True})
         self.look('check of one that does not', ['check', '--plan', self.plan, '--after', path], 1, *keys,
                   {'prolongs': False})
-        short = self.write('short.toml', PLAN.replace('length = 256\nusage = ["mac', 'length = 100\nusage = ["mac'))
-        refused = no_plan(7, 'BadLength', None, 2, 10)
+        short = self.write('short.toml', plan([*KEYS[:-1], LAST.but(length=100)]))
+        # Each key has six lines, and its length is in the fourth.
+        refused = no_plan(7, 'BadLength', None, 9, 6 * 8 + 4)
         for words in (['check'], ['run', '--loopback', '--progress', self.progress], ['look', '--loopback'],
                       ['list', '--progress', self.progress], ['sim', '--script', self.write('script', '')]):
             self.look(f'{words[0]} of a plan with a wrong length', [*words, '--plan', short], 1, refused)
         self.look('check after a wrong one', ['check', '--plan', self.plan, '--after', short], 1,
                   refused)
 
-    def runs(self):
-        where = ['--connect', self.serve()]
-        run = ['run', '--plan', self.plan, '--progress', self.progress, '--wait', '0', *where]
-        look = ['look', '--plan', self.plan, *where]
-        key = (2, 'AES', 256, 12)
-        self.look('look before', look, 1, looked(ODD, 'active', None, None, 'working', CREATE),
-                  looked('second', 'discarded', None, None, 'working', DESTROY), {'finished': 0, 'of': 2})
-        self.look('a run of one exchange', [*run, '--limit', '1', '--batch', '1'], 1,
-                  listed(ODD, 'active', 0, 2, 'working', None, 0),
-                  listed('second', 'discarded', 0, 2, 'working', None, 0), ended('Limit', 0, 2, 1, 0))
-        self.look('a run', [*run, '--batch', '1'], 0, listed(ODD, 'active', 2, 2, 'finished', '1', 2),
-                  listed('second', 'discarded', 2, 2, 'finished', '2', 2), ended('AllFinished', 2, 2, 6, 4))
-        self.look('a run once more changed nothing', run, 0, listed(ODD, 'active', 2, 2, 'finished', '1', 0),
-                  listed('second', 'discarded', 2, 2, 'finished', '2', 0), ended('AllFinished', 2, 2, 0, 0))
-        self.look('list', ['list', '--plan', self.plan, '--progress', self.progress], 0,
-                  listed(ODD, 'active', 2, 2, 'finished', '1'), listed('second', 'discarded', 2, 2, 'finished', '2'),
-                  {'finished': 2, 'of': 2})
-        self.look('look after', look, 0, looked(ODD, 'active', '1', 'Active', 'finished', [], key),
-                  looked('second', 'discarded', '2', 'Destroyed', 'finished', [], (2, 'HMAC-SHA256', 256, 128)),
-                  {'finished': 2, 'of': 2})
-        other = self.write('other.toml', PLAN.replace('length = 256', 'length = 128', 1))
-        self.look('a look for other attributes', ['look', '--plan', other, *where], 1,
-                  looked(ODD, 'active', '1', 'Active', 'conflict attributes', [], key),
-                  looked('second', 'discarded', '2', 'Destroyed', 'finished', [], (2, 'HMAC-SHA256', 256, 128)),
-                  {'finished': 1, 'of': 2})
-        self.look('a run for other attributes', ['run', '--plan', other, '--progress', self.progress + '.2', *where,
-                                                 '--batch', '1'], 1,
-                  listed(ODD, 'active', 0, 2, 'conflict attributes', '1', 0),
-                  listed('second', 'discarded', 2, 2, 'finished', '2', 0), ended('Conflict', 1, 2, 4, 0, 'conflict'))
-        self.look('its progress with other attributes', ['list', '--plan', other, '--progress', self.progress], 1,
+    def runs(self, batch):
+        saved, where = f'{self.progress}.{batch}', ['--connect', self.serve(), '--batch', batch]
+        run = ['run', '--plan', self.plan, '--progress', saved, '--wait', '0', *where]
+        look, what = ['look', '--plan', self.plan, *where], f', {batch} keys a message'
+        count = {'finished': 9, 'of': 9}
+        self.look(f'look before{what}', look, 1, *map(looked, KEYS, NONE_DONE, NO_NUMBERS), {'finished': 0, 'of': 9})
+        self.look(f'a run of one exchange{what}', [*run, '--limit', '1'], 1,
+                  *map(listed, KEYS, NONE_DONE, NO_NUMBERS, NONE_DONE), ended('Limit', 0, 9, 1, 0))
+        self.look(f'a run{what}', run, 0, *map(listed, KEYS, ALL_DONE, NUMBERS, ALL_DONE),
+                  ended('AllFinished', 9, 9, len(messages(batch)), sum(ALL_DONE)))
+        self.look(f'a run once more changed nothing{what}', run, 0, *map(listed, KEYS, ALL_DONE, NUMBERS, NONE_DONE),
+                  ended('AllFinished', 9, 9, 0, 0))
+        self.look(f'list{what}', ['list', '--plan', self.plan, '--progress', saved], 0,
+                  *map(listed, KEYS, ALL_DONE, NUMBERS), count)
+        self.look(f'look after{what}', look, 0, *map(looked, KEYS, ALL_DONE, NUMBERS), count)
+        other = LAST.but(length=128)
+        path = self.write('other.toml', plan([*KEYS[:-1], other]))
+        self.look(f'a look for other attributes{what}', ['look', '--plan', path, *where], 1,
+                  *map(looked, KEYS[:-1], ALL_DONE, NUMBERS),
+                  looked(other, LAST.steps(), 9, 'conflict attributes', LAST), {'finished': 8, 'of': 9})
+        self.look(f'a run for other attributes{what}',
+                  ['run', '--plan', path, '--progress', f'{saved}.2', *where], 1,
+                  *map(listed, KEYS[:-1], ALL_DONE, NUMBERS, NONE_DONE), listed(other, 0, 9, 0, 'conflict attributes'),
+                  ended('Conflict', 8, 9, len(messages(batch, done=ALL_DONE)), 0, 'conflict'))
+        self.look(f'its progress with other attributes{what}', ['list', '--plan', path, '--progress', saved], 1,
                   {'fault': 'progress refused', 'number': 3, 'name': 'OtherPlan'})
         second = self.serve()
-        self.look('its progress at another server', ['run', '--plan', self.plan, '--progress', self.progress, '--connect',
-                                                     second], 1,
-                  fault('progress of another server', self.progress,
+        self.look(f'its progress at another server{what}',
+                  ['run', '--plan', self.plan, '--progress', saved, '--connect', second, '--batch', batch], 1,
+                  fault('progress of another server', saved,
                         f'it was saved against {where[1]}; this run is to use {second}'))
 
-    def passing(self):
+    def passing(self, batch):
         """Troubles that pass, and those that last."""
+        what = f', {batch} keys a message'
         with socket.socket() as free:
             free.bind(('127.0.0.1', 0))
             closed = f'127.0.0.1:{free.getsockname()[1]}'
-        alone = self.write('alone.toml', KEY.format('k1', 'AES', 256, '"encrypt", "decrypt"', 'active'))
-        words = ['run', '--plan', alone, '--progress', self.progress + '.3', '--connect', closed, '--limit', '2',
-                 '--wait', '0']
-        self.look('a run that reaches nobody', words, 1, listed('k1', 'active', 0, 2, 'working', None, 0),
-                  ended('Limit', 0, 1, 2, 0, 'unreachable', lost=2))
-        self.look('a look that reaches nobody', ['look', '--plan', alone, '--connect', closed, '--give-up', '1'], 1,
-                  looked('k1', 'active', None, None, 'working', [], not_told='no reply'), {'finished': 0, 'of': 1})
+        words = ['run', '--plan', self.plan, '--progress', f'{self.progress}.{batch}.3', '--connect', closed, '--limit',
+                 '2', '--wait', '0', '--batch', batch]
+        self.look(f'a run that reaches nobody{what}', words, 1, *map(listed, KEYS, NONE_DONE, NO_NUMBERS, NONE_DONE),
+                  ended('Limit', 0, 9, 2, 0, 'unreachable', lost=2))
+        # It gives up once the first message is not answered, and asks nothing about the other keys.
+        with socket.create_server(('127.0.0.1', 0)) as silent:
+            words = ['look', '--plan', self.plan, '--connect', f'127.0.0.1:{silent.getsockname()[1]}', '--timeout', '1',
+                     '--give-up', '1', '--batch', batch]
+            self.look(f'a look that is not answered{what}', words, 1,
+                      *(untold(key, 'no reply') for key in KEYS[:int(batch)]),
+                      *(untold(key, 'not asked') for key in KEYS[int(batch):]), {'finished': 0, 'of': 9})
 
     def faults(self):
         none = os.path.join(self.folder, 'none')
@@ -227,7 +239,8 @@ class Reports:
                       fault('progress in use', used))
         self.look('a listing of no progress', ['list', '--plan', self.plan, '--progress', none], 1,
                   fault('cannot read', none, gone))
-        for text, number, name in (('', 2, 'Cut'), ('kmip-progress 2\nk1 active - many 31\nend 1\n', 1, 'BadText')):
+        whole = progress(KEYS)
+        for text, number, name in ((whole[:-1], 2, 'Cut'), (whole.replace(' 2 39\n', ' many 39\n'), 1, 'BadText')):
             path = self.write('bad', text)
             said = {'fault': 'progress refused', 'number': number, 'name': name}
             self.look(f'a run of a progress that is {name}', ['run', '--loopback', '--plan', self.plan, '--progress', path],
@@ -241,18 +254,22 @@ class Reports:
                                                            '--socket', long], 1,
                   fault('cannot connect', long, 'path must be shorter than SUN_LEN'))
 
-    def simulations(self):
-        plan = self.write('sim.toml', KEY.format('database-2026', 'AES', 256, '"encrypt", "decrypt"', 'active'))
-        script = self.write('script', 'pass\nlose-reply\n')
-        name = 'database-2026'
-        asks = [f'{operation} {name}' for operation in ('Locate', 'Create', 'Locate', 'GetAttributes', 'Activate')]
-        self.look('sim', ['sim', '--plan', plan, '--script', script], 0,
-                  {'run': 1, 'end': 'AllFinished', 'exchanges': 5,
-                   'report': [f'{name} active 2/2 finished', 'finished 1 of 1']},
-                  *({'ask': place, 'requests': [ask]} for place, ask in enumerate(asks, 1)),
-                  {'record': '1', 'name': name, 'state': 'Active'})
+    def simulations(self, batch):
+        """The reply to the Create of the last key is lost."""
+        before = next(place for place, questions in enumerate(messages(batch)) if ('Create', len(KEYS)) in questions)
+        words = [*['pass'] * before, 'lose-reply']
+        script, sent = self.write('script', '\n'.join([*words, ''])), messages(batch, words)
+        asks = [[f'{operation} {KEYS[place - 1].name}' for operation, place in questions] for questions in sent]
+        records = sorted(zip(numbers_by(sent), KEYS), key=lambda record: record[0])
+        self.look(f'sim, {batch} keys a message', ['sim', '--plan', self.plan, '--script', script, '--batch', batch], 0,
+                  {'run': 1, 'end': 'AllFinished', 'exchanges': len(sent),
+                   'report': report('AllFinished', KEYS).splitlines()[:-1]},
+                  *({'ask': place, 'requests': ask} for place, ask in enumerate(asks, 1)),
+                  *({'record': str(number), 'name': key.name, 'state': key.state(key.steps())}
+                    for number, key in records))
         bad = self.write('bad.script', 'pass\nsomething\n')
-        self.look('a script that is refused', ['sim', '--plan', plan, '--script', bad], 1,
+        self.look(f'a script that is refused, {batch} keys a message',
+                  ['sim', '--plan', self.plan, '--script', bad, '--batch', batch], 1,
                   {'fault': 'script refused', 'line': 2})
 
     def probes(self):
@@ -280,8 +297,10 @@ class Reports:
 def main():
     reports = Reports(os.path.realpath(sys.argv[1]), os.path.realpath(sys.argv[2]))
     try:
-        for part in (reports.plans, reports.runs, reports.passing, reports.faults, reports.simulations, reports.probes,
-                     reports.stored):
+        for batch in BATCHES:
+            for part in (reports.runs, reports.passing, reports.simulations):
+                part(batch)
+        for part in (reports.plans, reports.faults, reports.probes, reports.stored):
             part()
     finally:
         status = reports.end()

@@ -273,6 +273,20 @@ class Troubles:
             self.look(f'{what}, by {command}', (lines, [why]), (done.returncode, 1),
                       (printed, [last] if last else printed))
 
+    def told_in_many_words(self):
+        """With --verbose, the line of an exchange without a reply that can be read has the reason, for each command."""
+        for what, behaviour, reason in (('closes', saying(b''), f'no reply, the connection was closed before a reply{TUNNEL}'),
+                                        ('speaks KMIP 1.0', of_version_one, 'an unreadable reply (Version: KMIP 1.0)')):
+            self.start()
+            address = f'127.0.0.1:{peer_with(behaviour)}'
+            for command, words in (('look', ('--plan', 'plan.toml')), ('probe', ('--name-prefix', 'k1'))):
+                done = subprocess.run([self.program, command, *words, '--connect', address, '--verbose'], cwd=self.folder,
+                                      capture_output=True, text=True)
+                lines = [without_times(line) for line in done.stderr.splitlines() if ' Locate ' in line]
+                name = 'k1' if command == 'look' else 'k1-1'
+                self.look(f'a peer that {what}, by {command} in many words', (done.returncode, 1), (len(lines) > 0, True),
+                          (set(lines), {f'T Locate {name}: {reason} (T ms)'}))
+
     def serve(self):
         server = subprocess.Popen([self.program, 'serve', '--port', '0', '--connections', '1000000'],
                                   stdout=subprocess.PIPE, text=True)
@@ -655,6 +669,7 @@ def main():
     troubles = Troubles(os.path.realpath(sys.argv[1]), os.path.realpath(sys.argv[2]))
     try:
         troubles.without_reply()
+        troubles.told_in_many_words()
         troubles.refused_connections()
         troubles.still_silent()
         troubles.gives_up()

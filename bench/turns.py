@@ -18,6 +18,7 @@ import time
 
 sys.dont_write_bytecode = True
 
+import messages as kmip
 from messages import RESPONSE_HEADER, TIME_STAMP, items_in
 
 TOP = os.path.join(os.path.dirname(os.path.realpath(__file__)), '..')
@@ -30,6 +31,11 @@ LONGEST = 40
 SILENCE = 5
 # More messages than the network holds of a client that reads no reply: it may keep 4 MB in each direction.
 MANY = 60_000
+
+
+# A Unique Batch Item ID has at most so many bytes, and a name so many.
+LONGEST_ID, LONGEST_NAME = 128, 64
+OBJECT_TYPE, SYMMETRIC_KEY, ALGORITHM, AES, LENGTH, MASK = 0x420057, 2, 0x420028, 3, 0x42002a, 0x42002c
 
 
 class Server:
@@ -80,6 +86,32 @@ def reply(client):
 def asked(client, message):
     client.sendall(message)
     return reply(client)
+
+
+def longest_messages():
+    """A Create of eight keys, and a Get Attributes of them: names and ids are as long as they may be, and so is the second reply."""
+    names, ids = ([letter * most for letter in 'abcdefgh'] for most in (LONGEST_NAME, LONGEST_ID))
+    return [batch(kmip.CREATE, ids, map(created, names)), batch(kmip.GET_ATTRIBUTES, ids, map(identified, range(1, 9)))]
+
+
+def batch(operation, ids, payloads):
+    """A request with a question of each payload."""
+    questions = [kmip.item(kmip.BATCH_ITEM, kmip.STRUCTURE, kmip.number(kmip.OPERATION, kmip.ENUMERATION, operation)
+                           + kmip.item(kmip.ITEM_ID, kmip.BYTES, identity.encode())
+                           + kmip.item(kmip.REQUEST_PAYLOAD, kmip.STRUCTURE, payload)) for identity, payload in zip(ids, payloads)]
+    return kmip.request_of(b''.join(questions), len(questions))
+
+
+def created(name):
+    value = kmip.item(kmip.NAME_VALUE, kmip.TEXT, name.encode()) + kmip.number(kmip.NAME_TYPE, kmip.ENUMERATION, 1)
+    attributes = kmip.number(ALGORITHM, kmip.ENUMERATION, AES) + kmip.number(LENGTH, kmip.INTEGER, 256)
+    attributes += kmip.number(MASK, kmip.INTEGER, 12) + kmip.item(kmip.NAME, kmip.STRUCTURE, value)
+    kind = kmip.number(OBJECT_TYPE, kmip.ENUMERATION, SYMMETRIC_KEY)
+    return kind + kmip.item(kmip.ATTRIBUTES, kmip.STRUCTURE, attributes)
+
+
+def identified(number):
+    return kmip.item(kmip.UNIQUE_IDENTIFIER, kmip.TEXT, str(number).encode())
 
 
 def time_stamp(message):
@@ -259,6 +291,17 @@ class Turns:
         self.look('it ends after 64', status, 0)
         self.look('and has told each exchange in a line', len(told.splitlines()), 64)
 
+    def longest(self):
+        """The longest reply of the server is whole, whichever way clients are served."""
+        messages = longest_messages()
+        for at_once in 1, 2:
+            server = Server(self.program, at_once, 1)
+            client = server.client()
+            said = [asked(client, message) for message in messages]
+            self.look(f'the longest reply, {at_once} at once', (len(said[1]), said), (3160, self.answers(messages)))
+            client.close()
+            self.look('it ends after it', server.end(), (0, ''))
+
     def clocks(self):
         """The Time Stamp of each reply is the time of `--now`, whichever way clients are served."""
         for at_once in 1, 2:
@@ -278,7 +321,7 @@ class Turns:
 def main():
     turns = Turns(os.path.realpath(sys.argv[1]))
     for part in (turns.interleaved, turns.stalling, turns.silent, turns.not_reading, turns.wrong_head, turns.together,
-                 turns.crowded, turns.alone, turns.many, turns.clocks):
+                 turns.crowded, turns.alone, turns.many, turns.longest, turns.clocks):
         part()
     return turns.end()
 

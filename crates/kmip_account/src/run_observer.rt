@@ -70,12 +70,12 @@ impl<'a> Observer for RunObserver<'a> {
         self.account.log().begin_exchange();
     }
 
-    fn missed(&mut self, reason: NoReplyReason<'_>) {
+    fn missed(&mut self, reason: &NoReplyReason<'_>) {
         let wire = self.account.log().wire();
         let silence = match reason {
             NoReplyReason::Lost => wire.silence(None),
-            NoReplyReason::Failed(fault) => wire.silence(Some(fault)),
-            NoReplyReason::Unreadable(fault, reply) => Silence::unreadable(fault, reply),
+            NoReplyReason::Failed(fault) => wire.silence(Some(*fault)),
+            NoReplyReason::Unreadable(fault, reply) => Silence::unreadable(*fault, reply),
             NoReplyReason::NoMemory => Silence::NoMemory,
         };
         self.exchanged(&[], Some(silence));

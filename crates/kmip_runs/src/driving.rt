@@ -153,8 +153,8 @@ fn put<L: Link, O: Observer>(
 fn tell_nothing_came<O: Observer>(answered: &Result<Option<Vec<u8>>, LinkFault>, observer: &mut O) {
     match answered {
         Ok(Some(_)) => {}
-        Ok(None) => observer.missed(NoReplyReason::Lost),
-        Err(fault) => observer.missed(NoReplyReason::Failed(*fault)),
+        Ok(None) => observer.missed(&NoReplyReason::Lost),
+        Err(fault) => observer.missed(&NoReplyReason::Failed(*fault)),
     }
 }
 
@@ -237,8 +237,8 @@ fn hear<O: Observer>(
 /// Tells the observer why these bytes brought no replies.
 fn tell_no_reply<O: Observer>(fault: &HearFault, bytes: &[u8], observer: &mut O) {
     match fault {
-        HearFault::Unreadable(fault) => observer.missed(NoReplyReason::Unreadable(*fault, bytes)),
-        HearFault::NoMemory => observer.missed(NoReplyReason::NoMemory),
+        HearFault::Unreadable(fault) => observer.missed(&NoReplyReason::Unreadable(*fault, bytes)),
+        HearFault::NoMemory => observer.missed(&NoReplyReason::NoMemory),
         HearFault::StrangerId
         | HearFault::WrongOperation
         | HearFault::OtherIdentifier

@@ -10,7 +10,7 @@ pub trait Observer: Listener {
     fn asked(&mut self, parts: &[Part]);
 
     /// The exchange brought no replies.
-    fn missed(&mut self, reason: NoReplyReason<'_>);
+    fn missed(&mut self, reason: &NoReplyReason<'_>);
 
     /// An exchange was made, and its text was given to the keeper, unless memory ran out. `news` is what it
     /// brought, and `client` has what is known now.
@@ -23,7 +23,7 @@ pub trait Observer: Listener {
 impl Observer for NoListener {
     fn asked(&mut self, _parts: &[Part]) {}
 
-    fn missed(&mut self, _reason: NoReplyReason<'_>) {}
+    fn missed(&mut self, _reason: &NoReplyReason<'_>) {}
 
     fn learned(&mut self, _client: &Client<'_>, _news: ExchangeNews) {}
 

@@ -59,7 +59,7 @@ impl Listener for Count {
 impl Observer for Count {
     fn asked(&mut self, _parts: &[Part]) {}
 
-    fn missed(&mut self, reason: NoReplyReason<'_>) {
+    fn missed(&mut self, reason: &NoReplyReason<'_>) {
         let count = match reason {
             NoReplyReason::Lost => &mut self.losses,
             NoReplyReason::Failed(_) => &mut self.faults,

@@ -2,7 +2,7 @@
 
 use crate::asserting::{assert_bytes, assert_number};
 use crate::serving::new_server;
-use crate::streams::ByteReader;
+use crate::streams::{ByteReader, ByteWriter};
 use kmip_server::{Records, Server};
 use kmip_store::ListStore;
 use kmip_transport::Conversation;
@@ -102,5 +102,36 @@ fn answers_in_memory_step_by_step(rt: HostRuntime) -> Result<(), Fail> {
     assert_number(&rt, input.len(), 0, "the input");
     assert_bytes(&rt, output.as_slice(), created.as_slice(), "created");
     assert_number(&rt, server.records().count(), 1, "an object");
+    Ok(())
+}
+
+/// Takes steps until the stream ends.
+fn step_to_its_end(
+    alloc: Global,
+    server: &mut Server<ListStore>,
+    reader: &mut ByteReader<'_>,
+    writer: &mut ByteWriter,
+) -> Result<(), Fail> {
+    let mut conversation = Conversation::new(alloc)?;
+    for _ in 0..10_000usize {
+        match conversation.step(server, alloc, 0, reader, writer) {
+            Ok(true) => {}
+            Ok(false) => return Ok(()),
+            Err(_) => return Err(Fail::new("a step that fails")),
+        }
+    }
+    Err(Fail::new("an end"))
+}
+
+/// A write that is interrupted is made again, so that each reply is written whole.
+#[test]
+fn writes_again_what_was_interrupted(rt: HostRuntime) -> Result<(), Fail> {
+    let create = hex::decode(rt.alloc(), CREATE_K1)?;
+    let created = hex::decode(rt.alloc(), CREATE_K1_REPLY)?;
+    let mut server = new_server(rt.alloc());
+    let mut reader = ByteReader::ending(create.as_slice());
+    let mut writer = ByteWriter::new(rt.alloc());
+    step_to_its_end(rt.alloc(), &mut server, &mut reader, &mut writer)?;
+    assert_bytes(&rt, writer.taken(), created.as_slice(), "created");
     Ok(())
 }

@@ -1,5 +1,7 @@
-//! A reader that gives one byte a read and is interrupted before each, and a writer with little room.
+//! A reader that gives one byte a read and is interrupted before each, and writers: one with little room, and one that is
+//! interrupted as the reader is.
 
+use std::alloc::Global;
 use std::io::{self, Error, ErrorKind, Read, Write};
 
 /// A reader that gives one byte a read, and fails or ends behind the last.
@@ -65,6 +67,47 @@ impl Write for ShortWriter {
         let count = buf.len().min(self.room).min(3);
         self.room -= count;
         Ok(count)
+    }
+
+    fn flush(&mut self) -> io::Result<()> {
+        Ok(())
+    }
+}
+
+/// A writer that takes one byte a write, and is interrupted before each.
+#[derive(Drop)]
+pub struct ByteWriter {
+    taken: Vec<u8>,
+    is_interrupted: bool,
+}
+
+impl ByteWriter {
+    pub fn new(alloc: Global) -> ByteWriter {
+        ByteWriter {
+            taken: Vec::new(alloc),
+            is_interrupted: false,
+        }
+    }
+
+    /// The bytes that were written.
+    pub fn taken(&self) -> &[u8] {
+        self.taken.as_slice()
+    }
+}
+
+impl Write for ByteWriter {
+    fn write(&mut self, buf: &[u8]) -> io::Result<usize> {
+        self.is_interrupted = !self.is_interrupted;
+        if self.is_interrupted {
+            return Err(Error::from(ErrorKind::Interrupted));
+        }
+        match buf.split_first() {
+            Some((byte, _)) => {
+                self.taken.push(*byte)?;
+                Ok(1)
+            }
+            None => Ok(0),
+        }
     }
 
     fn flush(&mut self) -> io::Result<()> {
