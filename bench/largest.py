@@ -186,7 +186,7 @@ class Largest:
             else:
                 found, wanted = lines[:-1], [line_of(command, key, server) for key in KEYS]
             last = '{"finished":1000,"of":1000}' if form == 'json' else 'finished 1000 of 1000'
-            told = re.sub(r'\d+ seconds? ago', 'T ago', told)
+            told = re.sub(r'\d+ (second|minute)s? ago', 'T ago', told)
             self.look(f'{command} of 1,000 keys in {form}', (running.returncode, 0), (found, wanted), (lines[-1], last),
                       (told, f'saved against {server.address}, T ago\n' if command == 'list' else ''))
 

@@ -1,22 +1,18 @@
 //! A network on which another process connects first.
 
-use std::cell::Cell;
 use std::io;
-use std::net::{Net, OpenStream, SocketAddr};
+use std::net::{Net, SocketAddr};
 use std::time::{Clock, Duration};
 
-/// The network of this machine, on which another process connects just before each connection is made, and is
-/// silent.
+/// The network of this machine, on which another process connects just before each connection is made, and leaves.
 #[derive(Drop)]
 pub struct Crowded<'a> {
     rt: &'a HostRuntime,
-    /// The last connection of the other process.
-    other: &'a Cell<Option<<HostRuntime as Net>::Stream>>,
 }
 
 impl<'a> Crowded<'a> {
-    pub fn new(rt: &'a HostRuntime, other: &'a Cell<Option<<HostRuntime as Net>::Stream>>) -> Self {
-        Crowded { rt, other }
+    pub fn new(rt: &'a HostRuntime) -> Self {
+        Crowded { rt }
     }
 }
 
@@ -34,9 +30,7 @@ impl<'a> Net for Crowded<'a> {
     }
 
     fn connect_timeout(&self, addr: SocketAddr, timeout: Duration) -> io::Result<Self::Stream> {
-        let other = self.rt.connect_timeout(addr, timeout)?;
-        other.set_read_timeout(Some(timeout))?;
-        self.other.set(Some(other));
+        drop(self.rt.connect_timeout(addr, timeout)?);
         self.rt.connect_timeout(addr, timeout)
     }
 }
