@@ -30,8 +30,8 @@ LAYERS = [
     ('between', 'Between them', 'what may happen, links, runs and campaigns',
      'kmip_disk kmip_protocol kmip_runs kmip_company kmip_look kmip_scripted kmip_transport kmip_session kmip_tally'),
     ('commands', 'Commands', 'what each prints, over any reader, writer and link',
-     'kmip_trace kmip_message_commands kmip_choices kmip_simulation kmip_plan_commands kmip_probe kmip_probe_command '
-     'kmip_look_command kmip_refresh kmip_json'),
+     'kmip_report kmip_trace kmip_message_commands kmip_choices kmip_simulation kmip_plan_commands kmip_probe '
+     'kmip_probe_command kmip_look_command kmip_refresh kmip_json'),
     ('program', 'Program', 'over the sockets, files and streams of the machine',
      'kmip_files kmip_explaining kmip_trouble kmip_account kmip_run_files kmip_command_line kmip_network '
      'kmip_program kmipctl'),

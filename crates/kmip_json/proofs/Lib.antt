@@ -1,7 +1,3 @@
-mod ReadingLemmas
-mod OneLineLemmas
-mod LineLemmas
-mod DocumentLemmas
+mod StepLemmas
 mod LookLemmas
-mod PairLemmas
 mod ProbeLemmas

@@ -7,7 +7,7 @@ use Rattle.serde_json.specs.Data.{string}
 use Rattle.kmip_probe.specs.declared.finding.Finding.TheVariants.{Kept}
 use Rattle.kmip_probe_command.specs.ProbeText.{TellsAllKept}
 use Rattle.kmip_probe_command.specs.declared.premise.TheConstants.{PREMISES}
-use Rattle.kmip_json.specs.Documents.{document, members, numbers_of}
+use Rattle.kmip_report.specs.Documents.{document, members, numbers_of}
 use Rattle.kmip_json.specs.ProbeJson.{json_texts, kept_lines, premise_line}
 
 -- the lines are computed

@@ -9,7 +9,7 @@ use Rattle.kmip_plan.specs.Chains.{chain}
 use Rattle.kmip_plan.specs.TargetWords.{target_word}
 use Rattle.kmip_plan.specs.Words.{algorithm_word}
 use Rattle.kmip_plan.specs.declared.key.Key.{Key}
-use Rattle.kmip_json.specs.Documents.{count, document, members, text_or_null, words_of}
+use Rattle.kmip_report.specs.Documents.{count, document, members, text_or_null, words_of}
 
 -- What the line of a key says: what the key is made with, its target, and the steps that lead there. The length
 -- is in bits, and the usages are a mask.

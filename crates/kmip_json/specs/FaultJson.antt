@@ -9,7 +9,7 @@ use Rattle.kmip_progress.specs.Faults.{progress_fault_number, progress_fault_nam
 use Rattle.kmip_progress.specs.declared.progress_fault.ProgressFault.{ProgressFault}
 use Rattle.kmip_progress.specs.declared.progress_fault.ProgressFault.TheVariants as progress_faults
 use Rattle.kmip_json.specs.Causes.{cause_word}
-use Rattle.kmip_json.specs.Documents.{count, count_or_null, document, members, text_or_null, words_of}
+use Rattle.kmip_report.specs.Documents.{count, count_or_null, document, members, text_or_null, words_of}
 use Rattle.kmip_json.specs.declared.fault.Fault.{Fault}
 
 -- The line of a fault of a plan: its number, its name, the field and the key that it is about, and a line.

@@ -1,7 +1,5 @@
 -- What a line of a report says as a document of JSON.
 
--- the document of some members, byte for byte
-pub mod Documents
 -- what `check` says of a plan
 pub mod CheckJson
 -- what `list` says of a plan and a progress
@@ -18,9 +16,3 @@ pub mod SimJson
 pub mod LookJson
 -- what `probe` says of a server, line by line
 pub mod ProbeJson
--- what holds of every document: it is read back
-pub mod Laws
--- private: what the values and the members of the code are as data
-pub mod PrivateMembers
--- private: what only the clauses of private functions cite
-pub mod Private

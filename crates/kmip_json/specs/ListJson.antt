@@ -13,7 +13,7 @@ use Rattle.kmip_client.specs.Verdicts.{verdicts_of}
 use Rattle.kmip_client.specs.declared.verdict.Verdict.{Verdict}
 use Rattle.kmip_runs.specs.Reporting.{finished_count, verdict_word}
 use Rattle.kmip_plan_commands.specs.Standings.{Standing, standings}
-use Rattle.kmip_json.specs.Documents.{count, document, members, text_or_null}
+use Rattle.kmip_report.specs.Documents.{count, document, members, text_or_null}
 use Rattle.kmip_json.specs.FaultJson.{progress_fault_line}
 
 -- What the line of a key says: its target, how many of how many steps are done, the verdict, and the identifier.

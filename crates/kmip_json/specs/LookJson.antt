@@ -22,7 +22,7 @@ use Rattle.kmip_look.specs.declared.why.Why.{Why}
 use Rattle.kmip_look_command.specs.LookText.{named_algorithm, named_state, verdict_on, verdicts_on, why_text}
 use Rattle.kmip_trace.specs.Names.{state_of}
 use Rattle.kmip_json.specs.ListJson.{finished_line}
-use Rattle.kmip_json.specs.Documents.{count_or_null, document, members, text_or_null, words_of}
+use Rattle.kmip_report.specs.Documents.{count_or_null, document, members, text_or_null, words_of}
 
 -- ---- single members
 

@@ -15,7 +15,7 @@ use Rattle.kmip_probe_command.specs.FormTexts.{FormTexts}
 use Rattle.kmip_probe_command.specs.LookText.{why_text}
 use Rattle.kmip_probe_command.specs.Wording.{flaw_text, premise_text, risk_text, sum_text}
 use Rattle.kmip_probe_command.specs.declared.premise.Premise.{Premise}
-use Rattle.kmip_json.specs.Documents.{document, members, numbers_of, text_or_null, words_of}
+use Rattle.kmip_report.specs.Documents.{document, members, numbers_of, text_or_null, words_of}
 
 -- The line of a prefix that can't begin names: what went wrong and why, as the line of a fault.
 abbrev pub unfit_line : List ℕ

@@ -12,7 +12,7 @@ use Rattle.kmip_runs.specs.Reporting.{finished_count}
 use Rattle.kmip_runs.specs.Stops.{stop_name}
 use Rattle.kmip_runs.specs.declared.stop.Stop.{Stop}
 use Rattle.kmip_json.specs.Causes.{cause_of, cause_word}
-use Rattle.kmip_json.specs.Documents.{count, document, members, text_or_null}
+use Rattle.kmip_report.specs.Documents.{count, document, members, text_or_null}
 use Rattle.kmip_json.specs.ListJson.{key_pairs}
 use Rattle.kmip_plan_commands.specs.Standings.{Standing, standings}
 use Rattle.kmip_plan_commands.specs.declared.run_tally.RunTally.{RunTally}

@@ -14,7 +14,7 @@ use Rattle.kmip_simulation.specs.SimText.{SimTexts, told_sim}
 use Rattle.kmip_simulation.specs.declared.simulation.Simulation.{Simulation}
 use Rattle.kmip_plan_commands.specs.declared.sim_end.SimEnd.{SimEnd}
 use Rattle.kmip_plan_commands.specs.declared.sim_end.SimEnd.TheVariants.{PlanRefused, ProlongsNot, ScriptRefused, CrashRefused, Ran}
-use Rattle.kmip_json.specs.Documents.{count, document, members, words_of}
+use Rattle.kmip_report.specs.Documents.{count, document, members, words_of}
 use Rattle.kmip_json.specs.FaultJson.{plan_fault_line}
 
 -- ---- the runs

@@ -4,9 +4,8 @@ ghost use Rattle.kmip_objects.specs.Lifecycle.{step_word};
 ghost use Rattle.kmip_plan.specs.Chains.{chain};
 ghost use Rattle.kmip_json.specs.CheckJson.{check_line, check_lines, prolongs_line};
 
-use crate::document::push_document;
-use crate::member::Member;
 use kmip_plan::{Key, Step, algorithm_word, chain, chain_length};
+use kmip_report::{Member, push_document};
 use kmip_ttlv::NoMemory;
 use std::alloc::Global;
 

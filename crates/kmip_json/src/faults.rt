@@ -3,11 +3,10 @@ ghost use Rattle.std.specs.Prelude.{◌≡◌, ◌++◌, OnOk, false, map};
 ghost use Rattle.kmip_json.specs.FaultJson.{contradiction_line, fault_line, is_plan_memory, is_progress_memory, plan_fault_line, progress_fault_line};
 
 use crate::cause::word_of_cause;
-use crate::document::push_document;
 use crate::fault::Fault;
-use crate::member::Member;
 use kmip_plan::PlanFault;
 use kmip_progress::ProgressFault;
+use kmip_report::{Member, push_document};
 use kmip_ttlv::NoMemory;
 use std::alloc::Global;
 

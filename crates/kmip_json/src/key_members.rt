@@ -1,12 +1,12 @@
 //! How a key of a plan stands.
 ghost use Rattle.std.specs.Prelude.{◌≡◌, IfOk, map, option_map};
 ghost use Rattle.kmip_plan_commands.specs.Standings.{standing_of};
-ghost use Rattle.kmip_json.specs.PrivateMembers.{pair_of};
+ghost use Rattle.kmip_report.specs.Members.{pair_of};
 ghost use Rattle.kmip_json.specs.ListJson.{key_pairs};
 
-use crate::member::Member;
 use kmip_plan::chain_length;
 use kmip_plan_commands::KeyStanding;
+use kmip_report::Member;
 use kmip_runs::verdict_word;
 use kmip_ttlv::{NoMemory, Text};
 use std::alloc::Global;

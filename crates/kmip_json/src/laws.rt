@@ -1,22 +1,8 @@
-//! What holds of every document, each as the contract of a function that does nothing.
+//! What holds of the line for running out of memory, as the contract of a function that does nothing.
 ghost use Rattle.std.specs.Prelude.{◌≡◌};
 ghost use Rattle.kmip_json.specs.FaultJson.{no_memory_line};
-ghost use Rattle.kmip_json.specs.Laws.{DocumentsAreLines, DocumentsReadBack};
 
 use crate::NO_MEMORY_LINE;
-
-/// The text of a value that nests at most 127 deep, and whose numbers are counts of 64 bits, is JSON
-/// and reads back as the value. A reader puts the members of an object in the order of their names,
-/// and of members of one name it keeps the last. The lines of this crate nest two deep.
-pub fn documents_read_back()
-    ensures { DocumentsReadBack }
-{}
-
-/// The text of a value whose numbers are counts of 64 bits is one line, whatever the texts in it
-/// are. So each document is the line that its line feed ends.
-pub fn documents_are_lines()
-    ensures { DocumentsAreLines }
-{}
 
 /// The constant line of want of memory is the document of that fault.
 pub fn no_memory_is_a_document()

@@ -5,11 +5,8 @@
 //! escapes what would break a line.
 #![tactic(auto)]
 
-mod bytes;
 mod cause;
 mod checking;
-mod datum;
-mod document;
 mod fault;
 mod faults;
 mod json_lines;
@@ -17,7 +14,6 @@ mod key_members;
 pub mod laws;
 mod listing;
 mod looking;
-mod member;
 mod optional;
 mod probing;
 mod running;

@@ -13,14 +13,13 @@ ghost use Rattle.kmip_json.specs.ListJson.{
   listing_documents,
 };
 
-use crate::document::push_document;
 use crate::faults::push_progress_fault;
 use crate::key_members::members_of_key;
-use crate::member::Member;
 use kmip_client::{Client, Verdict};
 use kmip_plan::{Key, Plan};
 use kmip_plan_commands::{KeyStanding, standings};
 use kmip_progress::{Known, Progress, ProgressFault};
+use kmip_report::{Member, push_document};
 use kmip_runs::finished_count;
 use kmip_ttlv::NoMemory;
 use std::alloc::Global;

@@ -2,7 +2,7 @@
 ghost use Rattle.std.specs.Prelude.{◌≡◌, ◌++◌, IfOk, OnOk, map, not, option_map, string_bytes};
 ghost use Rattle.kmip_objects.specs.Lifecycle.{step_word};
 ghost use Rattle.kmip_plan.specs.Chains.{chain};
-ghost use Rattle.kmip_json.specs.Documents.{document, members};
+ghost use Rattle.kmip_report.specs.Documents.{document, members};
 ghost use Rattle.kmip_look_command.specs.LookText.{are_all_finished, verdict_on};
 ghost use Rattle.kmip_json.specs.LookJson.{
   algorithm_name,
@@ -19,14 +19,13 @@ ghost use Rattle.kmip_json.specs.LookJson.{
 };
 
 use crate::checking::step_words;
-use crate::document::push_document;
 use crate::listing::push_finished;
-use crate::member::Member;
 use crate::optional::{number_in, text_in};
 use kmip_client::{Knowledge, Phase, Verdict};
 use kmip_look::{Looked, Shown, Why};
 use kmip_look_command::{named_algorithm, named_state, verdicts_on, why_text};
 use kmip_plan::Key;
+use kmip_report::{Member, push_document};
 use kmip_runs::{finished_count, verdict_word};
 use kmip_ttlv::NoMemory;
 use std::alloc::Global;

@@ -1,6 +1,6 @@
 //! The lines of a probe as documents.
 ghost use Rattle.std.specs.Prelude.{◌≡◌, ◌++◌, map, IfOk, OnOk, string_bytes, option_map};
-ghost use Rattle.kmip_json.specs.Documents.{document, members};
+ghost use Rattle.kmip_report.specs.Documents.{document, members};
 ghost use Rattle.kmip_json.specs.ProbeJson.{
   end_line,
   finding_word,
@@ -16,12 +16,11 @@ ghost use Rattle.kmip_json.specs.ProbeJson.{
   why_unsure,
 };
 
-use crate::document::push_document;
-use crate::member::Member;
 use crate::optional::text_in;
 use kmip_batch_items::Outcome;
 use kmip_probe::{Finding, Findings, Unread};
 use kmip_probe_command::{Premise, flaw_text, sum_text, why_text};
+use kmip_report::{Member, push_document};
 use kmip_ttlv::NoMemory;
 use std::alloc::Global;
 

@@ -6,13 +6,12 @@ ghost use Rattle.kmip_json.specs.Causes.{cause_of, is_conflict, look_cause};
 ghost use Rattle.kmip_json.specs.RunJson.{end_line, run_line, run_key_lines, run_lines, run_lines_by, all_steps};
 
 use crate::cause::{Cause, word_of_cause};
-use crate::document::push_document;
 use crate::key_members::members_of_key;
-use crate::member::Member;
 use kmip_client::{Client, Verdict};
 use kmip_plan::Key;
 use kmip_plan_commands::{KeyStanding, RunTally, Unanswered, standings};
 use kmip_progress::Known;
+use kmip_report::{Member, push_document};
 use kmip_runs::{Stop, finished_count};
 use kmip_ttlv::NoMemory;
 use std::alloc::Global;

@@ -12,12 +12,11 @@ ghost use Rattle.kmip_json.specs.SimJson.{
   sim_run_line,
 };
 
-use crate::document::push_document;
 use crate::fault::Fault;
 use crate::faults::{push_fault, push_plan_fault};
-use crate::member::Member;
 use kmip_batch_items::Request;
 use kmip_plan_commands::SimEnd;
+use kmip_report::{Member, push_document};
 use kmip_runs::RunEnd;
 use kmip_simulation::{SimForm, push_simulation};
 use kmip_store::Row;

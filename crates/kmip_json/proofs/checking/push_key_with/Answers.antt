@@ -3,10 +3,9 @@ use Rattle.std.proofs.Common.{◌≡◌, rules, ap, ◌∙◌}
 use Rattle.std.proofs.Math.Facts.{to_z-of_z}
 use Rattle.std.specs.Int.{w32, cast_unsigned}
 use Rattle.serde_json.specs.Data.{string}
-use Rattle.kmip_json.specs.Documents.{count, text_or_null, words_of}
+use Rattle.kmip_report.specs.Documents.{count, text_or_null, words_of}
 use Rattle.kmip_json.specs.CheckJson.{check_pairs}
-use Rattle.kmip_json.proofs.LineLemmas.{line_by}
-use Rattle.kmip_json.proofs.PairLemmas.{last, more, said_as}
+use Rattle.kmip_report.proofs.ForCallers.{last, line_by, more, said_as}
 use Rattle.kmip_json.proofs.checking.push_key_with.Goals as goal
 
 pub returns : goal.returns

@@ -1,7 +1,7 @@
 -- Each step is one more.
 use Rattle.std.proofs.Common.{map, sym, ap, ◌∙◌, arith}
 use Rattle.kmip_plan.specs.Chains.{chain}
-use Rattle.kmip_json.proofs.LineLemmas.{words_next, words_past}
+use Rattle.kmip_json.proofs.StepLemmas.{words_next, words_past}
 use Rattle.kmip_json.proofs.LookLemmas.{words_over}
 use Rattle.kmip_json.proofs.checking.step_words.Goals as goal
 use Rattle.kmip_json.proofs.checking.step_words.Goals.{in-Some+in_ok-push_step, in_default}

@@ -1,7 +1,6 @@
 -- The members are the path, why, and the names of the keys.
 use Rattle.kmip_json.specs.FaultJson.{contradiction_line}
-use Rattle.kmip_json.proofs.LineLemmas.{line_by}
-use Rattle.kmip_json.proofs.PairLemmas.{last, more}
+use Rattle.kmip_report.proofs.ForCallers.{last, line_by, more}
 use Rattle.kmip_json.proofs.faults.push_contradiction.Goals as goal
 
 pub returns : goal.returns

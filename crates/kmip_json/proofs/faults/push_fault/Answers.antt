@@ -1,9 +1,8 @@
 -- The members are the pairs of the fault.
 use Rattle.std.proofs.Common.{ap}
-use Rattle.kmip_json.specs.Documents.{text_or_null}
+use Rattle.kmip_report.specs.Documents.{text_or_null}
 use Rattle.kmip_json.specs.FaultJson.{fault_line}
-use Rattle.kmip_json.proofs.LineLemmas.{line_by}
-use Rattle.kmip_json.proofs.PairLemmas.{last, more, said_as}
+use Rattle.kmip_report.proofs.ForCallers.{last, line_by, more, said_as}
 use Rattle.kmip_json.proofs.faults.push_fault.Goals as goal
 
 pub returns : goal.returns

@@ -1,10 +1,9 @@
 -- The members are the pairs of the fault.
 use Rattle.std.proofs.Common.{ap, ◌∙◌}
 use Rattle.serde_json.specs.Data.{string}
-use Rattle.kmip_json.specs.Documents.{count}
+use Rattle.kmip_report.specs.Documents.{count}
 use Rattle.kmip_json.specs.FaultJson.{progress_fault_line}
-use Rattle.kmip_json.proofs.LineLemmas.{line_by}
-use Rattle.kmip_json.proofs.PairLemmas.{last, more, said_as}
+use Rattle.kmip_report.proofs.ForCallers.{last, line_by, more, said_as}
 use Rattle.kmip_json.proofs.faults.push_progress_fault.Goals as goal
 
 pub returns-clause-text : goal.returns-clause-text

@@ -1,10 +1,10 @@
 -- The members are these pairs.
 use Rattle.std.proofs.Common.{map, ap, ◌∙◌}
 use Rattle.serde_json.specs.Data.{string}
-use Rattle.kmip_json.specs.Documents.{count, text_or_null}
+use Rattle.kmip_report.specs.Documents.{count, text_or_null}
 use Rattle.kmip_json.specs.ListJson.{key_pairs}
-use Rattle.kmip_json.specs.PrivateMembers.{pair_of}
-use Rattle.kmip_json.proofs.PairLemmas.{last, more, said_as}
+use Rattle.kmip_report.specs.Members.{pair_of}
+use Rattle.kmip_report.proofs.ForCallers.{last, more, said_as}
 use Rattle.kmip_json.proofs.key_members.members_of_key.Goals as goal
 
 pub returns : goal.returns

@@ -1,9 +1,8 @@
 -- The members are the two counts.
 use Rattle.std.proofs.Common.{ap}
-use Rattle.kmip_json.specs.Documents.{count}
+use Rattle.kmip_report.specs.Documents.{count}
 use Rattle.kmip_json.specs.ListJson.{finished_line}
-use Rattle.kmip_json.proofs.LineLemmas.{line_by}
-use Rattle.kmip_json.proofs.PairLemmas.{last, more, said_as}
+use Rattle.kmip_report.proofs.ForCallers.{last, line_by, more, said_as}
 use Rattle.kmip_json.proofs.listing.push_finished.Goals as goal
 
 pub returns : goal.returns

@@ -1,12 +1,11 @@
 -- The members are the pairs of the key.
 use Rattle.std.proofs.Common.{ap, ◌∙◌, option_map}
 use Rattle.serde_json.specs.Data.{string}
-use Rattle.kmip_json.specs.Documents.{count_or_null, text_or_null, words_of}
+use Rattle.kmip_report.specs.Documents.{count_or_null, text_or_null, words_of}
 use Rattle.kmip_runs.specs.Reporting.{verdict_word}
 use Rattle.kmip_look.specs.declared.shown.Shown.{Shown}
 use Rattle.kmip_json.specs.LookJson.{bits_of}
-use Rattle.kmip_json.proofs.LineLemmas.{line_by}
-use Rattle.kmip_json.proofs.PairLemmas.{last, more, said_as}
+use Rattle.kmip_report.proofs.ForCallers.{last, line_by, more, said_as}
 use Rattle.kmip_json.proofs.looking.push_line.Goals as goal
 
 pub returns : goal.returns

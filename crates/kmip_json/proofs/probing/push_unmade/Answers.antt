@@ -1,6 +1,5 @@
 -- The members are the pairs.
-use Rattle.kmip_json.proofs.LineLemmas.{line_by}
-use Rattle.kmip_json.proofs.PairLemmas.{last, more}
+use Rattle.kmip_report.proofs.ForCallers.{last, line_by, more}
 use Rattle.kmip_json.proofs.probing.push_unmade.Goals as goal
 
 pub returns : goal.returns

@@ -1,8 +1,8 @@
 -- What the list says, and one member more.
 use Rattle.std.proofs.Common.{map, ap, ◌∙◌}
-use Rattle.kmip_json.specs.PrivateMembers.{pair_of}
+use Rattle.kmip_report.specs.Members.{pair_of}
 use Rattle.kmip_json.specs.RunJson.{run_line}
-use Rattle.kmip_json.proofs.LineLemmas.{line_by, pushed}
+use Rattle.kmip_report.proofs.ForCallers.{line_by, pushed}
 use Rattle.kmip_json.proofs.running.push_key.Goals as goal
 
 pub returns : goal.returns

@@ -1,10 +1,9 @@
 -- The members are the pairs of the run.
 use Rattle.std.proofs.Common.{ap}
 use Rattle.serde_json.specs.Data.{string}
-use Rattle.kmip_json.specs.Documents.{words_of}
+use Rattle.kmip_report.specs.Documents.{words_of}
 use Rattle.kmip_json.specs.SimJson.{sim_run_line}
-use Rattle.kmip_json.proofs.LineLemmas.{line_by}
-use Rattle.kmip_json.proofs.PairLemmas.{last, more, said_as}
+use Rattle.kmip_report.proofs.ForCallers.{last, line_by, more, said_as}
 use Rattle.kmip_json.proofs.simulating.push_run_with.Goals as goal
 
 pub returns : goal.returns

@@ -1,7 +1,6 @@
 -- The members are the pairs of the fault.
 use Rattle.kmip_json.specs.SimJson.{script_fault_line}
-use Rattle.kmip_json.proofs.LineLemmas.{line_by}
-use Rattle.kmip_json.proofs.PairLemmas.{last, more}
+use Rattle.kmip_report.proofs.ForCallers.{last, line_by, more}
 use Rattle.kmip_json.proofs.simulating.push_script_fault.Goals as goal
 
 pub returns : goal.returns

@@ -2,8 +2,7 @@
 use Rattle.std.proofs.Common.{ap}
 use Rattle.serde_json.specs.Data.{string}
 use Rattle.kmip_json.specs.SimJson.{record_line}
-use Rattle.kmip_json.proofs.LineLemmas.{line_by}
-use Rattle.kmip_json.proofs.PairLemmas.{last, more, said_as}
+use Rattle.kmip_report.proofs.ForCallers.{last, line_by, more, said_as}
 use Rattle.kmip_json.proofs.simulating.SimDocumentsSimForm.push_object.Goals as goal
 
 pub returns : goal.returns

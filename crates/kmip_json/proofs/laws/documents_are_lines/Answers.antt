@@ -1,6 +1,0 @@
--- No byte of a text is a line feed.
-use Rattle.kmip_json.proofs.OneLineLemmas.{one_line}
-use Rattle.kmip_json.proofs.laws.documents_are_lines.Goals as goal
-
-pub returns : goal.returns
-returns c = one_line

@@ -1,0 +1,5 @@
+pub mod ForCallers
+mod ReadingLemmas
+mod OneLineLemmas
+mod DocumentLemmas
+mod LineLemmas

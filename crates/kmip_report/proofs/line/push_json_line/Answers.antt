@@ -1,0 +1,11 @@
+-- The brace, the members and the line feed are the document.
+use Rattle.kmip_report.specs.Documents.{members}
+use Rattle.kmip_report.specs.PieceViews.{pieces_of}
+use Rattle.kmip_report.specs.Pieces.{piece_members}
+use Rattle.kmip_report.proofs.DocumentLemmas.{whole}
+use Rattle.kmip_report.proofs.line.push_json_line.Goals as goal
+
+pub returns : goal.returns
+returns c =
+    whole c.push_bytes-2.result c.args.text.now.items c.push_bytes.new.text.items c.push_piece_members.new.text.items c.push_bytes-2.new.text.items
+    (members (piece_members (pieces_of c.args.pieces.now))) c.in_ok-push_bytes.ensures c.in_ok-push_piece_members.ensures c.push_bytes-2.ensures

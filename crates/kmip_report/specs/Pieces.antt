@@ -1,0 +1,89 @@
+-- A line of a report is a list of pieces, and a report is a list of lines.
+-- Source: own (text): what the program prints.
+use Rattle.std.specs.Prelude.{ℕ, Bool, List, [], ◌∷◌, ◌++◌, codes, Option, Some, None}
+use Rattle.std.specs.Fmt.{decimal}
+use Rattle.std.specs.List.{flat_map}
+use Rattle.serde_json.specs.Data.{Data, null, boolean, string}
+use Rattle.kmip_ttlv.specs.Showing.{plain_text, shown_truth}
+use Rattle.kmip_report.specs.declared.form.Form.{Form}
+use Rattle.kmip_report.specs.declared.form.Form.TheVariants.{Text, Json}
+use Rattle.kmip_report.specs.Documents.{count, document, members, words_of}
+
+-- What a piece adds to the text of its line, and which members it adds to the document.
+pub record Piece : Type 0 where
+  pub text : List ℕ
+  pub members : List (List ℕ × Data)
+
+-- A value in both forms: in text its front and then the value, in JSON one member.
+abbrev pub told : List ℕ → List ℕ → List ℕ → Data → Piece
+told front name text value = record { text = front ++ text; members = (name, value) ∷ [] }
+
+-- Words in text alone.
+abbrev pub said : List ℕ → Piece
+said words = record { text = words; members = [] }
+
+-- A member in JSON alone.
+abbrev pub noted : List ℕ → Data → Piece
+noted name value = record { text = []; members = (name, value) ∷ [] }
+
+-- A space and a text.
+abbrev pub spaced_word : List ℕ → List ℕ
+spaced_word word = codes " " ++ word
+
+-- Texts, each after a space.
+abbrev pub spaced : List (List ℕ) → List ℕ
+spaced words = flat_map spaced_word words
+
+-- A space and a number in decimal.
+abbrev pub spaced_number : ℕ → List ℕ
+spaced_number n = codes " " ++ decimal n
+
+-- Numbers in decimal, each after a space.
+abbrev pub spaced_numbers : List ℕ → List ℕ
+spaced_numbers ns = flat_map spaced_number ns
+
+-- A text that is printed as it is.
+abbrev pub word : List ℕ → List ℕ → List ℕ → Piece
+word front name text = told front name text (string text)
+
+-- A text in plain characters in text, and as it is in JSON.
+abbrev pub shown : List ℕ → List ℕ → List ℕ → Piece
+shown front name text = told front name (plain_text text) (string text)
+
+-- The same, or a hyphen in text and null in JSON if there is no text.
+abbrev pub shown_or_dash : List ℕ → List ℕ → Option (List ℕ) → Piece
+shown_or_dash front name None = told front name (codes "-") null
+shown_or_dash front name (Some text) = shown front name text
+
+-- A number from 0.
+abbrev pub number : List ℕ → List ℕ → ℕ → Piece
+number front name n = told front name (decimal n) (count n)
+
+-- True or false.
+abbrev pub truth : List ℕ → List ℕ → Bool → Piece
+truth front name is_so = told front name (shown_truth is_so) (boolean is_so)
+
+-- Texts: in text each after a space, in JSON an array.
+abbrev pub words : List ℕ → List ℕ → List (List ℕ) → Piece
+words front name texts = told front name (spaced texts) (words_of texts)
+
+-- The texts of pieces, one after the other.
+abbrev pub piece_texts : List Piece → List ℕ
+piece_texts pieces = flat_map (λ (piece : Piece). piece.text) pieces
+
+-- The members of pieces, in their order.
+abbrev pub piece_members : List Piece → List (List ℕ × Data)
+piece_members pieces = flat_map (λ (piece : Piece). piece.members) pieces
+
+-- The line of pieces in text: their texts and a line feed.
+unfoldable pub text_line : List Piece → List ℕ
+text_line pieces = piece_texts pieces ++ codes "\n"
+
+-- The line of pieces in JSON: the object of their members and a line feed.
+abbrev pub json_line : List Piece → List ℕ
+json_line pieces = document (members (piece_members pieces))
+
+-- The line of pieces in a form.
+abbrev pub line_in : Form → List Piece → List ℕ
+line_in Text pieces = text_line pieces
+line_in Json pieces = json_line pieces

@@ -1,0 +1,149 @@
+//! The writer of documents of JSON.
+ghost use Rattle.std.specs.Prelude.{◌≡◌, ◌++◌, OnOk, false, map};
+ghost use Rattle.serde_json.specs.Data.{string};
+ghost use Rattle.serde_json.specs.View.{view};
+ghost use Rattle.serde_json.specs.Written.{comma_if, compact_text, has_float, items_text, members_text};
+ghost use Rattle.kmip_report.specs.Documents.{counts, document, numbers_of, strings, words_of};
+ghost use Rattle.kmip_report.specs.Private.{member_text};
+ghost use Rattle.kmip_report.specs.Members.{data_of, members_of};
+
+use crate::bytes::push_bytes;
+use crate::datum::Datum;
+use crate::member::Member;
+use kmip_ttlv::NoMemory;
+use serde_json::Value;
+use std::alloc::Global;
+
+/// Appends a document: the object of these members, in this order, and a line feed.
+///
+/// # Errors
+/// If memory runs out. A part of the document may have been appended then.
+pub fn push_document(
+    alloc: Global,
+    members: &[Member<'_>],
+    text: &mut Vec<u8>,
+) -> Result<(), NoMemory>
+    // What is appended is exactly the document of these members.
+    ensures { OnOk result (text.new.items
+        ≡ text.old.items ++ document (members_of members.now)) }
+{
+    push_bytes(b"{", text)?;
+    push_members(alloc, members, text)?;
+    push_bytes(b"\n", text)
+}
+
+/// Appends the members, a comma between two, and the brace that closes them.
+fn push_members(alloc: Global, members: &[Member<'_>], text: &mut Vec<u8>) -> Result<(), NoMemory>
+    ensures { OnOk result (text.new.items
+        ≡ text.old.items ++ members_text false (members_of members.now)) }
+{
+    let mut is_later = false;
+    for member in members {
+        push_comma(is_later, text)?;
+        push_member(alloc, member, text)?;
+        is_later = true;
+    }
+    push_bytes(b"}", text)
+}
+
+/// Appends a comma if a member or an item came before.
+pub(crate) fn push_comma(is_later: bool, text: &mut Vec<u8>) -> Result<(), NoMemory>
+    ensures { OnOk result (text.new.items ≡ text.old.items ++ comma_if is_later) }
+{
+    if is_later {
+        push_bytes(b",", text)
+    } else {
+        push_bytes(b"", text)
+    }
+}
+
+/// Appends a name, a colon and the value.
+pub(crate) fn push_member(
+    alloc: Global,
+    member: &Member<'_>,
+    text: &mut Vec<u8>,
+) -> Result<(), NoMemory>
+    ensures { OnOk result (text.new.items ≡ text.old.items ++ member_text member.now) }
+{
+    push_string(alloc, member.name, text)?;
+    push_bytes(b":", text)?;
+    push_datum(alloc, &member.value, text)
+}
+
+/// Appends a value.
+fn push_datum(alloc: Global, datum: &Datum<'_>, text: &mut Vec<u8>) -> Result<(), NoMemory>
+    ensures { OnOk result (text.new.items ≡ text.old.items ++ compact_text (data_of datum.now)) }
+{
+    match datum {
+        Datum::Null => push_leaf(alloc, &Value::from(()), text),
+        Datum::Truth(is_so) => push_leaf(alloc, &Value::from(*is_so), text),
+        Datum::Number(number) => push_leaf(alloc, &Value::from(*number), text),
+        Datum::Text(word) => push_string(alloc, word, text),
+        Datum::Shown(word) => push_string(alloc, word, text),
+        Datum::Words(words) => push_words(alloc, words, text),
+        Datum::Numbers(numbers) => push_numbers(alloc, numbers, text),
+    }
+}
+
+/// Appends an array of texts.
+fn push_words(alloc: Global, words: &[&str], text: &mut Vec<u8>) -> Result<(), NoMemory>
+    ensures { OnOk result (text.new.items
+        ≡ text.old.items ++ compact_text (words_of (map (λ word. word.now) words.now))) }
+{
+    push_bytes(b"[", text)?;
+    push_items(alloc, words, text)
+}
+
+/// Appends the texts, a comma between two, and the bracket that closes them.
+fn push_items(alloc: Global, words: &[&str], text: &mut Vec<u8>) -> Result<(), NoMemory>
+    ensures { OnOk result (text.new.items
+        ≡ text.old.items ++ items_text false (strings (map (λ word. word.now) words.now))) }
+{
+    let mut is_later = false;
+    for word in words {
+        push_comma(is_later, text)?;
+        push_string(alloc, word, text)?;
+        is_later = true;
+    }
+    push_bytes(b"]", text)
+}
+
+/// Appends an array of numbers.
+fn push_numbers(alloc: Global, numbers: &[u32], text: &mut Vec<u8>) -> Result<(), NoMemory>
+    ensures { OnOk result (text.new.items
+        ≡ text.old.items ++ compact_text (numbers_of numbers.now)) }
+{
+    push_bytes(b"[", text)?;
+    push_counts(alloc, numbers, text)
+}
+
+/// Appends the numbers, a comma between two, and the bracket that closes them.
+fn push_counts(alloc: Global, numbers: &[u32], text: &mut Vec<u8>) -> Result<(), NoMemory>
+    ensures { OnOk result (text.new.items
+        ≡ text.old.items ++ items_text false (counts numbers.now)) }
+{
+    let mut is_later = false;
+    for number in numbers {
+        push_comma(is_later, text)?;
+        push_leaf(alloc, &Value::from(u64::from(*number)), text)?;
+        is_later = true;
+    }
+    push_bytes(b"]", text)
+}
+
+/// Appends a text in quotation marks, with JSON's escapes.
+fn push_string(alloc: Global, word: &str, text: &mut Vec<u8>) -> Result<(), NoMemory>
+    ensures { OnOk result (text.new.items ≡ text.old.items ++ compact_text (string word.now)) }
+{
+    let value = Value::try_from_str(alloc, word)?;
+    push_leaf(alloc, &value, text)
+}
+
+/// Appends the text of a value that has no fraction.
+fn push_leaf(alloc: Global, value: &Value, text: &mut Vec<u8>) -> Result<(), NoMemory>
+    requires { has_float (view value.now) ≡ false }
+    ensures { OnOk result (text.new.items ≡ text.old.items ++ compact_text (view value.now)) }
+{
+    let written = value.to_vec(alloc)?;
+    push_bytes(written.as_slice(), text)
+}

@@ -1,0 +1,94 @@
+//! The writer of values in text.
+ghost use Rattle.std.specs.Prelude.{◌≡◌, ◌++◌, OnOk, map};
+ghost use Rattle.std.specs.Fmt.{decimal};
+ghost use Rattle.kmip_ttlv.specs.Showing.{plain_text, shown_truth};
+ghost use Rattle.kmip_report.specs.Members.{text_of};
+ghost use Rattle.kmip_report.specs.Pieces.{spaced, spaced_number, spaced_numbers, spaced_word};
+
+use crate::bytes::push_bytes;
+use crate::datum::Datum;
+use kmip_ttlv::{NoMemory, plain_text};
+use std::alloc::Global;
+
+/// Appends a value in text.
+pub(crate) fn push_shown(
+    alloc: Global,
+    datum: &Datum<'_>,
+    text: &mut Vec<u8>,
+) -> Result<(), NoMemory>
+    ensures { OnOk result (text.new.items ≡ text.old.items ++ text_of datum.now) }
+{
+    match datum {
+        Datum::Null => push_bytes(b"-", text),
+        Datum::Truth(is_so) => push_truth(*is_so, text),
+        Datum::Number(number) => push_number(alloc, *number, text),
+        Datum::Text(word) => push_bytes(word.as_bytes(), text),
+        Datum::Shown(word) => push_plain(alloc, word, text),
+        Datum::Words(words) => push_words(words, text),
+        Datum::Numbers(numbers) => push_numbers(alloc, numbers, text),
+    }
+}
+
+/// Appends the word for true or false.
+fn push_truth(is_so: bool, text: &mut Vec<u8>) -> Result<(), NoMemory>
+    ensures { OnOk result (text.new.items ≡ text.old.items ++ shown_truth is_so) }
+{
+    if is_so {
+        push_bytes(b"true", text)
+    } else {
+        push_bytes(b"false", text)
+    }
+}
+
+/// Appends a number in decimal.
+fn push_number(alloc: Global, number: u64, text: &mut Vec<u8>) -> Result<(), NoMemory>
+    ensures { OnOk result (text.new.items ≡ text.old.items ++ decimal number) }
+{
+    let digits = format!(in alloc; "{number}")?;
+    push_bytes(digits.as_bytes(), text)
+}
+
+/// Appends a text in plain characters.
+fn push_plain(alloc: Global, word: &str, text: &mut Vec<u8>) -> Result<(), NoMemory>
+    ensures { OnOk result (text.new.items ≡ text.old.items ++ plain_text word.now) }
+{
+    let plain = plain_text(alloc, word)?;
+    push_bytes(plain.as_bytes(), text)
+}
+
+/// Appends texts, each after a space.
+fn push_words(words: &[&str], text: &mut Vec<u8>) -> Result<(), NoMemory>
+    ensures { OnOk result (text.new.items
+        ≡ text.old.items ++ spaced (map (λ word. word.now) words.now)) }
+{
+    for word in words {
+        push_word(word, text)?;
+    }
+    Ok(())
+}
+
+/// Appends a space and a text.
+fn push_word(word: &str, text: &mut Vec<u8>) -> Result<(), NoMemory>
+    ensures { OnOk result (text.new.items ≡ text.old.items ++ spaced_word word.now) }
+{
+    push_bytes(b" ", text)?;
+    push_bytes(word.as_bytes(), text)
+}
+
+/// Appends numbers in decimal, each after a space.
+fn push_numbers(alloc: Global, numbers: &[u32], text: &mut Vec<u8>) -> Result<(), NoMemory>
+    ensures { OnOk result (text.new.items ≡ text.old.items ++ spaced_numbers numbers.now) }
+{
+    for number in numbers {
+        push_spaced_number(alloc, u64::from(*number), text)?;
+    }
+    Ok(())
+}
+
+/// Appends a space and a number in decimal.
+fn push_spaced_number(alloc: Global, number: u64, text: &mut Vec<u8>) -> Result<(), NoMemory>
+    ensures { OnOk result (text.new.items ≡ text.old.items ++ spaced_number number) }
+{
+    push_bytes(b" ", text)?;
+    push_number(alloc, number, text)
+}
