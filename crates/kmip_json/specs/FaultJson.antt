@@ -5,9 +5,11 @@ use Rattle.serde_json.specs.Data.{string}
 use Rattle.kmip_plan.specs.Faults.{plan_fault_number, plan_fault_name, plan_fault_field, plan_fault_place}
 use Rattle.kmip_plan.specs.declared.plan_fault.PlanFault.{PlanFault}
 use Rattle.kmip_plan.specs.declared.plan_fault.PlanFault.TheVariants as plan_faults
-use Rattle.kmip_progress.specs.Faults.{progress_fault_number, progress_fault_name}
 use Rattle.kmip_progress.specs.declared.progress_fault.ProgressFault.{ProgressFault}
 use Rattle.kmip_progress.specs.declared.progress_fault.ProgressFault.TheVariants as progress_faults
+use Rattle.kmip_plan_commands.specs.ProgressRefusals.{progress_refusal}
+use Rattle.kmip_report.specs.declared.form.Form.TheVariants as forms
+use Rattle.kmip_report.specs.Pieces.{line_in}
 use Rattle.kmip_json.specs.Causes.{cause_word}
 use Rattle.kmip_report.specs.Documents.{count, count_or_null, document, members, text_or_null, words_of}
 use Rattle.kmip_json.specs.declared.fault.Fault.{Fault}
@@ -24,12 +26,8 @@ plan_fault_line fault line = document (members (
     ∷ []))
 
 -- The line of a fault of a progress: its number and its name.
-unfoldable pub progress_fault_line : ProgressFault → List ℕ
-progress_fault_line fault = document (members (
-    (codes "fault", string (codes "progress refused"))
-    ∷ (codes "number", count (progress_fault_number fault))
-    ∷ (codes "name", string (progress_fault_name fault))
-    ∷ []))
+abbrev pub progress_fault_line : ProgressFault → List ℕ
+progress_fault_line fault = line_in forms.Json (progress_refusal fault)
 
 -- The line of another fault: what went wrong, where, why, and what stands in the way.
 unfoldable pub fault_line : Fault → List ℕ

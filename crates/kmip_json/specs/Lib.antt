@@ -2,8 +2,6 @@
 
 -- what `check` says of a plan
 pub mod CheckJson
--- what `list` says of a plan and a progress
-pub mod ListJson
 -- what stands in the way of a run, and its word
 pub mod Causes
 -- what `run` says of a run that ended

@@ -21,7 +21,9 @@ use Rattle.kmip_look.specs.declared.shown.Shown.{Shown}
 use Rattle.kmip_look.specs.declared.why.Why.{Why}
 use Rattle.kmip_look_command.specs.LookText.{named_algorithm, named_state, verdict_on, verdicts_on, why_text}
 use Rattle.kmip_trace.specs.Names.{state_of}
-use Rattle.kmip_json.specs.ListJson.{finished_line}
+use Rattle.kmip_plan_commands.specs.Listing.{finished_line}
+use Rattle.kmip_report.specs.declared.form.Form.TheVariants as forms
+use Rattle.kmip_report.specs.Pieces.{line_in}
 use Rattle.kmip_report.specs.Documents.{count_or_null, document, members, text_or_null, words_of}
 
 -- ---- single members
@@ -105,4 +107,4 @@ look_key_lines (key ∷ keys) (looked ∷ lookeds) = look_line key looked ++ loo
 
 -- What is written of what was seen of each key of a plan: a line a key, and the last line.
 abbrev pub look_lines : List Key → List Looked → List ℕ
-look_lines keys lookeds = look_key_lines keys lookeds ++ finished_line keys (verdicts_on keys lookeds)
+look_lines keys lookeds = look_key_lines keys lookeds ++ line_in forms.Json (finished_line keys (verdicts_on keys lookeds))

@@ -12,15 +12,17 @@ use Rattle.kmip_runs.specs.Reporting.{finished_count}
 use Rattle.kmip_runs.specs.Stops.{stop_name}
 use Rattle.kmip_runs.specs.declared.stop.Stop.{Stop}
 use Rattle.kmip_json.specs.Causes.{cause_of, cause_word}
+use Rattle.kmip_report.specs.declared.form.Form.TheVariants as forms
+use Rattle.kmip_report.specs.Pieces.{line_in, noted}
 use Rattle.kmip_report.specs.Documents.{count, document, members, text_or_null}
-use Rattle.kmip_json.specs.ListJson.{key_pairs}
+use Rattle.kmip_plan_commands.specs.Listing.{key_line}
 use Rattle.kmip_plan_commands.specs.Standings.{Standing, standings}
 use Rattle.kmip_plan_commands.specs.declared.run_tally.RunTally.{RunTally}
 
 -- The line of a key that stands so: what `list` says of it, and how many of its steps this run made.
 unfoldable pub run_line : Standing → ℕ → List ℕ
 run_line standing made =
-    document (members (key_pairs standing ++ (codes "steps", count made) ∷ []))
+    line_in forms.Json (key_line standing ++ noted (codes "steps") (count made) ∷ [])
 
 -- The lines of keys that stand so, in their order. A key that has no count of steps counts 0.
 abbrev pub run_key_lines : List Standing → List ℕ → List ℕ

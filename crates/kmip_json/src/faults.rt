@@ -5,8 +5,9 @@ ghost use Rattle.kmip_json.specs.FaultJson.{contradiction_line, fault_line, is_p
 use crate::cause::word_of_cause;
 use crate::fault::Fault;
 use kmip_plan::PlanFault;
+use kmip_plan_commands::push_progress_refusal;
 use kmip_progress::ProgressFault;
-use kmip_report::{Member, push_document};
+use kmip_report::{Form, Member, push_document};
 use kmip_ttlv::NoMemory;
 use std::alloc::Global;
 
@@ -64,12 +65,7 @@ pub fn push_progress_fault(
     if let ProgressFault::NoMemory = fault {
         return Err(NoMemory);
     }
-    let members = [
-        Member::text("fault", "progress refused"),
-        Member::count("number", u64::from(fault.number())),
-        Member::text("name", fault.name()),
-    ];
-    push_document(alloc, &members, text)
+    push_progress_refusal(alloc, Form::Json, fault, text)
 }
 
 /// Appends the line of a fault: what went wrong, where, why, and what stands in the way.

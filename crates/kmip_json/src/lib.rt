@@ -10,9 +10,7 @@ mod checking;
 mod fault;
 mod faults;
 mod json_lines;
-mod key_members;
 pub mod laws;
-mod listing;
 mod looking;
 mod optional;
 mod probing;
@@ -26,7 +24,6 @@ pub use faults::{
     NO_MEMORY_LINE, push_contradiction, push_fault, push_plan_fault, push_progress_fault,
 };
 pub use json_lines::JsonLines;
-pub use listing::{push_list, push_listing};
 pub use looking::push_look;
 pub use running::push_run;
 pub use simulating::push_sim_end;

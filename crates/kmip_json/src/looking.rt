@@ -19,13 +19,13 @@ ghost use Rattle.kmip_json.specs.LookJson.{
 };
 
 use crate::checking::step_words;
-use crate::listing::push_finished;
 use crate::optional::{number_in, text_in};
 use kmip_client::{Knowledge, Phase, Verdict};
 use kmip_look::{Looked, Shown, Why};
 use kmip_look_command::{named_algorithm, named_state, verdicts_on, why_text};
 use kmip_plan::Key;
-use kmip_report::{Member, push_document};
+use kmip_plan_commands::push_finished;
+use kmip_report::{Form, Member, push_document};
 use kmip_runs::{finished_count, verdict_word};
 use kmip_ttlv::NoMemory;
 use std::alloc::Global;
@@ -50,7 +50,7 @@ pub fn push_look(
 {
     let verdicts = verdicts_on(alloc, keys, lookeds)?;
     push_keys(alloc, keys, lookeds, text)?;
-    push_finished(alloc, keys, verdicts.as_slice(), text)?;
+    push_finished(alloc, Form::Json, keys, verdicts.as_slice(), text)?;
     Ok(finished_count(verdicts.as_slice()) != keys.len())
 }
 

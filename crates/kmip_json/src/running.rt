@@ -6,12 +6,11 @@ ghost use Rattle.kmip_json.specs.Causes.{cause_of, is_conflict, look_cause};
 ghost use Rattle.kmip_json.specs.RunJson.{end_line, run_line, run_key_lines, run_lines, run_lines_by, all_steps};
 
 use crate::cause::{Cause, word_of_cause};
-use crate::key_members::members_of_key;
 use kmip_client::{Client, Verdict};
 use kmip_plan::Key;
-use kmip_plan_commands::{KeyStanding, RunTally, Unanswered, standings};
+use kmip_plan_commands::{KeyStanding, RunTally, Unanswered, pieces_of_key, standings};
 use kmip_progress::Known;
-use kmip_report::{Member, push_document};
+use kmip_report::{Form, Member, Piece, push_document, push_line};
 use kmip_runs::{Stop, finished_count};
 use kmip_ttlv::NoMemory;
 use std::alloc::Global;
@@ -105,9 +104,9 @@ fn push_key(
     ensures { OnOk result (text.new.items
         ≡ text.old.items ++ run_line (standing_of standing.now) made) }
 {
-    let mut members = members_of_key(alloc, standing)?;
-    members.push(Member::count("steps", made))?;
-    push_document(alloc, members.as_slice(), text)
+    let mut pieces = Vec::from_array(alloc, pieces_of_key(standing))?;
+    pieces.push(Piece::Noted(Member::count("steps", made)))?;
+    push_line(alloc, Form::Json, pieces.as_slice(), text)
 }
 
 /// Appends the last line.

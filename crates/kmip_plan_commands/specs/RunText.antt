@@ -9,6 +9,8 @@ use Rattle.kmip_client.specs.Verdicts.{counts_of, verdicts_of}
 use Rattle.kmip_runs.specs.Reporting.{report_text}
 use Rattle.kmip_runs.specs.Stops.{is_all_finished, stop_name}
 use Rattle.kmip_runs.specs.declared.stop.Stop.{Stop}
+use Rattle.kmip_report.specs.Pieces.{report_in}
+use Rattle.kmip_report.specs.declared.form.Form.TheVariants as forms
 use Rattle.kmip_choices.specs.declared.report.Report.{Report}
 use Rattle.kmip_choices.specs.declared.report.Report.TheVariants.{Plain, Identifiers}
 use Rattle.kmip_plan_commands.specs.Checking.{plan_refusal_text}
@@ -28,7 +30,7 @@ stop_line stop exchanges = codes "stop " ++ stop_name stop ++ codes " " ++ decim
 -- How each key stands by what a client knows: the report, or the listing where identifiers are asked for.
 abbrev pub reported_text : Report → ClientState → List ℕ
 reported_text Plain client = report_text client.keys (counts_of client.knowns) (verdicts_of client.keys client.knowns)
-reported_text Identifiers client = client_listing client
+reported_text Identifiers client = report_in forms.Text (client_listing client)
 
 -- What is printed of the end of a run: why the progress is refused, or that it could not be kept at the path;
 -- or how each key stands where the run stopped, and the line that says why it did.

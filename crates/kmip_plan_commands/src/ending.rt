@@ -10,6 +10,7 @@ use crate::telling::{push_progress_refusal, push_stop, push_unwritten};
 use kmip_choices::Report;
 use kmip_client::Client;
 use kmip_message_commands::push_text;
+use kmip_report::Form;
 use kmip_ttlv::NoMemory;
 use std::alloc::Global;
 
@@ -30,7 +31,7 @@ pub fn push_run_end(
         ≡ text.old.items ++ run_end_text report path.now end.now) }
 {
     match end {
-        RunEnd::Refused(fault) => push_progress_refusal(alloc, *fault, text),
+        RunEnd::Refused(fault) => push_progress_refusal(alloc, Form::Text, *fault, text),
         RunEnd::Unwritten => push_unwritten(alloc, path, text),
         RunEnd::Stopped {
             client,
@@ -55,7 +56,7 @@ fn push_reported(
 {
     match report {
         Report::Plain => push_report(alloc, client, text),
-        Report::Identifiers => push_client_listing(alloc, client, text),
+        Report::Identifiers => push_client_listing(alloc, Form::Text, client, text),
     }
 }
 

@@ -17,8 +17,8 @@
 //! work alone, and `push_run_end` says in words how it ended.
 //!
 //! The command `list`: what a progress says of each key of its plan. `list`, `run_list` and `list_bytes`
-//! stand to each other as those of `check`. `standings` says how each key stands, for what lists the
-//! keys in another form.
+//! stand to each other as those of `check`. `push_listing` makes the report in memory, in text or in
+//! JSON. `standings` and `pieces_of_key` are for the other reports that have a line for each key.
 #![tactic(auto)]
 
 mod batch;
@@ -53,7 +53,9 @@ pub use ending::push_run_end;
 pub use key_standing::{KeyStanding, standings};
 pub use kmip_choices::{Detail, Report};
 pub use line::progress_line;
-pub use listing::{list, list_bytes, run_list};
+pub use listing::{
+    list, list_bytes, pieces_of_key, push_finished, push_list, push_listing, run_list,
+};
 pub use playing::sim_to_end;
 pub use run_end::RunEnd;
 pub use run_input::RunInput;
@@ -64,4 +66,5 @@ pub use sim_ending::push_sim_end;
 pub use sim_input::SimInput;
 pub use simulating::{run_sim, sim, sim_bytes};
 pub use spent::Spent;
+pub use telling::push_progress_refusal;
 pub use unanswered::Unanswered;

@@ -1,21 +1,24 @@
 //! The command `list`: what a progress says of each key of its plan.
-ghost use Rattle.std.specs.Prelude.{◌≡◌, ◌++◌, IfOk, OnOk, IfErr, OnErr, map, string_bytes};
+ghost use Rattle.std.specs.Prelude.{◌≡◌, [], ◌∷◌, ◌++◌, IfOk, OnOk, IfErr, OnErr, map, option_map};
 ghost use Rattle.std.specs.Io.KnownBytes.{Appends};
 ghost use Rattle.kmip_plan.specs.Reading.{plan_read};
 ghost use Rattle.kmip_progress.specs.Reading.{read_text};
 ghost use Rattle.kmip_progress.specs.Suiting.{Suits};
 ghost use Rattle.kmip_message_commands.specs.Printing.{IfFailed, IfWhole, UnlessOutput, fault_line};
+ghost use Rattle.kmip_report.specs.PieceViews.{pieces_of};
+ghost use Rattle.kmip_report.specs.Pieces.{line_in, report_in};
 ghost use Rattle.kmip_plan_commands.specs.Listing.{
   client_listing,
+  finished_line,
   is_listing_refused,
   is_progress_refused,
-  list_line,
-  list_lines,
-  list_text,
-  list_text_by,
+  key_line,
+  list_lines_by,
   listing,
   progress_listing,
+  saved_listing,
 };
+ghost use Rattle.kmip_plan_commands.specs.ProgressRefusals.{progress_refusal};
 ghost use Rattle.kmip_plan_commands.specs.Standings.{standing_of};
 
 use crate::key_standing::{KeyStanding, standings};
@@ -25,8 +28,9 @@ use kmip_client::{Client, Verdict};
 use kmip_message_commands::{CommandFault, ExitStatus, finished, push_text, send};
 use kmip_plan::{Key, Plan, chain_length, read_plan};
 use kmip_progress::{Known, Progress, ProgressFault};
-use kmip_runs::{identifier_text, sum_line, verdict_word};
-use kmip_ttlv::NoMemory;
+use kmip_report::{Form, Piece, push_line};
+use kmip_runs::{finished_count, verdict_word};
+use kmip_ttlv::{NoMemory, Text};
 use std::alloc::Global;
 use std::io::Write;
 
@@ -73,7 +77,7 @@ pub fn list<W: Write>(
         (W.contents writer.new ≡ W.contents writer.old)) }
 {
     let mut text = Vec::new(alloc);
-    let is_refused = push_listing(alloc, plan, progress, &mut text)?;
+    let is_refused = push_plan_listing(alloc, plan, progress, &mut text)?;
     send(text.as_slice(), false, writer)?;
     Ok(is_refused)
 }
@@ -98,13 +102,13 @@ pub fn list_bytes(
     ensures broken { OnErr result (output.new.items ≡ output.old.items) }
 {
     let mut text = Vec::new(alloc);
-    let is_refused = push_listing(alloc, plan, progress, &mut text)?;
+    let is_refused = push_plan_listing(alloc, plan, progress, &mut text)?;
     push_text(text.as_slice(), output)?;
     Ok(is_refused)
 }
 
-/// Appends what is printed for a plan and a progress, and says whether one is refused.
-fn push_listing(
+/// Appends what is printed for a plan and a progress in text. Returns true if one is refused.
+fn push_plan_listing(
     alloc: Global,
     plan: &str,
     progress: &str,
@@ -116,7 +120,7 @@ fn push_listing(
         r ≡ is_listing_refused (plan_read plan.now) progress.now) }
 {
     match read_plan(alloc, plan) {
-        Ok(plan) => push_progress(alloc, &plan, progress, text),
+        Ok(plan) => push_listing(alloc, Form::Text, &plan, progress, text),
         Err(fault) => {
             push_refusal(alloc, &fault, text)?;
             Ok(true)
@@ -124,102 +128,184 @@ fn push_listing(
     }
 }
 
-/// The same of a plan that is read already.
-fn push_progress(
+/// Appends in this form what the text of a progress says of each key of a plan: a line for each key
+/// with its name, its target, how many of its steps are done, the verdict and its identifier, and a
+/// line that counts the finished keys. If the progress is refused it is one line, which says why.
+/// Returns true if it is refused.
+///
+/// # Errors
+/// If memory runs out. A part may have been appended then.
+pub fn push_listing(
     alloc: Global,
+    form: Form,
     plan: &Plan,
     progress: &str,
     text: &mut Vec<u8>,
 ) -> Result<bool, NoMemory>
-    ensures text { OnOk result (text.new.items
-        ≡ text.old.items ++ progress_listing plan.now (read_text plan.now progress.now)) }
+    // What is appended is exactly the listing, or the line of the fault.
+    ensures text { OnOk result (text.new.items ≡ text.old.items
+        ++ report_in form (progress_listing plan.now (read_text plan.now progress.now))) }
+    // It is refused exactly if the text is not a progress of the plan.
     ensures refused { IfOk result (λ r.
         r ≡ is_progress_refused (read_text plan.now progress.now)) }
 {
     match Progress::read_text(alloc, plan, progress) {
         Ok(saved) => {
-            push_saved(alloc, plan, &saved, text)?;
+            push_list(alloc, form, plan, &saved, text)?;
             Ok(false)
         }
         Err(ProgressFault::NoMemory) => Err(NoMemory),
         Err(fault) => {
-            push_progress_refusal(alloc, fault, text)?;
+            push_refused(alloc, form, fault, text)?;
             Ok(true)
         }
     }
 }
 
-/// Appends the listing of a progress.
-fn push_saved(
+/// Appends the report of a progress that is refused.
+fn push_refused(
     alloc: Global,
+    form: Form,
+    fault: ProgressFault,
+    text: &mut Vec<u8>,
+) -> Result<(), NoMemory>
+    ensures { OnOk result (text.new.items
+        ≡ text.old.items ++ report_in form (progress_refusal fault ∷ [])) }
+{
+    push_progress_refusal(alloc, form, fault, text)
+}
+
+/// Appends the listing of a progress.
+///
+/// # Errors
+/// If memory runs out. A part may have been appended then.
+pub fn push_list(
+    alloc: Global,
+    form: Form,
     plan: &Plan,
     saved: &Progress,
     text: &mut Vec<u8>,
 ) -> Result<(), NoMemory>
+    // The progress suits the plan.
     requires { Suits plan.now saved.now }
-    ensures { OnOk result (text.new.items ≡ text.old.items ++ list_text plan.now saved.now) }
+    // What is appended is exactly the listing.
+    ensures { OnOk result (text.new.items
+        ≡ text.old.items ++ report_in form (saved_listing plan.now saved.now)) }
 {
     let client = Client::resume(alloc, plan, saved)?;
-    push_client_listing(alloc, &client, text)
+    push_client_listing(alloc, form, &client, text)
 }
 
 /// Appends the listing of what a client knows.
 pub(crate) fn push_client_listing(
     alloc: Global,
+    form: Form,
     client: &Client<'_>,
     text: &mut Vec<u8>,
 ) -> Result<(), NoMemory>
-    ensures { OnOk result (text.new.items ≡ text.old.items ++ client_listing client.now) }
+    ensures { OnOk result (text.new.items
+        ≡ text.old.items ++ report_in form (client_listing client.now)) }
 {
     let verdicts = client.verdicts(alloc)?;
     let saved = client.progress(alloc)?;
     let keys = client.plan().keys();
-    push_text_by(alloc, verdicts.as_slice(), keys, saved.known(), text)
+    push_lines_by(alloc, form, verdicts.as_slice(), keys, saved.known(), text)
 }
 
 /// Appends the listing by these verdicts.
-fn push_text_by(
+fn push_lines_by(
     alloc: Global,
+    form: Form,
     verdicts: &[Verdict],
     keys: &[Key],
     saved: &[Known],
     text: &mut Vec<u8>,
 ) -> Result<(), NoMemory>
-    ensures { OnOk result (text.new.items
-        ≡ text.old.items ++ list_text_by verdicts.now keys.now saved.now) }
+    ensures { OnOk result (text.new.items ≡ text.old.items
+        ++ report_in form (list_lines_by verdicts.now keys.now saved.now)) }
 {
     let standings = standings(alloc, keys, saved, verdicts)?;
-    push_lines(alloc, standings.as_slice(), text)?;
-    let line = sum_line(alloc, keys, verdicts)?;
-    push_text(line.as_bytes(), text)
+    push_keys(alloc, form, standings.as_slice(), text)?;
+    push_finished(alloc, form, keys, verdicts, text)
 }
 
-/// Appends the lines of keys that stand so.
-fn push_lines(
+/// Appends the lines of keys, one after the other.
+fn push_keys(
     alloc: Global,
+    form: Form,
     standings: &[KeyStanding<'_>],
     text: &mut Vec<u8>,
 ) -> Result<(), NoMemory>
-    ensures { OnOk result (text.new.items
-        ≡ text.old.items ++ list_lines (map standing_of standings.now)) }
+    ensures { OnOk result (text.new.items ≡ text.old.items
+        ++ report_in form (map key_line (map standing_of standings.now))) }
 {
     for standing in standings {
-        let line = list_line(alloc, standing)?;
-        push_text(line.as_bytes(), text)?;
+        push_key(alloc, form, standing, text)?;
     }
     Ok(())
 }
 
-/// The line of a key that stands so.
-fn list_line(alloc: Global, standing: &KeyStanding<'_>) -> Result<String, NoMemory>
-    ensures { IfOk result (λ line. string_bytes line ≡ list_line (standing_of standing.now)) }
+/// Appends the line of a key.
+fn push_key(
+    alloc: Global,
+    form: Form,
+    standing: &KeyStanding<'_>,
+    text: &mut Vec<u8>,
+) -> Result<(), NoMemory>
+    ensures { OnOk result (text.new.items
+        ≡ text.old.items ++ line_in form (key_line (standing_of standing.now))) }
 {
-    let name = standing.key.attrs.name.as_str();
-    let target = standing.key.target.word();
-    let done = standing.known.done;
-    let steps = chain_length(standing.key);
-    let word = verdict_word(standing.verdict);
-    let identifier = identifier_text(alloc, &standing.known.identifier)?;
-    let line = format!(in alloc; "{name} {target} {done}/{steps} {word} {identifier}\n")?;
-    Ok(line)
+    push_line(alloc, form, &pieces_of_key(standing), text)
+}
+
+/// The line of a key: its name, its target, how many of its steps are done, the verdict and its
+/// identifier.
+pub fn pieces_of_key<'a>(standing: &'a KeyStanding<'a>) -> [Piece<'a>; 6]
+    ensures { pieces_of result ≡ key_line (standing_of standing.now) }
+{
+    let KeyStanding {
+        key,
+        known,
+        verdict,
+    } = standing;
+    [
+        Piece::word("", "key", key.attrs.name.as_str()),
+        Piece::word(" ", "target", key.target.word()),
+        Piece::number(" ", "done", known.done as u64),
+        Piece::number("/", "of", chain_length(key) as u64),
+        Piece::word(" ", "verdict", verdict_word(*verdict)),
+        Piece::shown_or_dash(" ", "identifier", text_of(&known.identifier)),
+    ]
+}
+
+/// Appends the line that counts the finished keys.
+///
+/// # Errors
+/// If memory runs out. A part may have been appended then.
+pub fn push_finished(
+    alloc: Global,
+    form: Form,
+    keys: &[Key],
+    verdicts: &[Verdict],
+    text: &mut Vec<u8>,
+) -> Result<(), NoMemory>
+    // What is appended is exactly that line.
+    ensures { OnOk result (text.new.items
+        ≡ text.old.items ++ line_in form (finished_line keys.now verdicts.now)) }
+{
+    let pieces = [
+        Piece::number("finished ", "finished", finished_count(verdicts) as u64),
+        Piece::number(" of ", "of", keys.len() as u64),
+    ];
+    push_line(alloc, form, &pieces, text)
+}
+
+/// The text, if there is one.
+fn text_of(text: &Option<Text>) -> Option<&str>
+    ensures { option_map (λ word. word.now) result ≡ text.now }
+{
+    match text {
+        Some(text) => Some(text.as_str()),
+        None => None,
+    }
 }

@@ -87,3 +87,7 @@ json_line pieces = document (members (piece_members pieces))
 abbrev pub line_in : Form → List Piece → List ℕ
 line_in Text pieces = text_line pieces
 line_in Json pieces = json_line pieces
+
+-- A report in a form: its lines, one after the other.
+abbrev pub report_in : Form → List (List Piece) → List ℕ
+report_in form lines = flat_map (line_in form) lines

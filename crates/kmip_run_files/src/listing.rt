@@ -7,10 +7,10 @@ use crate::recalling::{judge_attributes, progress_file_at};
 use kmip_choices::{Format, ListOptions};
 use kmip_explaining::RefusedProgress;
 use kmip_files::{MOST_PROGRESS_BYTES, ProgressFile};
-use kmip_json::push_listing;
 use kmip_message_commands::ExitStatus;
-use kmip_plan_commands::run_list;
+use kmip_plan_commands::{push_listing, run_list};
 use kmip_progress::{Progress, ProgressFault};
+use kmip_report::Form;
 use kmip_trouble::{Trouble, plan_name, print_documents, standard_output};
 use kmip_ttlv::NoMemory;
 use std::alloc::Global;
@@ -35,7 +35,13 @@ pub fn list_progress(rt: &HostRuntime, options: &ListOptions) -> Result<ExitStat
         }
         Format::Json => {
             let mut documents = Vec::new(rt.alloc());
-            let made = push_listing(rt.alloc(), &plan.plan, saved.as_str(), &mut documents);
+            let made = push_listing(
+                rt.alloc(),
+                Form::Json,
+                &plan.plan,
+                saved.as_str(),
+                &mut documents,
+            );
             print_documents(rt, made, documents.as_slice())
         }
     };

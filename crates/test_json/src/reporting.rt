@@ -4,12 +4,13 @@ ghost use Rattle.kmip_progress.specs.Suiting.{Suits};
 use crate::asserting::{PLAN, assert_lines, key};
 use kmip_client::Client;
 use kmip_json::{
-    Cause, Fault, NO_MEMORY_LINE, push_check, push_fault, push_list, push_plan_fault,
-    push_progress_fault, push_prolongs, push_run,
+    Cause, Fault, NO_MEMORY_LINE, push_check, push_fault, push_plan_fault, push_progress_fault,
+    push_prolongs, push_run,
 };
 use kmip_plan::{Plan, PlanFault, Target, read_plan};
-use kmip_plan_commands::RunTally;
+use kmip_plan_commands::{RunTally, push_list};
 use kmip_progress::{Known, Progress, ProgressFault, suits};
+use kmip_report::Form;
 use kmip_runs::Stop;
 use kmip_ttlv::{NoMemory, Text};
 use std::alloc::Global;
@@ -84,7 +85,7 @@ fn writes_what_is_known(rt: HostRuntime) -> Result<(), Fail> {
     let saved = saved(alloc)?;
     assert!(rt; suits(&plan, &saved));
     let mut text = Vec::new(alloc);
-    push_list(alloc, &plan, &saved, &mut text)?;
+    push_list(alloc, Form::Json, &plan, &saved, &mut text)?;
     assert_lines(&rt, alloc, text.as_slice(), &LIST_LINES)?;
     Ok(())
 }
