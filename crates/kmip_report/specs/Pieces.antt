@@ -1,8 +1,10 @@
 -- A line of a report is a list of pieces, and a report is a list of lines.
 -- Source: own (text): what the program prints.
-use Rattle.std.specs.Prelude.{ℕ, Bool, List, [], ◌∷◌, ◌++◌, codes, Option, Some, None}
-use Rattle.std.specs.Fmt.{decimal}
+use Rattle.std.specs.Prelude.{ℕ, ℤ, Bool, true, false, List, [], ◌∷◌, ◌++◌, codes, Option, Some, None}
+use Rattle.std.specs.Fmt.{decimal, signed_decimal}
+use Rattle.std.specs.Int.{w32, cast_unsigned, to_be_bytes}
 use Rattle.std.specs.List.{flat_map}
+use Rattle.hex.specs.Hex.{encode_lower}
 use Rattle.serde_json.specs.Data.{Data, null, boolean, string}
 use Rattle.kmip_ttlv.specs.Showing.{plain_text, shown_truth}
 use Rattle.kmip_report.specs.declared.form.Form.{Form}
@@ -50,14 +52,45 @@ word front name text = told front name text (string text)
 abbrev pub shown : List ℕ → List ℕ → List ℕ → Piece
 shown front name text = told front name (plain_text text) (string text)
 
--- The same, or a hyphen in text and null in JSON if there is no text.
-abbrev pub shown_or_dash : List ℕ → List ℕ → Option (List ℕ) → Piece
-shown_or_dash front name None = told front name (codes "-") null
-shown_or_dash front name (Some text) = shown front name text
+-- No value: these words in text, and null in JSON.
+abbrev pub absent : List ℕ → List ℕ → Piece
+absent name words = told [] name words null
+
+-- A text that is printed as it is, or these words if there is none.
+abbrev pub word_or : List ℕ → List ℕ → List ℕ → Option (List ℕ) → Piece
+word_or front name words None = absent name words
+word_or front name words (Some text) = word front name text
+
+-- A text in plain characters, or these words if there is none.
+abbrev pub shown_or : List ℕ → List ℕ → List ℕ → Option (List ℕ) → Piece
+shown_or front name words None = absent name words
+shown_or front name words (Some text) = shown front name text
 
 -- A number from 0.
 abbrev pub number : List ℕ → List ℕ → ℕ → Piece
 number front name n = told front name (decimal n) (count n)
+
+-- A number from 0, or these words if there is none.
+abbrev pub number_or : List ℕ → List ℕ → List ℕ → Option ℕ → Piece
+number_or front name words None = absent name words
+number_or front name words (Some n) = number front name n
+
+-- An Integer of KMIP: in text with its sign, in JSON its 32 bits as a number from 0.
+abbrev pub signed : List ℕ → List ℕ → ℤ → Piece
+signed front name n = told front name (signed_decimal n) (count (cast_unsigned w32 n))
+
+-- An Integer of KMIP, or these words if there is none.
+abbrev pub signed_or : List ℕ → List ℕ → List ℕ → Option ℤ → Piece
+signed_or front name words None = absent name words
+signed_or front name words (Some n) = signed front name n
+
+-- The eight hexadecimal digits of a mask.
+abbrev pub mask_digits : ℕ → List ℕ
+mask_digits n = encode_lower (to_be_bytes w32 n)
+
+-- A usage mask: in text its hexadecimal digits, in JSON a number.
+abbrev pub mask : List ℕ → List ℕ → ℕ → Piece
+mask front name n = told front name (mask_digits n) (count n)
 
 -- True or false.
 abbrev pub truth : List ℕ → List ℕ → Bool → Piece
@@ -66,6 +99,11 @@ truth front name is_so = told front name (shown_truth is_so) (boolean is_so)
 -- Texts: in text each after a space, in JSON an array.
 abbrev pub words : List ℕ → List ℕ → List (List ℕ) → Piece
 words front name texts = told front name (spaced texts) (words_of texts)
+
+-- The piece if it is to be told in text, else its members in JSON alone.
+abbrev pub told_if : Bool → Piece → Piece
+told_if true piece = piece
+told_if false piece = record { text = []; members = piece.members }
 
 -- The texts of pieces, one after the other.
 abbrev pub piece_texts : List Piece → List ℕ

@@ -3,7 +3,7 @@ ghost use Rattle.std.specs.Prelude.{◌≡◌, ◌++◌, OnOk, false, map};
 ghost use Rattle.serde_json.specs.Data.{string};
 ghost use Rattle.serde_json.specs.View.{view};
 ghost use Rattle.serde_json.specs.Written.{comma_if, compact_text, has_float, items_text, members_text};
-ghost use Rattle.kmip_report.specs.Documents.{counts, document, numbers_of, strings, words_of};
+ghost use Rattle.kmip_report.specs.Documents.{count, counts, document, numbers_of, strings, words_of};
 ghost use Rattle.kmip_report.specs.Private.{member_text};
 ghost use Rattle.kmip_report.specs.Members.{data_of, members_of};
 
@@ -75,9 +75,11 @@ fn push_datum(alloc: Global, datum: &Datum<'_>, text: &mut Vec<u8>) -> Result<()
     ensures { OnOk result (text.new.items ≡ text.old.items ++ compact_text (data_of datum.now)) }
 {
     match datum {
-        Datum::Null => push_leaf(alloc, &Value::from(()), text),
+        Datum::Null(_) => push_leaf(alloc, &Value::from(()), text),
         Datum::Truth(is_so) => push_leaf(alloc, &Value::from(*is_so), text),
         Datum::Number(number) => push_leaf(alloc, &Value::from(*number), text),
+        Datum::Signed(number) => push_count(alloc, number.cast_unsigned(), text),
+        Datum::Mask(mask) => push_count(alloc, *mask, text),
         Datum::Text(word) => push_string(alloc, word, text),
         Datum::Shown(word) => push_string(alloc, word, text),
         Datum::Words(words) => push_words(alloc, words, text),
@@ -125,10 +127,17 @@ fn push_counts(alloc: Global, numbers: &[u32], text: &mut Vec<u8>) -> Result<(),
     let mut is_later = false;
     for number in numbers {
         push_comma(is_later, text)?;
-        push_leaf(alloc, &Value::from(u64::from(*number)), text)?;
+        push_count(alloc, *number, text)?;
         is_later = true;
     }
     push_bytes(b"]", text)
+}
+
+/// Appends a number from 0.
+fn push_count(alloc: Global, number: u32, text: &mut Vec<u8>) -> Result<(), NoMemory>
+    ensures { OnOk result (text.new.items ≡ text.old.items ++ compact_text (count number)) }
+{
+    push_leaf(alloc, &Value::from(u64::from(number)), text)
 }
 
 /// Appends a text in quotation marks, with JSON's escapes.

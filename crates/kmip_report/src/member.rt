@@ -81,7 +81,7 @@ impl<'a> Member<'a> {
     fn null(name: &'static str) -> Self
         ensures { pair_of result ≡ (name.now, null) }
     {
-        let value = Datum::Null;
+        let value = Datum::Null("");
         Member { name, value }
     }
 }

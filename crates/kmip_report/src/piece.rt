@@ -2,7 +2,22 @@
 ghost use Rattle.std.specs.Prelude.{◌≡◌, map, option_map};
 ghost use Rattle.kmip_report.specs.Members.{data_of, text_of};
 ghost use Rattle.kmip_report.specs.PieceViews.{piece_of};
-ghost use Rattle.kmip_report.specs.Pieces.{number, shown, shown_or_dash, told, truth, word, words};
+ghost use Rattle.kmip_report.specs.Pieces.{
+  absent,
+  mask,
+  number,
+  number_or,
+  shown,
+  shown_or,
+  signed,
+  signed_or,
+  told,
+  told_if,
+  truth,
+  word,
+  word_or,
+  words,
+};
 
 use crate::datum::Datum;
 use crate::member::Member;
@@ -33,14 +48,35 @@ impl<'a> Piece<'a> {
         Piece::told(front, name, Datum::Shown(text))
     }
 
-    /// A text that came from elsewhere. If there is none, a hyphen in text and null in JSON.
-    pub fn shown_or_dash(front: &'static str, name: &'static str, text: Option<&'a str>) -> Self
+    /// A text, which is printed as it is. If there is none, these words in text and null in JSON.
+    pub fn word_or(
+        front: &'static str,
+        name: &'static str,
+        words: &'static str,
+        text: Option<&'a str>,
+    ) -> Self
         ensures { piece_of result
-            ≡ shown_or_dash front.now name.now (option_map (λ text. text.now) text.entry) }
+            ≡ word_or front.now name.now words.now (option_map (λ text. text.now) text.entry) }
+    {
+        match text {
+            Some(text) => Piece::word(front, name, text),
+            None => Piece::absent(name, words),
+        }
+    }
+
+    /// A text that came from elsewhere. If there is none, these words in text and null in JSON.
+    pub fn shown_or(
+        front: &'static str,
+        name: &'static str,
+        words: &'static str,
+        text: Option<&'a str>,
+    ) -> Self
+        ensures { piece_of result
+            ≡ shown_or front.now name.now words.now (option_map (λ text. text.now) text.entry) }
     {
         match text {
             Some(text) => Piece::shown(front, name, text),
-            None => Piece::told(front, name, Datum::Null),
+            None => Piece::absent(name, words),
         }
     }
 
@@ -49,6 +85,50 @@ impl<'a> Piece<'a> {
         ensures { piece_of result ≡ number front.now name.now n }
     {
         Piece::told(front, name, Datum::Number(n))
+    }
+
+    /// A number from 0. If there is none, these words in text and null in JSON.
+    pub fn number_or(
+        front: &'static str,
+        name: &'static str,
+        words: &'static str,
+        n: Option<usize>,
+    ) -> Self
+        ensures { piece_of result ≡ number_or front.now name.now words.now n }
+    {
+        match n {
+            Some(n) => Piece::number(front, name, n as u64),
+            None => Piece::absent(name, words),
+        }
+    }
+
+    /// An Integer of KMIP: in text with its sign, in JSON its 32 bits as a number from 0.
+    pub fn signed(front: &'static str, name: &'static str, n: i32) -> Self
+        ensures { piece_of result ≡ signed front.now name.now n }
+    {
+        Piece::told(front, name, Datum::Signed(n))
+    }
+
+    /// An Integer of KMIP. If there is none, these words in text and null in JSON.
+    pub fn signed_or(
+        front: &'static str,
+        name: &'static str,
+        words: &'static str,
+        n: Option<i32>,
+    ) -> Self
+        ensures { piece_of result ≡ signed_or front.now name.now words.now n }
+    {
+        match n {
+            Some(n) => Piece::signed(front, name, n),
+            None => Piece::absent(name, words),
+        }
+    }
+
+    /// A usage mask: in text eight hexadecimal digits, in JSON a number.
+    pub fn mask(front: &'static str, name: &'static str, n: u32) -> Self
+        ensures { piece_of result ≡ mask front.now name.now n }
+    {
+        Piece::told(front, name, Datum::Mask(n))
     }
 
     /// True or false.
@@ -64,6 +144,27 @@ impl<'a> Piece<'a> {
             ≡ words front.now name.now (map (λ text. text.now) texts.now) }
     {
         Piece::told(front, name, Datum::Words(texts))
+    }
+
+    /// The piece if it is to be told in text, else its member in JSON alone.
+    pub fn told_if(self, is_told: bool) -> Self
+        ensures { piece_of result ≡ told_if is_told (piece_of self.entry) }
+    {
+        if is_told {
+            return self;
+        }
+        match self {
+            Piece::Told(_, member) => Piece::Noted(member),
+            Piece::Said(_) => Piece::Said(""),
+            Piece::Noted(member) => Piece::Noted(member),
+        }
+    }
+
+    /// No value: these words in text, and null in JSON.
+    fn absent(name: &'static str, words: &'static str) -> Self
+        ensures { piece_of result ≡ absent name.now words.now }
+    {
+        Piece::told("", name, Datum::Null(words))
     }
 
     /// A value in both forms.

@@ -1,9 +1,9 @@
 //! The writer of values in text.
 ghost use Rattle.std.specs.Prelude.{◌≡◌, ◌++◌, OnOk, map};
-ghost use Rattle.std.specs.Fmt.{decimal};
+ghost use Rattle.std.specs.Fmt.{decimal, signed_decimal};
 ghost use Rattle.kmip_ttlv.specs.Showing.{plain_text, shown_truth};
 ghost use Rattle.kmip_report.specs.Members.{text_of};
-ghost use Rattle.kmip_report.specs.Pieces.{spaced, spaced_number, spaced_numbers, spaced_word};
+ghost use Rattle.kmip_report.specs.Pieces.{mask_digits, spaced, spaced_number, spaced_numbers, spaced_word};
 
 use crate::bytes::push_bytes;
 use crate::datum::Datum;
@@ -19,9 +19,11 @@ pub(crate) fn push_shown(
     ensures { OnOk result (text.new.items ≡ text.old.items ++ text_of datum.now) }
 {
     match datum {
-        Datum::Null => push_bytes(b"-", text),
+        Datum::Null(words) => push_bytes(words.as_bytes(), text),
         Datum::Truth(is_so) => push_truth(*is_so, text),
         Datum::Number(number) => push_number(alloc, *number, text),
+        Datum::Signed(number) => push_signed(alloc, *number, text),
+        Datum::Mask(mask) => push_mask(alloc, *mask, text),
         Datum::Text(word) => push_bytes(word.as_bytes(), text),
         Datum::Shown(word) => push_plain(alloc, word, text),
         Datum::Words(words) => push_words(words, text),
@@ -45,6 +47,22 @@ fn push_number(alloc: Global, number: u64, text: &mut Vec<u8>) -> Result<(), NoM
     ensures { OnOk result (text.new.items ≡ text.old.items ++ decimal number) }
 {
     let digits = format!(in alloc; "{number}")?;
+    push_bytes(digits.as_bytes(), text)
+}
+
+/// Appends a number in decimal, with its sign.
+fn push_signed(alloc: Global, number: i32, text: &mut Vec<u8>) -> Result<(), NoMemory>
+    ensures { OnOk result (text.new.items ≡ text.old.items ++ signed_decimal number) }
+{
+    let digits = format!(in alloc; "{number}")?;
+    push_bytes(digits.as_bytes(), text)
+}
+
+/// Appends a mask in eight hexadecimal digits.
+fn push_mask(alloc: Global, mask: u32, text: &mut Vec<u8>) -> Result<(), NoMemory>
+    ensures { OnOk result (text.new.items ≡ text.old.items ++ mask_digits mask) }
+{
+    let digits = hex::encode(alloc, &mask.to_be_bytes())?;
     push_bytes(digits.as_bytes(), text)
 }
 
