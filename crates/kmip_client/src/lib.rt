@@ -43,3 +43,4 @@ pub use parts::Parts;
 pub use phase::Phase;
 pub use question::Question;
 pub use verdict::Verdict;
+pub use verdicts::finished_count;

@@ -1,7 +1,7 @@
 //! How many steps of each key of a plan are done, and the verdict on each.
 ghost use Rattle.std.specs.Prelude.{◌≡◌, length, IfOk};
 ghost use Rattle.kmip_client.specs.Clients.{tells, verdict_at};
-ghost use Rattle.kmip_client.specs.Verdicts.{counts_of, verdicts_of};
+ghost use Rattle.kmip_client.specs.Verdicts.{counts_of, finished_count, verdicts_of};
 
 use crate::{Knowledge, Phase, Verdict};
 use kmip_plan::Key;
@@ -56,4 +56,14 @@ pub(crate) fn tells(phase: Phase) -> bool
         Phase::Make | Phase::Go => true,
         Phase::Look | Phase::Check => false,
     }
+}
+
+/// The number of verdicts that a key is finished.
+pub fn finished_count(verdicts: &[Verdict]) -> usize
+    ensures { result ≡ finished_count verdicts.now }
+{
+    verdicts
+        .iter()
+        .filter(|verdict| verdict.is_finished())
+        .count()
 }

@@ -4,7 +4,8 @@ use Rattle.kmip_plan.specs.TargetWords.{target_word}
 use Rattle.kmip_plan.specs.declared.key.Key.{Key}
 use Rattle.kmip_client.specs.Knowledge.{chain_length}
 use Rattle.kmip_client.specs.declared.verdict.Verdict.{Verdict}
-use Rattle.kmip_runs.specs.Reporting.{finished_count, report_line, sum_line, verdict_word}
+use Rattle.kmip_client.specs.Verdicts.{finished_count, verdict_word}
+use Rattle.kmip_runs.specs.Reporting.{report_line, sum_line}
 
 pub line_is : (key : Key) (done steps : ℕ) (verdict : Verdict) (name target word : List ℕ) → name ≡ key.attrs.name → target ≡ target_word key.target
     → steps ≡ chain_length key → word ≡ verdict_word verdict

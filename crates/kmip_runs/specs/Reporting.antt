@@ -1,22 +1,13 @@
 -- What is reported of the keys of a plan: a line for each key, with how many of its steps are done and how it
 -- stands, and a line that counts the finished keys.
 -- Source: own (text).
-use Rattle.std.specs.Prelude.{ℕ, Bool, true, false, List, [], ◌∷◌, ◌++◌, length, filter, codes, decimal, Option, Some, None}
+use Rattle.std.specs.Prelude.{ℕ, List, [], ◌∷◌, ◌++◌, length, codes, decimal, Option, Some, None}
 use Rattle.kmip_ttlv.specs.Showing.{plain_text}
 use Rattle.kmip_plan.specs.TargetWords.{target_word}
 use Rattle.kmip_plan.specs.declared.key.Key.{Key}
 use Rattle.kmip_client.specs.Knowledge.{chain_length}
-use Rattle.kmip_client.specs.declared.clash.Clash.TheVariants.{Attributes, State, TwoObjects}
+use Rattle.kmip_client.specs.Verdicts.{finished_count, verdict_word}
 use Rattle.kmip_client.specs.declared.verdict.Verdict.{Verdict}
-use Rattle.kmip_client.specs.declared.verdict.Verdict.TheVariants.{Working, Finished, Conflict}
-
--- how a verdict is printed
-abbrev pub verdict_word : Verdict → List ℕ
-verdict_word Working = codes "working"
-verdict_word Finished = codes "finished"
-verdict_word (Conflict Attributes) = codes "conflict attributes"
-verdict_word (Conflict State) = codes "conflict state"
-verdict_word (Conflict TwoObjects) = codes "conflict two-objects"
 
 -- an identifier in plain characters, so that a server's own words forge no line; a hyphen where none is known
 abbrev pub identifier_text : Option (List ℕ) → List ℕ
@@ -35,15 +26,6 @@ report_lines [] counts verdicts = []
 report_lines (key ∷ keys) [] verdicts = []
 report_lines (key ∷ keys) (done ∷ counts) [] = []
 report_lines (key ∷ keys) (done ∷ counts) (verdict ∷ verdicts) = report_line key done verdict ++ report_lines keys counts verdicts
-
--- the verdict is that the key is finished
-abbrev pub is_finished : Verdict → Bool
-is_finished Finished = true
-is_finished verdict = false
-
--- how many of the verdicts are that a key is finished
-abbrev pub finished_count : List Verdict → ℕ
-finished_count verdicts = length (filter is_finished verdicts)
 
 -- the last line: how many keys are finished, and how many there are
 abbrev pub sum_line : List Key → List Verdict → List ℕ

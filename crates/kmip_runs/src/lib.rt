@@ -98,7 +98,7 @@ pub use observer::Observer;
 pub use pace::{Pace, next_wait, wait_within};
 pub use patience::Patience;
 pub use prolonging::campaigns;
-pub use reporting::{finished_count, identifier_text, report, sum_line, verdict_word};
+pub use reporting::{identifier_text, report, sum_line};
 pub use run::Run;
 pub use run_end::RunEnd;
 pub use save_fault::SaveFault;

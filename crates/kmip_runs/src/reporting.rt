@@ -2,17 +2,14 @@
 ghost use Rattle.std.specs.Prelude.{◌≡◌, ◌++◌, IfOk, OnOk, string_bytes};
 ghost use Rattle.kmip_client.specs.Verdicts.{counts_of, verdicts_of};
 ghost use Rattle.kmip_runs.specs.Reporting.{
-  verdict_word,
   identifier_text,
   report_line,
   report_lines,
-  is_finished,
-  finished_count,
   sum_line,
   report_text,
 };
 
-use kmip_client::{Clash, Client, Verdict};
+use kmip_client::{Client, Verdict, finished_count};
 use kmip_plan::{Key, chain_length};
 use kmip_ttlv::{NoMemory, Text, plain_text};
 use std::alloc::Global;
@@ -86,22 +83,9 @@ fn report_line(alloc: Global, key: &Key, done: usize, verdict: Verdict) -> Resul
     let name = key.attrs.name.as_str();
     let target = key.target.word();
     let steps = chain_length(key);
-    let word = verdict_word(verdict);
+    let word = verdict.word();
     let line = format!(in alloc; "{name} {target} {done}/{steps} {word}\n")?;
     Ok(line)
-}
-
-/// How a verdict is printed. Takes no memory.
-pub fn verdict_word(verdict: Verdict) -> &'static str
-    ensures { result.now ≡ verdict_word verdict }
-{
-    match verdict {
-        Verdict::Working => "working",
-        Verdict::Finished => "finished",
-        Verdict::Conflict(Clash::Attributes) => "conflict attributes",
-        Verdict::Conflict(Clash::State) => "conflict state",
-        Verdict::Conflict(Clash::TwoObjects) => "conflict two-objects",
-    }
 }
 
 /// An identifier in plain characters, and a hyphen where none is known.
@@ -132,23 +116,4 @@ pub fn sum_line(alloc: Global, keys: &[Key], verdicts: &[Verdict]) -> Result<Str
     let count = keys.len();
     let line = format!(in alloc; "finished {finished} of {count}\n")?;
     Ok(line)
-}
-
-/// How many of the verdicts are that a key is finished. Takes no memory.
-pub fn finished_count(verdicts: &[Verdict]) -> usize
-    ensures { result ≡ finished_count verdicts.now }
-{
-    verdicts
-        .iter()
-        .filter(|verdict| is_finished(**verdict))
-        .count()
-}
-
-fn is_finished(verdict: Verdict) -> bool
-    ensures { result ≡ is_finished verdict }
-{
-    match verdict {
-        Verdict::Finished => true,
-        Verdict::Working | Verdict::Conflict(_) => false,
-    }
 }

@@ -3,12 +3,11 @@
 //! Nothing is written here: each name is shown from the crate in which it is made, with its contract.
 #![tactic(auto)]
 
-pub use kmip_client::Client;
+pub use kmip_client::{Client, finished_count};
 pub use kmip_progress::{Progress, ProgressFault, suits};
 pub use kmip_protocol::{Link, LinkFault};
 pub use kmip_runs::{
-    CampaignEnd, Run, RunEnd, Start, Stop, campaign, campaigns, close_run, drive, finished_count,
-    report,
+    CampaignEnd, Run, RunEnd, Start, Stop, campaign, campaigns, close_run, drive, report,
 };
 pub use kmip_scripted::{Script, ScriptFault, Scripted, Word, read_script};
 pub use kmip_transport::{

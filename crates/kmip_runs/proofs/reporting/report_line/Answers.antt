@@ -6,4 +6,4 @@ use Rattle.kmip_runs.proofs.reporting.report_line.Goals as goal
 pub returns : goal.returns
 returns c =
     c.in_ok-line.ensures.ok
-    ∙ line_is c.args.key.now c.args.done _ c.args.verdict _ _ _ c.as_str-name.ensures c.word-target.ensures c.chain_length-steps.ensures.steps c.verdict_word-word.ensures
+    ∙ line_is c.args.key.now c.args.done _ c.args.verdict _ _ _ c.as_str-name.ensures c.word-target.ensures c.chain_length-steps.ensures.steps c.word-word.ensures
