@@ -4,9 +4,10 @@
     tools/layers.py            writes docs/layers.svg, and the made part of docs/ARCHITECTURE.md
     tools/layers.py --check    says whether both are up to date; the exit status is 1 where one is not
 
-Run it at the top of the repository. LAYERS says which crates make a layer. How high a layer is drawn, and a
-crate within it, comes from crates.txt: above all that it stands on. A crate has a check mark where a function
-of its src/ has a clause `ensures`. Its line is the first sentence that its lib.rt (or main.rt) begins with.
+Run it at the top of the repository. crates.txt says which crates make a layer: a line `## TITLE: what it has`
+begins one, and the last one is the tests. Each layer is drawn above all that it stands on, and so is a crate within
+it. A crate has a check mark if a function of its src/ has a clause `ensures`. Its line is the first sentence of
+its lib.rt (or main.rt).
 """
 import pathlib
 import re
@@ -18,27 +19,9 @@ sys.dont_write_bytecode = True
 from items import says_of
 from sources import CRATES
 
+LIST = pathlib.Path('crates.txt')
 PAGE, PICTURE = pathlib.Path('docs/ARCHITECTURE.md'), pathlib.Path('docs/layers.svg')
 BEGIN, END = '<!-- made by tools/layers.py -->\n', '<!-- end of what is made -->\n'
-
-# Each layer: a short name, its title, what it has, and its crates.
-LAYERS = [
-    ('wire', 'Wire', 'bytes, objects and messages',
-     'kmip_ttlv kmip_objects kmip_batch_items kmip_messages kmip_frames'),
-    ('client', 'Plan and client', 'what is to be, and what is asked', 'kmip_plan kmip_progress kmip_client'),
-    ('server', 'Server', 'the test server', 'kmip_store kmip_server'),
-    ('between', 'Between them', 'what may happen, links, runs and campaigns',
-     'kmip_disk kmip_protocol kmip_runs kmip_company kmip_look kmip_scripted kmip_transport kmip_session kmip_tally'),
-    ('commands', 'Commands', 'what each prints, over any reader, writer and link',
-     'kmip_report kmip_trace kmip_message_commands kmip_choices kmip_simulation kmip_plan_commands kmip_probe '
-     'kmip_probe_command kmip_look_command kmip_refresh kmip_json'),
-    ('program', 'Program', 'over the sockets, files and streams of the machine',
-     'kmip_files kmip_explaining kmip_trouble kmip_account kmip_run_files kmip_command_line kmip_network '
-     'kmip_program kmipctl'),
-]
-TESTS = ('tests', 'Tests', 'no part of the program',
-         'test_support rows_links rows_kmipctl rows_client rows_campaign test_memory test_items test_server '
-         'test_transport test_files test_disk test_crash test_company test_account test_json')
 
 # Sizes of the picture.
 BOX, GAP, MARGIN, HEAD, TESTS_BOX = (200, 28), 9, 14, 34, 226
@@ -68,10 +51,10 @@ STYLE = '''
 class Layer:
     """A layer: its crates in the order of crates.txt, and the layers that these stand on."""
 
-    def __init__(self, parts, crates):
-        self.name, self.title, self.says, names = parts
-        self.named = names.split()
-        self.crates = [crate for crate in crates if crate in self.named]
+    def __init__(self, title, says):
+        self.name = title.split()[0].lower()
+        self.title, self.says = title, says
+        self.crates = []
         self.below = set()
 
     def rows(self, crates):
@@ -84,8 +67,7 @@ class Picture:
 
     def __init__(self):
         self.crates = crates_below()
-        self.layers = [Layer(parts, self.crates) for parts in LAYERS]
-        self.tests = Layer(TESTS, self.crates)
+        *self.layers, self.tests = layers_listed()
         self.proved = {crate for crate in self.crates if has_contract(crate)}
         of = {crate: layer for layer in self.all() for crate in layer.crates}
         for layer in self.all():
@@ -103,13 +85,10 @@ class Picture:
 
     def faults(self):
         """Why the crates have no such picture."""
-        named = [crate for layer in self.all() for crate in layer.named]
+        listed = [crate for layer in self.all() for crate in layer.crates]
         for crate in self.crates:
-            if named.count(crate) != 1:
-                yield f'{crate} is in {named.count(crate)} layers: LAYERS of tools/layers.py'
-        for crate in named:
-            if crate not in self.crates:
-                yield f'{crate} is in a layer and not in crates.txt: LAYERS of tools/layers.py'
+            if listed.count(crate) != 1:
+                yield f'{crate} is in {listed.count(crate)} layers of {LIST}'
         reached = {layer.name: self.reached(layer.name) for layer in self.all()}
         for layer in self.all():
             if layer.name in reached[layer.name]:
@@ -136,10 +115,22 @@ class Picture:
                     yield layer, other
 
 
+def layers_listed():
+    """The layers of crates.txt, in its order."""
+    found = []
+    for line in LIST.read_text().splitlines():
+        if line.startswith('## '):
+            title, _, says = line[3:].partition(': ')
+            found.append(Layer(title, says))
+        elif ':' in line and not line.startswith('#') and found:
+            found[-1].crates.append(line.partition(':')[0].strip())
+    return found
+
+
 def crates_below():
     """Each crate of crates.txt with those of the repository that it stands on."""
     found = {}
-    for line in pathlib.Path('crates.txt').read_text().splitlines():
+    for line in LIST.read_text().splitlines():
         if ':' in line and not line.startswith('#'):
             crate, _, below = line.partition(':')
             found[crate.strip()] = below.split()

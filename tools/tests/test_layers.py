@@ -10,7 +10,8 @@ import layers
 
 PAGE = f'Before.\n\n{layers.BEGIN}old\n{layers.END}After.\n'
 MORE = {
-    'crates.txt': '# A crate, and the crates that it stands on.\nlow: hex\nhigh: low\nbeside: low\ntry: high\n',
+    'crates.txt': '# The crates.\n\n## Base: what carries\nlow: hex\n\n## Top: what calls\nhigh: low\nbeside: low\n'
+                  '## Tests: apart\ntry: high\n',
     'crates/beside/src/main.rt': '//! Beside: it ensures nothing. And more.\nfn main() {} // ensures\n',
     'crates/try/src/lib.rt': '//! Tries 2.1 | all\n',
 }
@@ -20,13 +21,10 @@ class Layers(Scratch):
     def setUp(self):
         super().setUp()
         self.write(CRATES | MORE | {'docs/ARCHITECTURE.md': PAGE})
-        self.set('LAYERS', [('base', 'Base', 'what carries', 'low'), ('top', 'Top', 'what calls', 'high beside')])
-        self.set('TESTS', ('tests', 'Tests', 'apart', 'try'))
 
-    def set(self, name, value):
-        was = getattr(layers, name)
-        setattr(layers, name, value)
-        self.addCleanup(setattr, layers, name, was)
+    def list(self, *lines):
+        """Writes these lines as crates.txt."""
+        self.write({'crates.txt': '\n'.join(lines) + '\n'})
 
     def faults(self):
         return list(layers.Picture().faults())
@@ -49,7 +47,7 @@ class Layers(Scratch):
             f'| Tests | [try](../crates/try/src/lib.rt) | Tries 2.1 \\| all |  |\n{layers.END}After.\n'))
 
     def test_a_crate_is_drawn_above_those_that_it_stands_on(self):
-        self.set('LAYERS', [('all', 'All', 'in one', 'beside high low')])
+        self.list('## All: in one', 'low:', 'high: low', 'beside: low', '## Tests: apart', 'try: high')
         found = re.findall(r'y="([\d.]+)" class="name"[^>]*>(\w+)<', layers.svg(layers.Picture()))
         height = {name: float(y) for y, name in found}
         self.assertEqual(height['high'], height['beside'])
@@ -60,25 +58,22 @@ class Layers(Scratch):
         self.assertEqual(layers.svg(layers.Picture()).count('class="mark"'), 3)
 
     def test_layers_side_by_side(self):
-        self.set('LAYERS', layers.LAYERS[:1] + [('a', 'A', '', 'high'), ('b', 'B', '', 'beside')])
+        self.list('## Base: it', 'low:', '## A: a', 'high: low', '## B: b', 'beside: low', '## Tests: apart', 'try: high')
         self.assertEqual([[layer.name for layer in level] for level in layers.Picture().levels()], [['base'], ['a', 'b']])
 
-    def test_crates_and_layers_that_do_not_fit(self):
-        self.set('LAYERS', [('base', 'Base', '', 'low gone'), ('top', 'Top', '', 'high low')])
-        self.assertEqual(self.faults(), [
-            'low is in 2 layers: LAYERS of tools/layers.py', 'beside is in 0 layers: LAYERS of tools/layers.py',
-            'gone is in a layer and not in crates.txt: LAYERS of tools/layers.py'])
+    def test_a_crate_in_no_layer(self):
+        self.list('low:', '## Top: it', 'high: low', 'beside: low', '## Tests: apart', 'try: high')
+        self.assertEqual(self.faults(), ['low is in 0 layers of crates.txt'])
         self.assertEqual(printed(layers.main, [])[0], 1)
-        self.assertEqual(printed(layers.check_layers)[0], 3)
+        self.assertEqual(printed(layers.check_layers)[0], 1)
 
     def test_layers_that_stand_on_each_other(self):
-        self.write({'crates.txt': 'low:\nhigh: low\nbeside: high\ntry: low\n'})
-        self.set('LAYERS', [('base', 'Base', '', 'low beside'), ('top', 'Top', '', 'high')])
+        self.list('## Base: it', 'low:', 'beside: high', '## Top: it', 'high: low', '## Tests: apart', 'try: low')
         self.assertEqual(self.faults(), [
             'the layer Base stands on one that stands on it', 'the layer Top stands on one that stands on it'])
 
     def test_what_stands_on_tests(self):
-        self.write({'crates.txt': 'low:\ntry: low\nhigh: low try\nbeside: low\n'})
+        self.list('## Base: it', 'low:', '## Top: it', 'high: low try', 'beside: low', '## Tests: apart', 'try: low')
         self.assertEqual(self.faults(), ['the layer Top stands on tests'])
 
     def test_no_page_is_no_fault(self):

@@ -1,3 +1,2 @@
-mod StepLemmas
 mod LookLemmas
 mod ProbeLemmas

@@ -1,22 +1,16 @@
--- What stands in the way of a run, and its word.
+-- What stands in the way of a run.
 -- Source: own (text): what the program prints.
-use Rattle.std.specs.Prelude.{ℕ, nat_lt, Bool, true, false, List, codes, Option, Some, None, if◌then◌else◌}
+use Rattle.std.specs.Prelude.{nat_lt, Bool, true, false, List, Option, Some, None, if◌then◌else◌}
 use Rattle.std.specs.List.{list_any}
 use Rattle.kmip_client.specs.declared.verdict.Verdict.{Verdict}
 use Rattle.kmip_client.specs.declared.verdict.Verdict.TheVariants as verdicts
 use Rattle.kmip_runs.specs.Stops.{is_all_finished}
 use Rattle.kmip_runs.specs.declared.stop.Stop.{Stop}
-use Rattle.kmip_json.specs.declared.cause.Cause.{Cause}
-use Rattle.kmip_json.specs.declared.cause.Cause.TheVariants.{Unreachable, Refused, Conflict}
+use Rattle.kmip_report.specs.declared.cause.Cause.{Cause}
+use Rattle.kmip_report.specs.declared.cause.Cause.TheVariants.{Unreachable, Refused, Conflict}
 use Rattle.kmip_plan_commands.specs.declared.run_tally.RunTally.{RunTally}
 use Rattle.kmip_plan_commands.specs.declared.unanswered.Unanswered.{Unanswered}
 use Rattle.kmip_plan_commands.specs.declared.unanswered.Unanswered.TheVariants as unanswered
-
--- The word for a cause.
-abbrev pub cause_word : Cause → List ℕ
-cause_word Unreachable = codes "unreachable"
-cause_word Refused = codes "refused"
-cause_word Conflict = codes "conflict"
 
 -- The verdict is that a key is in conflict.
 abbrev pub is_conflict : Verdict → Bool

@@ -15,13 +15,13 @@ use Rattle.kmip_client.specs.declared.phase.Phase.{Phase}
 use Rattle.kmip_client.specs.declared.phase.Phase.TheVariants as phases
 use Rattle.kmip_client.specs.declared.verdict.Verdict.{Verdict}
 use Rattle.kmip_client.specs.declared.verdict.Verdict.TheVariants.{Working, Finished, Conflict}
-use Rattle.kmip_runs.specs.Reporting.{verdict_word}
+use Rattle.kmip_client.specs.Verdicts.{verdict_word}
 use Rattle.kmip_look.specs.declared.looked.Looked.{Looked}
 use Rattle.kmip_look.specs.declared.shown.Shown.{Shown}
 use Rattle.kmip_look.specs.declared.why.Why.{Why}
 use Rattle.kmip_look_command.specs.LookText.{named_algorithm, named_state, verdict_on, verdicts_on, why_text}
 use Rattle.kmip_trace.specs.Names.{state_of}
-use Rattle.kmip_plan_commands.specs.Listing.{finished_line}
+use Rattle.kmip_plan_report.specs.Listing.{finished_line}
 use Rattle.kmip_report.specs.declared.form.Form.TheVariants as forms
 use Rattle.kmip_report.specs.Pieces.{line_in}
 use Rattle.kmip_report.specs.Documents.{count_or_null, document, members, text_or_null, words_of}

@@ -6,17 +6,17 @@ use Rattle.kmip_plan.specs.declared.key.Key.{Key}
 use Rattle.kmip_progress.specs.declared.known.Known.{Known}
 use Rattle.kmip_client.specs.Clients.{ClientState}
 use Rattle.kmip_client.specs.Saving.{progress}
-use Rattle.kmip_client.specs.Verdicts.{verdicts_of}
+use Rattle.kmip_client.specs.Verdicts.{finished_count, verdicts_of}
 use Rattle.kmip_client.specs.declared.verdict.Verdict.{Verdict}
-use Rattle.kmip_runs.specs.Reporting.{finished_count}
 use Rattle.kmip_runs.specs.Stops.{stop_name}
 use Rattle.kmip_runs.specs.declared.stop.Stop.{Stop}
-use Rattle.kmip_json.specs.Causes.{cause_of, cause_word}
+use Rattle.kmip_json.specs.Causes.{cause_of}
+use Rattle.kmip_report.specs.FaultLines.{cause_word}
 use Rattle.kmip_report.specs.declared.form.Form.TheVariants as forms
 use Rattle.kmip_report.specs.Pieces.{line_in, noted}
 use Rattle.kmip_report.specs.Documents.{count, document, members, text_or_null}
-use Rattle.kmip_plan_commands.specs.Listing.{key_line}
-use Rattle.kmip_plan_commands.specs.Standings.{Standing, standings}
+use Rattle.kmip_plan_report.specs.Listing.{key_line}
+use Rattle.kmip_plan_report.specs.Standings.{Standing, standings}
 use Rattle.kmip_plan_commands.specs.declared.run_tally.RunTally.{RunTally}
 
 -- The line of a key that stands so: what `list` says of it, and how many of its steps this run made.

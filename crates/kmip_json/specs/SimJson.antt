@@ -15,7 +15,9 @@ use Rattle.kmip_simulation.specs.declared.simulation.Simulation.{Simulation}
 use Rattle.kmip_plan_commands.specs.declared.sim_end.SimEnd.{SimEnd}
 use Rattle.kmip_plan_commands.specs.declared.sim_end.SimEnd.TheVariants.{PlanRefused, ProlongsNot, ScriptRefused, CrashRefused, Ran}
 use Rattle.kmip_report.specs.Documents.{count, document, members, words_of}
-use Rattle.kmip_json.specs.FaultJson.{plan_fault_line}
+use Rattle.kmip_plan_report.specs.Refusals.{plan_refusal}
+use Rattle.kmip_report.specs.Pieces.{line_in}
+use Rattle.kmip_report.specs.declared.form.Form.TheVariants as forms
 
 -- ---- the runs
 
@@ -89,7 +91,7 @@ crash_fault_line number = document (members (
 
 -- What `sim` says of the end of a simulation: why a plan or the script is refused, or the simulation.
 abbrev pub sim_end_lines : SimEnd → List ℕ
-sim_end_lines (PlanRefused fault) = plan_fault_line fault None
+sim_end_lines (PlanRefused fault) = line_in forms.Json (plan_refusal fault None)
 sim_end_lines ProlongsNot = prolongs_not_line
 sim_end_lines (ScriptRefused line) = script_fault_line line
 sim_end_lines (CrashRefused number) = crash_fault_line number

@@ -5,24 +5,13 @@
 //! escapes what would break a line.
 #![tactic(auto)]
 
-mod cause;
-mod checking;
-mod fault;
-mod faults;
 mod json_lines;
-pub mod laws;
 mod looking;
 mod optional;
 mod probing;
 mod running;
 mod simulating;
 
-pub use cause::Cause;
-pub use checking::{push_check, push_prolongs};
-pub use fault::Fault;
-pub use faults::{
-    NO_MEMORY_LINE, push_contradiction, push_fault, push_plan_fault, push_progress_fault,
-};
 pub use json_lines::JsonLines;
 pub use looking::push_look;
 pub use running::push_run;

@@ -18,15 +18,13 @@ ghost use Rattle.kmip_json.specs.LookJson.{
   why_untold,
 };
 
-use crate::checking::step_words;
 use crate::optional::{number_in, text_in};
-use kmip_client::{Knowledge, Phase, Verdict};
+use kmip_client::{Knowledge, Phase, Verdict, finished_count};
 use kmip_look::{Looked, Shown, Why};
 use kmip_look_command::{named_algorithm, named_state, verdicts_on, why_text};
 use kmip_plan::Key;
-use kmip_plan_commands::push_finished;
+use kmip_plan_report::{push_finished, step_words};
 use kmip_report::{Form, Member, push_document};
-use kmip_runs::{finished_count, verdict_word};
 use kmip_ttlv::NoMemory;
 use std::alloc::Global;
 
@@ -129,7 +127,7 @@ fn push_line<'a>(
         Member::text("target", key.target.word()),
         Member::text_or_null("identifier", identifier_of(&looked.known)),
         Member::text_or_null("state", text_in(&words.state)),
-        Member::text("verdict", verdict_word(looked.known.verdict(key))),
+        Member::text("verdict", looked.known.verdict(key).word()),
         Member::words("to_do", to_do),
         Member::count_or_null("type", number_in(told.object_type)),
         Member::text_or_null("algorithm", text_in(&words.algorithm)),

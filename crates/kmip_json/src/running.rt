@@ -1,17 +1,17 @@
 //! What `run` says of a run that ended.
 ghost use Rattle.std.specs.Prelude.{◌≡◌, ◌++◌, ◌-◌, ◌^◌, OnOk, drop, map, min, slice_index, sum};
 ghost use Rattle.std.specs.List.{list_any};
-ghost use Rattle.kmip_plan_commands.specs.Standings.{standing_of};
+ghost use Rattle.kmip_plan_report.specs.Standings.{standing_of};
 ghost use Rattle.kmip_json.specs.Causes.{cause_of, is_conflict, look_cause};
 ghost use Rattle.kmip_json.specs.RunJson.{end_line, run_line, run_key_lines, run_lines, run_lines_by, all_steps};
 
-use crate::cause::{Cause, word_of_cause};
-use kmip_client::{Client, Verdict};
+use kmip_client::{Client, Verdict, finished_count};
 use kmip_plan::Key;
-use kmip_plan_commands::{KeyStanding, RunTally, Unanswered, pieces_of_key, standings};
+use kmip_plan_commands::{RunTally, Unanswered};
+use kmip_plan_report::{KeyStanding, pieces_of_key, standings};
 use kmip_progress::Known;
-use kmip_report::{Form, Member, Piece, push_document, push_line};
-use kmip_runs::{Stop, finished_count};
+use kmip_report::{Cause, Form, Member, Piece, push_document, push_line, word_of_cause};
+use kmip_runs::Stop;
 use kmip_ttlv::NoMemory;
 use std::alloc::Global;
 

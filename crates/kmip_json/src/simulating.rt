@@ -12,11 +12,10 @@ ghost use Rattle.kmip_json.specs.SimJson.{
   sim_run_line,
 };
 
-use crate::fault::Fault;
-use crate::faults::{push_fault, push_plan_fault};
 use kmip_batch_items::Request;
 use kmip_plan_commands::SimEnd;
-use kmip_report::{Member, push_document};
+use kmip_plan_report::push_plan_refusal;
+use kmip_report::{Fault, Form, Member, push_document, push_fault};
 use kmip_runs::RunEnd;
 use kmip_simulation::{SimForm, push_simulation};
 use kmip_store::Row;
@@ -41,7 +40,7 @@ pub fn push_sim_end(alloc: Global, end: &SimEnd, text: &mut Vec<u8>) -> Result<(
     ensures { OnOk result (text.new.items ≡ text.old.items ++ sim_end_lines end.now) }
 {
     match end {
-        SimEnd::PlanRefused(fault) => push_plan_fault(alloc, fault, None, text),
+        SimEnd::PlanRefused(fault) => push_plan_refusal(alloc, Form::Json, fault, None, text),
         SimEnd::ProlongsNot => push_prolongs_not(alloc, text),
         SimEnd::ScriptRefused(line) => push_script_fault(alloc, *line, text),
         SimEnd::CrashRefused(number) => push_crash_fault(alloc, *number, text),

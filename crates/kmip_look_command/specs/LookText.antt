@@ -20,7 +20,8 @@ use Rattle.kmip_client.specs.declared.phase.Phase.{Phase}
 use Rattle.kmip_client.specs.declared.phase.Phase.TheVariants as phases
 use Rattle.kmip_client.specs.declared.verdict.Verdict.{Verdict}
 use Rattle.kmip_client.specs.declared.verdict.Verdict.TheVariants.{Working, Finished, Conflict}
-use Rattle.kmip_runs.specs.Reporting.{finished_count, identifier_text, sum_line}
+use Rattle.kmip_client.specs.Verdicts.{finished_count}
+use Rattle.kmip_runs.specs.Reporting.{identifier_text, sum_line}
 use Rattle.kmip_look.specs.declared.looked.Looked.{Looked}
 use Rattle.kmip_look.specs.declared.shown.Shown.{Shown}
 use Rattle.kmip_look.specs.declared.why.Why.{Why}

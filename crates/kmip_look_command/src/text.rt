@@ -3,10 +3,10 @@ ghost use Rattle.std.specs.Prelude.{◌≡◌, ◌++◌, IfOk, OnOk, not};
 ghost use Rattle.kmip_look_command.specs.LookText.{are_all_finished, look_lines, look_text, verdicts_on};
 
 use crate::line::push_line;
-use kmip_client::Verdict;
+use kmip_client::{Verdict, finished_count};
 use kmip_look::Looked;
 use kmip_plan::Key;
-use kmip_runs::{finished_count, sum_line};
+use kmip_runs::sum_line;
 use kmip_ttlv::NoMemory;
 use std::alloc::Global;
 

@@ -3,8 +3,10 @@ ghost use Rattle.std.specs.Prelude.{◌≡◌, IfOk};
 ghost use Rattle.kmip_plan_commands.specs.RunText.{is_end_refused};
 
 use kmip_account::RunObserver;
-use kmip_json::{push_progress_fault, push_run};
+use kmip_json::push_run;
 use kmip_plan_commands::{RunEnd, Unanswered};
+use kmip_plan_report::push_progress_refusal;
+use kmip_report::Form;
 use kmip_trouble::{Cannot, push_told};
 use kmip_ttlv::NoMemory;
 use std::alloc::Global;
@@ -30,7 +32,7 @@ pub(crate) fn push_end(
     ensures { IfOk result (λ r. r ≡ is_end_refused end.now) }
 {
     match end {
-        RunEnd::Refused(fault) => push_progress_fault(alloc, *fault, text)?,
+        RunEnd::Refused(fault) => push_progress_refusal(alloc, Form::Json, *fault, text)?,
         RunEnd::Unwritten => push_unwritten(alloc, path, failure, text)?,
         RunEnd::Stopped { client, stop, .. } => {
             let mut tally = observer.tally(client)?;

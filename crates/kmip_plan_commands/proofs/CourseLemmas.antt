@@ -29,7 +29,6 @@ use Rattle.kmip_runs.specs.declared.save_fault.SaveFault.TheVariants as faults
 use Rattle.kmip_runs.specs.CarriesOut.{CarriesOut, Stage}
 use Rattle.kmip_plan_commands.specs.Course.{AsksFew, Came, IsGoodStart, IsTrueText, IsWholeFile, KeepsSafe, LeavesTrue, RunState, begun_client, run_state}
 use Rattle.kmip_plan_commands.specs.Runs.{RunsOver}
-use Rattle.kmip_plan_commands.specs.Checking.{is_memory, plan_refusal_text}
 use Rattle.kmip_plan_commands.specs.PrivateRuns.{EndsExchanges}
 use Rattle.kmip_plan_commands.specs.RunEnds.{EndsFrom, EndsRun, Outcome}
 use Rattle.kmip_plan_commands.specs.RunText.{WritesEnd, is_end_refused, run_end_text}

@@ -1,4 +1,3 @@
-mod CheckingLemmas
 pub mod CourseLemmas
 pub mod ProgressLineLemmas
 mod SimulatingLemmas

@@ -1,7 +1,3 @@
--- What `check` writes.
-
--- what is written for a plan, alone or after an earlier one
-pub mod Checking
 -- What the definitions of this crate are for: what the command `sim` writes, and how it ends.
 
 -- how a simulation ended, for a plan, a further one and a script
@@ -16,8 +12,6 @@ pub mod Simulating
 pub mod RunEnds
 -- what is written of the end of a run
 pub mod RunText
--- what is written of a progress that is refused
-pub mod ProgressRefusals
 -- what came of the exchanges, and what stays safe over an honest link
 pub mod Course
 -- what a run promises
@@ -26,10 +20,6 @@ pub mod Runs
 pub mod Laws
 -- the line that says how far a run is
 pub mod ProgressLineText
--- how the keys of a plan stand, by what is known of them and the verdicts on them
-pub mod Standings
--- what `list` writes for a plan and a progress
-pub mod Listing
 -- private: what the parts of a run promise
 pub mod PrivateRuns
 -- private: what only the clauses of private functions cite

@@ -4,12 +4,12 @@ ghost use Rattle.kmip_client.specs.Verdicts.{counts_of, verdicts_of};
 ghost use Rattle.kmip_runs.specs.Reporting.{report_text};
 ghost use Rattle.kmip_plan_commands.specs.RunText.{reported_text, run_end_text};
 
-use crate::listing::push_client_listing;
 use crate::run_end::RunEnd;
-use crate::telling::{push_progress_refusal, push_stop, push_unwritten};
+use crate::telling::{push_stop, push_unwritten};
 use kmip_choices::Report;
 use kmip_client::Client;
 use kmip_message_commands::push_text;
+use kmip_plan_report::{push_client_listing, push_progress_refusal};
 use kmip_report::Form;
 use kmip_ttlv::NoMemory;
 use std::alloc::Global;

@@ -3,7 +3,7 @@ ghost use Rattle.std.specs.Prelude.{◌≡◌, ◌<◌, false, None, Ok, Some, I
 ghost use Rattle.kmip_messages.specs.Members.{may_have};
 ghost use Rattle.kmip_plan.specs.Reading.{plan_read};
 ghost use Rattle.kmip_scripted.specs.Words.{crashes, prolongings};
-ghost use Rattle.kmip_plan_commands.specs.Checking.{is_memory};
+ghost use Rattle.kmip_plan_report.specs.Refusals.{is_memory};
 ghost use Rattle.kmip_plan_commands.specs.Private.{GivesWords, Plays};
 ghost use Rattle.kmip_plan_commands.specs.SimEnds.{EndsPlan, EndsPlans, EndsSim};
 ghost use Rattle.kmip_plan_commands.specs.declared.sim_end.SimEnd.TheVariants.{PlanRefused};

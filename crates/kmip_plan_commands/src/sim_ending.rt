@@ -4,10 +4,11 @@ ghost use Rattle.kmip_simulation.specs.SimText.{sim_text};
 ghost use Rattle.kmip_simulation.specs.Tracing.{trace_text};
 ghost use Rattle.kmip_plan_commands.specs.SimEndText.{crash_refusal_text, prolongs_not_text, script_refusal_text, sim_end_text, simulation_text};
 
-use crate::push_refusal;
 use crate::sim_end::SimEnd;
 use kmip_choices::Detail;
 use kmip_message_commands::push_text;
+use kmip_plan_report::push_plan_refusal;
+use kmip_report::Form;
 use kmip_simulation::{SimLines, Simulation, push_diagram, push_simulation, push_trace};
 use kmip_ttlv::NoMemory;
 use std::alloc::Global;
@@ -32,7 +33,7 @@ pub fn push_sim_end(
     ensures { OnOk result (text.new.items ≡ text.old.items ++ sim_end_text detail end.now) }
 {
     match end {
-        SimEnd::PlanRefused(fault) => push_refusal(alloc, fault, text),
+        SimEnd::PlanRefused(fault) => push_plan_refusal(alloc, Form::Text, fault, None, text),
         SimEnd::ProlongsNot => push_text(PROLONGS_NOT.as_bytes(), text),
         SimEnd::ScriptRefused(line) => push_script_refusal(alloc, *line, text),
         SimEnd::CrashRefused(number) => push_crash_refusal(alloc, *number, text),

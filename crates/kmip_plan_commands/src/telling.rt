@@ -1,37 +1,11 @@
 //! The lines that a run ends with.
 ghost use Rattle.std.specs.Prelude.{◌≡◌, ◌++◌, OnOk, IfOk, string_bytes};
-ghost use Rattle.kmip_report.specs.Pieces.{line_in};
-ghost use Rattle.kmip_plan_commands.specs.ProgressRefusals.{progress_refusal};
 ghost use Rattle.kmip_plan_commands.specs.RunText.{stop_line, unwritten_text};
 
 use kmip_message_commands::push_text;
-use kmip_progress::ProgressFault;
-use kmip_report::{Form, Piece, push_line};
 use kmip_runs::Stop;
 use kmip_ttlv::NoMemory;
 use std::alloc::Global;
-
-/// Appends the line of a progress that is refused.
-///
-/// # Errors
-/// If memory runs out. A part may have been appended then.
-pub fn push_progress_refusal(
-    alloc: Global,
-    form: Form,
-    fault: ProgressFault,
-    text: &mut Vec<u8>,
-) -> Result<(), NoMemory>
-    // What is appended is exactly that line.
-    ensures { OnOk result (text.new.items
-        ≡ text.old.items ++ line_in form (progress_refusal fault)) }
-{
-    let pieces = [
-        Piece::word("", "fault", "progress refused"),
-        Piece::number(": ", "number", u64::from(fault.number())),
-        Piece::word(" ", "name", fault.name()),
-    ];
-    push_line(alloc, form, &pieces, text)
-}
 
 /// Appends the line of a progress that could not be written.
 pub(crate) fn push_unwritten(alloc: Global, path: &str, text: &mut Vec<u8>) -> Result<(), NoMemory>

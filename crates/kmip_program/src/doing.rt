@@ -1,6 +1,5 @@
 //! The commands, over standard input, files and standard output.
 
-use crate::checking::{push_checked, push_checked_after};
 use crate::plan_schema::PLAN_SCHEMA;
 use crate::simulating::simulate_in_json;
 use kmip_choices::{Choice, Detail, Format, Shell};
@@ -8,14 +7,13 @@ use kmip_command_line::completions;
 use kmip_explaining::{tell_prolonging, tell_refusal, warn_of_usages};
 use kmip_message_commands::{ExitStatus, Form, run_answer, run_answer_stream, run_show};
 use kmip_network::{look_at_server, probe_server, run_plan, serve};
-use kmip_plan_commands::{
-    SimInput, batch_of, check_after_bytes, run_check, run_check_after, run_sim,
-};
+use kmip_plan::{Plan, PlanFault, prolongs, read_plan};
+use kmip_plan_commands::{SimInput, batch_of, run_sim};
+use kmip_plan_report::{run_check, run_check_after};
 use kmip_run_files::{PlanFile, list_progress, plan_at, plan_text_at, text_at};
-use kmip_trouble::{
-    Trouble, plan_name, print_documents, standard_input, standard_output, tell_of_terminal,
-};
+use kmip_trouble::{Trouble, plan_name, standard_input, standard_output, tell_of_terminal};
 use kmip_ttlv::NoMemory;
+use std::alloc::Global;
 use std::io;
 use std::io::{BufReader, BufWriter};
 
@@ -102,17 +100,8 @@ fn show_input(rt: &HostRuntime, form: Form) -> Result<ExitStatus, Trouble> {
 /// The command `check` from a file or standard input to standard output.
 fn check_plan(rt: &HostRuntime, path: &str, format: Format) -> Result<ExitStatus, Trouble> {
     let plan = plan_text_at(rt, path)?;
-    let status = match format {
-        Format::Text => {
-            let mut writer = BufWriter::new(rt.alloc(), standard_output(rt))?;
-            run_check(rt.alloc(), plan.as_str(), &mut writer)
-        }
-        Format::Json => {
-            let mut documents = Vec::new(rt.alloc());
-            let made = push_checked(rt.alloc(), plan.as_str(), &mut documents);
-            print_documents(rt, made, documents.as_slice())
-        }
-    };
+    let mut output = standard_output(rt);
+    let status = run_check(rt.alloc(), format.form(), plan.as_str(), &mut output);
     match status {
         ExitStatus::Refused => tell_refusal(rt, plan_name(path), plan.as_str()),
         ExitStatus::Done => warn_of_usages(rt, plan_name(path), plan.as_str())?,
@@ -130,17 +119,14 @@ fn check_plan_after(
 ) -> Result<ExitStatus, Trouble> {
     let PlanFile { text, plan } = plan_at(rt, path)?;
     let earlier = plan_text_at(rt, earlier_path)?;
-    let status = match format {
-        Format::Text => {
-            let mut writer = BufWriter::new(rt.alloc(), standard_output(rt))?;
-            run_check_after(rt.alloc(), text.as_str(), earlier.as_str(), &mut writer)
-        }
-        Format::Json => {
-            let mut documents = Vec::new(rt.alloc());
-            let made = push_checked_after(rt.alloc(), &plan, earlier.as_str(), &mut documents);
-            print_documents(rt, made, documents.as_slice())
-        }
-    };
+    let mut output = standard_output(rt);
+    let status = run_check_after(
+        rt.alloc(),
+        format.form(),
+        &plan,
+        earlier.as_str(),
+        &mut output,
+    );
     if status == ExitStatus::Refused {
         let (name, earlier_name) = (plan_name(path), plan_name(earlier_path));
         tell_prolonging(rt, name, text.as_str(), earlier_name, earlier.as_str());
@@ -194,9 +180,12 @@ fn simulate_plans(
     further_path: &str,
     script_path: &str,
 ) -> Result<ExitStatus, Trouble> {
-    let plan = plan_at(rt, path)?.text;
+    let PlanFile {
+        text: plan,
+        plan: earlier,
+    } = plan_at(rt, path)?;
     let further = text_at(rt, further_path)?;
-    if is_refused_after(rt, further.as_str(), plan.as_str())? {
+    if is_refused_after(rt.alloc(), further.as_str(), &earlier)? {
         let status = simulate(rt, telling, plan.as_str(), Some(further.as_str()), "")?;
         tell_refusal(rt, further_path, further.as_str());
         let name = plan_name(path);
@@ -213,10 +202,13 @@ fn simulate_plans(
     )
 }
 
-/// Whether a text is no plan, or none that prolongs an earlier one.
-fn is_refused_after(rt: &HostRuntime, plan: &str, earlier: &str) -> Result<bool, NoMemory> {
-    let mut text = Vec::new(rt.alloc());
-    check_after_bytes(rt.alloc(), plan, earlier, &mut text)
+/// Returns true if a text is not a plan, or does not prolong the earlier plan.
+fn is_refused_after(alloc: Global, text: &str, earlier: &Plan) -> Result<bool, NoMemory> {
+    match read_plan(alloc, text) {
+        Ok(plan) => Ok(!prolongs(&plan, earlier)),
+        Err(PlanFault::NoMemory) => Err(NoMemory),
+        Err(_) => Ok(true),
+    }
 }
 
 /// Simulates a plan, and a further one where there is one, to standard output.

@@ -6,7 +6,6 @@
 //! it. kmipctl calls `run_program`; rows_kmipctl calls `run_words`, for each of its stored runs.
 #![tactic(auto)]
 
-mod checking;
 mod doing;
 mod own_environment;
 mod plan_schema;

@@ -4,7 +4,9 @@ use kmip_choices::Detail;
 use kmip_json::push_sim_end;
 use kmip_message_commands::ExitStatus;
 use kmip_plan_commands::{SimEnd, SimInput, batch_of, sim_to_end};
-use kmip_trouble::{Trouble, print_documents, push_refused_plan};
+use kmip_plan_report::push_refused_plan;
+use kmip_report::Form;
+use kmip_trouble::{Trouble, print_documents};
 use kmip_ttlv::NoMemory;
 use std::alloc::Global;
 
@@ -55,7 +57,7 @@ fn push_simulated(
     text: &mut Vec<u8>,
 ) -> Result<(), NoMemory> {
     match end {
-        SimEnd::PlanRefused(fault) => push_refused_plan(alloc, last, fault, text),
+        SimEnd::PlanRefused(fault) => push_refused_plan(alloc, Form::Json, last, fault, text),
         SimEnd::ProlongsNot | SimEnd::ScriptRefused(_) | SimEnd::CrashRefused(_) | SimEnd::Ran(_) =>
             { push_sim_end(alloc, end, text) }
     }

@@ -10,5 +10,7 @@ pub mod Members
 pub mod PieceViews
 -- what holds of every document: it is read back
 pub mod Laws
+-- the documents of faults
+pub mod FaultLines
 -- private: what only the clauses of private functions cite
 pub mod Private

@@ -6,8 +6,11 @@
 #![tactic(auto)]
 
 mod bytes;
+mod cause;
 mod datum;
 mod document;
+mod fault;
+mod faults;
 mod form;
 pub mod laws;
 mod line;
@@ -15,8 +18,11 @@ mod member;
 mod piece;
 mod shown;
 
+pub use cause::{Cause, word_of_cause};
 pub use datum::Datum;
 pub use document::push_document;
+pub use fault::Fault;
+pub use faults::{no_memory_line, push_contradiction, push_fault};
 pub use form::Form;
 pub use line::push_line;
 pub use member::Member;

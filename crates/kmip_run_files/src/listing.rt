@@ -4,17 +4,16 @@ use crate::origin::Origin;
 use crate::plan_file::PlanFile;
 use crate::reading::{plan_at, text_within};
 use crate::recalling::{judge_attributes, progress_file_at};
-use kmip_choices::{Format, ListOptions};
+use kmip_choices::ListOptions;
 use kmip_explaining::RefusedProgress;
 use kmip_files::{MOST_PROGRESS_BYTES, ProgressFile};
 use kmip_message_commands::ExitStatus;
-use kmip_plan_commands::{push_listing, run_list};
+use kmip_plan_report::run_list;
 use kmip_progress::{Progress, ProgressFault};
-use kmip_report::Form;
-use kmip_trouble::{Trouble, plan_name, print_documents, standard_output};
+use kmip_trouble::{Trouble, plan_name, standard_output};
 use kmip_ttlv::NoMemory;
 use std::alloc::Global;
-use std::io::{self, BufWriter, ErrorKind};
+use std::io::{self, ErrorKind};
 
 /// The command `list`: the plan is read first, then the progress, and then what says where that was
 /// kept. No lock is taken, as the file is whole at any instant. Where the progress is listed, standard
@@ -28,23 +27,13 @@ pub fn list_progress(rt: &HostRuntime, options: &ListOptions) -> Result<ExitStat
     let file = progress_file_at(rt, path)?;
     let saved = text_within(rt, path, MOST_PROGRESS_BYTES)?;
     let line = origin_line(&file, &plan, saved.as_str())?;
-    let status = match options.format {
-        Format::Text => {
-            let mut writer = BufWriter::new(rt.alloc(), standard_output(rt))?;
-            run_list(rt.alloc(), plan.text.as_str(), saved.as_str(), &mut writer)
-        }
-        Format::Json => {
-            let mut documents = Vec::new(rt.alloc());
-            let made = push_listing(
-                rt.alloc(),
-                Form::Json,
-                &plan.plan,
-                saved.as_str(),
-                &mut documents,
-            );
-            print_documents(rt, made, documents.as_slice())
-        }
-    };
+    let status = run_list(
+        rt.alloc(),
+        options.format.form(),
+        &plan.plan,
+        saved.as_str(),
+        &mut standard_output(rt),
+    );
     if status == ExitStatus::Refused {
         let refused = RefusedProgress {
             plan_path: plan_name(options.plan.as_str()),

@@ -1,7 +1,7 @@
 //! A progress file that the server of a run contradicts.
 
 use crate::disagreement::Disagreement;
-use kmip_json::push_contradiction;
+use kmip_report::push_contradiction;
 use kmip_ttlv::NoMemory;
 use std::alloc::Global;
 

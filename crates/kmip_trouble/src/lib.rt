@@ -31,7 +31,7 @@ pub use causes::{tell_cause, tell_why};
 pub use contradiction::Contradiction;
 pub use disagreement::Disagreement;
 pub use naming::{INPUT_PATH, plan_name};
-pub use obstacle::{Obstacle, push_refused_plan};
+pub use obstacle::Obstacle;
 pub use place::Place;
 pub use reporting::{print_documents, push_told};
 pub use told::{

@@ -1,6 +1,4 @@
 //! What keeps a command from its work.
-ghost use Rattle.std.specs.Prelude.{◌≡◌, OnOk, false};
-ghost use Rattle.kmip_json.specs.FaultJson.{is_plan_memory};
 
 use crate::another_server::AnotherServer;
 use crate::cannot::Cannot;
@@ -8,12 +6,12 @@ use crate::causes::{tell_cause, tell_why};
 use crate::contradiction::Contradiction;
 use crate::place::Place;
 use crate::reporting::{print_documents, push_reason, push_told};
-use kmip_explaining::{line_of_fault, tell_refusal};
-use kmip_json::{push_plan_fault, push_progress_fault};
+use kmip_explaining::tell_refusal;
 use kmip_message_commands::ExitStatus;
 use kmip_plan::PlanFault;
-use kmip_plan_commands::push_refusal;
+use kmip_plan_report::{push_plan_refusal, push_progress_refusal, push_refused_plan};
 use kmip_progress::ProgressFault;
+use kmip_report::Form;
 use kmip_ttlv::NoMemory;
 use std::alloc::Global;
 use std::io::{self, Error, ErrorKind};
@@ -179,7 +177,7 @@ impl Obstacle {
                 push_reason(alloc, Cannot::Read.text(), place.given(), NO_ORIGIN, text)
             }
             Obstacle::NoPlan(_, plan, fault) => {
-                push_refused_plan(alloc, plan.as_str(), fault, text)
+                push_refused_plan(alloc, Form::Json, plan.as_str(), fault, text)
             }
             Obstacle::InUse(path) => {
                 push_told(alloc, "progress in use", Some(path.as_str()), None, text)
@@ -187,29 +185,12 @@ impl Obstacle {
             Obstacle::NoPort => push_told(alloc, "cannot listen", None, None, text),
             Obstacle::AnotherServer(server) => server.push_document(alloc, text),
             Obstacle::Contradicted(contradiction) => contradiction.push_document(alloc, text),
-            Obstacle::NoProgress(fault) => push_progress_fault(alloc, *fault, text),
+            Obstacle::NoProgress(fault) => push_progress_refusal(alloc, Form::Json, *fault, text),
             Obstacle::OtherAttributes(..) => {
-                push_progress_fault(alloc, ProgressFault::OtherPlan, text)
+                push_progress_refusal(alloc, Form::Json, ProgressFault::OtherPlan, text)
             }
         }
     }
-}
-
-/// Appends the document that says why a text is no plan, with the line of the text where that is known.
-///
-/// # Errors
-/// Where there is no memory for it, and where the fault is want of memory.
-pub fn push_refused_plan(
-    alloc: Global,
-    plan: &str,
-    fault: &PlanFault,
-    text: &mut Vec<u8>,
-) -> Result<(), NoMemory>
-    // At success the fault is not want of memory.
-    ensures { OnOk result (is_plan_memory fault.now ≡ false) }
-{
-    let line = line_of_fault(alloc, plan, fault)?;
-    push_plan_fault(alloc, fault, line, text)
 }
 
 /// Prints that a progress is refused.
@@ -221,7 +202,7 @@ fn print_progress(rt: &HostRuntime, fault: ProgressFault) -> io::Result<()> {
 /// Prints why a text is no plan.
 fn print_refusal(rt: &HostRuntime, fault: &PlanFault) -> io::Result<()> {
     let mut text = Vec::new(rt.alloc());
-    let Ok(()) = push_refusal(rt.alloc(), fault, &mut text) else {
+    let Ok(()) = push_plan_refusal(rt.alloc(), Form::Text, fault, None, &mut text) else {
         return Err(Error::from(ErrorKind::OutOfMemory));
     };
     if let Ok(text) = from_utf8(text.as_slice()) {

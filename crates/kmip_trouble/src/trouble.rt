@@ -5,8 +5,8 @@ use crate::obstacle::Obstacle;
 use crate::place::Place;
 use crate::told::tell_output;
 use kmip_choices::Format;
-use kmip_json::NO_MEMORY_LINE;
 use kmip_message_commands::{CommandFault, ExitStatus};
+use kmip_report::no_memory_line;
 use kmip_ttlv::NoMemory;
 use std::alloc::AllocError;
 use std::io::{self, Error, ErrorKind};
@@ -147,10 +147,7 @@ fn failed(rt: &HostRuntime, format: Format, error: Error) -> ExitStatus {
 
 /// Prints that there is no memory.
 fn print_no_memory(rt: &HostRuntime, format: Format) -> io::Result<()> {
-    match format {
-        Format::Text => rt.println(CommandFault::NoMemory.text()),
-        Format::Json => rt.print(NO_MEMORY_LINE),
-    }
+    rt.print(no_memory_line(format.form()))
 }
 
 /// What an error outside the commands is: want of memory, or else one of the output.

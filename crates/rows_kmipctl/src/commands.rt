@@ -8,12 +8,16 @@ use kmip_choices::{Choice, Detail};
 use kmip_command_line::chosen;
 use kmip_message_commands::{
     CommandFault, ExitStatus, Form, answer, answer_bytes, answer_stream, answer_stream_bytes,
-    finished, run_answer, run_answer_stream, run_show, show_bytes, show_lines,
+    finished, run_answer, run_answer_stream, run_show, send, show_bytes, show_lines,
 };
-use kmip_plan_commands::{
-    SimInput, batch_of, check, check_after, check_after_bytes, check_bytes, list, list_bytes,
-    run_check, run_check_after, run_list, run_sim, sim, sim_bytes,
+use kmip_plan::{PlanFault, read_plan};
+use kmip_plan_commands::{SimInput, batch_of, run_sim, sim, sim_bytes};
+use kmip_plan_report::{
+    print_report, push_check, push_check_after, push_listing, push_refused_plan, run_check,
+    run_check_after, run_list,
 };
+use kmip_report::Form as ReportForm;
+use kmip_ttlv::NoMemory;
 use std::alloc::Global;
 use std::fs;
 use std::test::Fail;
@@ -137,13 +141,17 @@ impl Command {
             Command::Answer => run_answer(alloc, reader, writer),
             Command::AnswerStream => run_answer_stream(alloc, reader, writer),
             Command::Show(form) => run_show(alloc, *form, reader, writer),
-            Command::Check(plan) => run_check(alloc, plan.as_str(), writer),
-            Command::CheckAfter { plan, earlier } => {
-                run_check_after(alloc, plan.as_str(), earlier.as_str(), writer)
-            }
-            Command::List { plan, progress } => {
-                run_list(alloc, plan.as_str(), progress.as_str(), writer)
-            }
+            Command::Check(plan) => run_check(alloc, ReportForm::Text, plan.as_str(), writer),
+            Command::CheckAfter { plan, earlier } => match read_plan(alloc, plan.as_str()) {
+                Ok(plan) => {
+                    run_check_after(alloc, ReportForm::Text, &plan, earlier.as_str(), writer)
+                }
+                Err(fault) => refuse(alloc, plan.as_str(), &fault, writer),
+            },
+            Command::List { plan, progress } => match read_plan(alloc, plan.as_str()) {
+                Ok(plan) => run_list(alloc, ReportForm::Text, &plan, progress.as_str(), writer),
+                Err(fault) => refuse(alloc, plan.as_str(), &fault, writer),
+            },
             Command::Simulate(case) => {
                 let input = SimInput {
                     detail: case.detail,
@@ -166,12 +174,11 @@ impl Command {
             Command::Answer => answer(alloc, reader, writer),
             Command::AnswerStream => Ok(!answer_stream(alloc, reader, writer)?.is_whole()),
             Command::Show(form) => show_lines(alloc, *form, reader, writer),
-            Command::Check(plan) => check(alloc, plan.as_str(), writer),
-            Command::CheckAfter { plan, earlier } => {
-                check_after(alloc, plan.as_str(), earlier.as_str(), writer)
-            }
-            Command::List { plan, progress } => {
-                list(alloc, plan.as_str(), progress.as_str(), writer)
+            Command::Check(_) | Command::CheckAfter { .. } | Command::List { .. } => {
+                let mut text = Vec::new(alloc);
+                let is_refused = self.push_report(alloc, &mut text)?;
+                send(text.as_slice(), false, writer)?;
+                Ok(is_refused)
             }
             Command::Simulate(case) => {
                 let input = SimInput {
@@ -195,15 +202,8 @@ impl Command {
             Command::Answer => Ok(answer_bytes(alloc, input, output)?),
             Command::AnswerStream => Ok(!answer_stream_bytes(alloc, input, output)?.is_whole()),
             Command::Show(form) => Ok(show_bytes(alloc, *form, input, output)?),
-            Command::Check(plan) => Ok(check_bytes(alloc, plan.as_str(), output)?),
-            Command::CheckAfter { plan, earlier } => Ok(check_after_bytes(
-                alloc,
-                plan.as_str(),
-                earlier.as_str(),
-                output,
-            )?),
-            Command::List { plan, progress } => {
-                Ok(list_bytes(alloc, plan.as_str(), progress.as_str(), output)?)
+            Command::Check(_) | Command::CheckAfter { .. } | Command::List { .. } => {
+                Ok(self.push_report(alloc, output)?)
             }
             Command::Simulate(case) => {
                 let input = SimInput {
@@ -215,4 +215,41 @@ impl Command {
             }
         }
     }
+
+    /// Appends the report of `check`, `check --after` or `list`, and says whether something was refused.
+    fn push_report(&self, alloc: Global, text: &mut Vec<u8>) -> Result<bool, NoMemory> {
+        let form = ReportForm::Text;
+        match self {
+            Command::CheckAfter { plan, earlier } => match read_plan(alloc, plan.as_str()) {
+                Ok(plan) => push_check_after(alloc, form, &plan, earlier.as_str(), text),
+                Err(fault) => push_refused(alloc, plan.as_str(), &fault, text),
+            },
+            Command::List { plan, progress } => match read_plan(alloc, plan.as_str()) {
+                Ok(plan) => push_listing(alloc, form, &plan, progress.as_str(), text),
+                Err(fault) => push_refused(alloc, plan.as_str(), &fault, text),
+            },
+            Command::Check(plan) => push_check(alloc, form, plan.as_str(), text),
+            Command::Answer | Command::AnswerStream | Command::Show(_) | Command::Simulate(_) => Ok(
+                false,
+            ),
+        }
+    }
+}
+
+/// Appends why a text is not a plan.
+fn push_refused(
+    alloc: Global,
+    plan: &str,
+    fault: &PlanFault,
+    text: &mut Vec<u8>,
+) -> Result<bool, NoMemory> {
+    push_refused_plan(alloc, ReportForm::Text, plan, fault, text)?;
+    Ok(true)
+}
+
+/// Prints why a text is not a plan, as the program does.
+fn refuse(alloc: Global, plan: &str, fault: &PlanFault, writer: &mut NotingWriter) -> ExitStatus {
+    let mut text = Vec::new(alloc);
+    let made = push_refused(alloc, plan, fault, &mut text);
+    print_report(ReportForm::Text, made, text.as_slice(), writer)
 }

@@ -3,14 +3,14 @@ ghost use Rattle.kmip_progress.specs.Suiting.{Suits};
 
 use crate::asserting::{PLAN, assert_lines, key};
 use kmip_client::Client;
-use kmip_json::{
-    Cause, Fault, NO_MEMORY_LINE, push_check, push_fault, push_plan_fault, push_progress_fault,
-    push_prolongs, push_run,
-};
+use kmip_json::push_run;
 use kmip_plan::{Plan, PlanFault, Target, read_plan};
-use kmip_plan_commands::{RunTally, push_list};
+use kmip_plan_commands::RunTally;
+use kmip_plan_report::{
+    push_check_after, push_check_lines, push_list, push_plan_refusal, push_progress_refusal,
+};
 use kmip_progress::{Known, Progress, ProgressFault, suits};
-use kmip_report::Form;
+use kmip_report::{Cause, Fault, Form, no_memory_line, push_fault};
 use kmip_runs::Stop;
 use kmip_ttlv::{NoMemory, Text};
 use std::alloc::Global;
@@ -20,6 +20,28 @@ const CHECK_LINES: [&str; 3] = [
     r#"{"key":"a\"b\\c\u001f","algorithm":"AES","length":256,"usage":12,"target":"active","steps":["Create","Activate"]}"#,
     r#"{"key":"k","algorithm":null,"length":64,"usage":511,"target":"created","steps":["Create"]}"#,
     r#"{"key":"d","algorithm":"HMAC-SHA256","length":256,"usage":384,"target":"destroyed","steps":["Create","Activate","Revoke","Destroy"]}"#,
+];
+
+/// A plan that the plan does not prolong: its key is of another length.
+const EARLIER: &str = r#"
+[[key]]
+name = "second"
+algorithm = "HMAC-SHA256"
+length = 512
+usage = ["mac-generate"]
+target = "discarded"
+"#;
+
+const PROLONGS_LINES: [&str; 3] = [
+    r#"{"key":"a\"b\\c","algorithm":"AES","length":256,"usage":12,"target":"active","steps":["Create","Activate"]}"#,
+    r#"{"key":"second","algorithm":"HMAC-SHA256","length":256,"usage":128,"target":"discarded","steps":["Create","Destroy"]}"#,
+    r#"{"prolongs":true}"#,
+];
+
+const PROLONGS_NOT_LINES: [&str; 3] = [
+    r#"{"key":"a\"b\\c","algorithm":"AES","length":256,"usage":12,"target":"active","steps":["Create","Activate"]}"#,
+    r#"{"key":"second","algorithm":"HMAC-SHA256","length":256,"usage":128,"target":"discarded","steps":["Create","Destroy"]}"#,
+    r#"{"prolongs":false}"#,
 ];
 
 const LIST_LINES: [&str; 3] = [
@@ -52,13 +74,20 @@ fn writes_what_is_checked(rt: HostRuntime) -> Result<(), Fail> {
         key(alloc, "d", 9, 256, 384, Target::Destroyed)?,
     ];
     let mut text = Vec::new(alloc);
-    push_check(alloc, &keys, &mut text)?;
+    push_check_lines(alloc, Form::Json, &keys, &mut text)?;
     assert_lines(&rt, alloc, text.as_slice(), &CHECK_LINES)?;
-    let mut text = Vec::new(alloc);
-    push_prolongs(alloc, true, &mut text)?;
-    push_prolongs(alloc, false, &mut text)?;
-    let lines = [r#"{"prolongs":true}"#, r#"{"prolongs":false}"#];
-    assert_lines(&rt, alloc, text.as_slice(), &lines)?;
+    Ok(())
+}
+
+#[test]
+fn writes_whether_a_plan_prolongs(rt: HostRuntime) -> Result<(), Fail> {
+    let alloc = rt.alloc();
+    let plan: Plan = read_plan(alloc, PLAN)?;
+    for (earlier, lines) in [(PLAN, &PROLONGS_LINES), (EARLIER, &PROLONGS_NOT_LINES)] {
+        let mut text = Vec::new(alloc);
+        push_check_after(alloc, Form::Json, &plan, earlier, &mut text)?;
+        assert_lines(&rt, alloc, text.as_slice(), lines)?;
+    }
     Ok(())
 }
 
@@ -128,10 +157,22 @@ fn writes_what_came_of_a_run(rt: HostRuntime) -> Result<(), Fail> {
 fn writes_what_went_wrong(rt: HostRuntime) -> Result<(), Fail> {
     let alloc = rt.alloc();
     let mut text = Vec::new(alloc);
-    push_plan_fault(alloc, &PlanFault::BadLength(613), Some(4903), &mut text)?;
+    push_plan_refusal(
+        alloc,
+        Form::Json,
+        &PlanFault::BadLength(613),
+        Some(4903),
+        &mut text,
+    )?;
     let word = Text::copied(alloc, "\"\\\t")?;
-    push_plan_fault(alloc, &PlanFault::Unknown(word, 0), None, &mut text)?;
-    push_progress_fault(alloc, ProgressFault::Cut, &mut text)?;
+    push_plan_refusal(
+        alloc,
+        Form::Json,
+        &PlanFault::Unknown(word, 0),
+        None,
+        &mut text,
+    )?;
+    push_progress_refusal(alloc, Form::Json, ProgressFault::Cut, &mut text)?;
     let unread = Fault {
         fault: "cannot read",
         at: Some("/etc/plan.toml"),
@@ -146,9 +187,9 @@ fn writes_what_went_wrong(rt: HostRuntime) -> Result<(), Fail> {
         cause: Some(Cause::Refused),
     };
     push_fault(alloc, &unanswered, &mut text)?;
-    text.extend_from_slice(NO_MEMORY_LINE.as_bytes())?;
+    text.extend_from_slice(no_memory_line(Form::Json).as_bytes())?;
     assert_lines(&rt, alloc, text.as_slice(), &FAULT_LINES)?;
-    let wanting = push_plan_fault(alloc, &PlanFault::NoMemory, None, &mut text);
+    let wanting = push_plan_refusal(alloc, Form::Json, &PlanFault::NoMemory, None, &mut text);
     assert!(rt; wanting.is_err());
     Ok(())
 }

@@ -2,7 +2,7 @@
 use Rattle.std.proofs.Common.{ap, ◌∙◌, option_map}
 use Rattle.serde_json.specs.Data.{string}
 use Rattle.kmip_report.specs.Documents.{count, text_or_null}
-use Rattle.kmip_json.specs.Causes.{cause_word}
+use Rattle.kmip_report.specs.FaultLines.{cause_word}
 use Rattle.kmip_json.specs.RunJson.{all_steps, end_line}
 use Rattle.kmip_report.proofs.ForCallers.{last, line_by, more, said_as}
 use Rattle.kmip_json.proofs.running.push_end.Goals as goal

@@ -1,6 +1,6 @@
 -- The lines so far, and then those of the keys that are left, are all of them.
 use Rattle.std.proofs.Common.{◌≡◌, ◌++◌, drop, map}
-use Rattle.kmip_plan_commands.specs.Standings.{standing_of}
+use Rattle.kmip_plan_report.specs.Standings.{standing_of}
 use Rattle.kmip_json.specs.RunJson.{run_key_lines}
 use Rattle.kmip_json.proofs.running.push_keys.Given as goal
 

@@ -1,5 +1,5 @@
 -- The line is that of this fault.
-use Rattle.kmip_json.specs.FaultJson.{fault_line}
+use Rattle.kmip_report.specs.FaultLines.{fault_line}
 use Rattle.kmip_json.specs.SimJson.{prolongs_not_line}
 use Rattle.kmip_json.proofs.simulating.push_prolongs_not.Goals as goal
 

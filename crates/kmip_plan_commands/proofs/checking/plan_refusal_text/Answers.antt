@@ -1,7 +1,0 @@
--- The line is made of its parts.
-use Rattle.std.proofs.Common.{◌∙◌}
-use Rattle.kmip_plan_commands.proofs.CheckingLemmas.{refusal_line}
-use Rattle.kmip_plan_commands.proofs.checking.plan_refusal_text.Goals as goal
-
-pub returns : goal.returns
-returns c = c.in_ok-text.ensures.ok ∙ refusal_line c.args.fault.now _ _ _ _ c.number-number.ensures c.name-name.ensures c.in_ok-field.ensures c.in_ok-place.ensures

@@ -1,0 +1,116 @@
+//! The command `check`: what a plan asks for.
+ghost use Rattle.std.specs.Prelude.{◌≡◌, ◌++◌, ℕ, Option, IfOk, OnOk, map};
+ghost use Rattle.std.specs.Io.KnownBytes.{Appends};
+ghost use Rattle.kmip_objects.specs.Lifecycle.{step_word};
+ghost use Rattle.kmip_plan.specs.Chains.{chain};
+ghost use Rattle.kmip_plan.specs.Reading.{plan_read};
+ghost use Rattle.kmip_message_commands.specs.Printing.{IfFailed, IfWhole, UnlessOutput};
+ghost use Rattle.kmip_report.specs.FaultLines.{no_memory};
+ghost use Rattle.kmip_report.specs.PieceViews.{pieces_of};
+ghost use Rattle.kmip_report.specs.Pieces.{line_in, report_in};
+ghost use Rattle.kmip_plan_report.specs.Checking.{check_line, check_lines, check_report, is_plan_refused};
+
+use crate::printing::print_report;
+use crate::refusing::push_refused_plan;
+use crate::steps::step_words;
+use kmip_message_commands::ExitStatus;
+use kmip_plan::{Key, algorithm_word, read_plan};
+use kmip_report::{Form, Piece, push_line};
+use kmip_ttlv::NoMemory;
+use std::alloc::Global;
+use std::io::Write;
+
+/// Runs `check` on the text of a plan: prints the report, or that memory ran out. Returns how the
+/// program ends.
+pub fn run_check<W: Write>(alloc: Global, form: Form, plan: &str, writer: &mut W) -> ExitStatus
+    // If it ends with `Done` or `Refused`, exactly the report of the text is written, by some line of
+    // the text if that is not a plan. It never ends with `Usage`.
+    ensures text { IfWhole result (λ _. (line : Option ℕ)
+        × Appends (W.contents writer.old) (W.contents writer.new)
+        (report_in form (check_report (plan_read plan.now) line))) }
+    // It ends with `Refused`, not `Done`, exactly if the text is not a plan.
+    ensures refused { IfWhole result (λ r. r ≡ is_plan_refused (plan_read plan.now)) }
+    // If it ends with `Failed`, exactly the line for running out of memory is written, unless the
+    // writer failed.
+    ensures broken { IfFailed result (λ fault. UnlessOutput fault
+        (Appends (W.contents writer.old) (W.contents writer.new) (line_in form no_memory))) }
+{
+    let mut text = Vec::new(alloc);
+    let made = push_check(alloc, form, plan, &mut text);
+    print_report(form, made, text.as_slice(), writer)
+}
+
+/// Appends the report of the text of a plan: a line for each key, or the line of its first fault.
+/// Returns true if the text is not a plan.
+///
+/// # Errors
+/// If memory runs out. A part may have been appended then.
+pub fn push_check(
+    alloc: Global,
+    form: Form,
+    plan: &str,
+    text: &mut Vec<u8>,
+) -> Result<bool, NoMemory>
+    // What is appended is exactly the report of the text, by some line of it if it is not a plan.
+    ensures text { OnOk result ((line : Option ℕ) × (text.new.items
+        ≡ text.old.items ++ report_in form (check_report (plan_read plan.now) line))) }
+    // It is refused exactly if the text is not a plan.
+    ensures refused { IfOk result (λ r. r ≡ is_plan_refused (plan_read plan.now)) }
+{
+    match read_plan(alloc, plan) {
+        Ok(plan) => {
+            push_check_lines(alloc, form, plan.keys(), text)?;
+            Ok(false)
+        }
+        Err(fault) => {
+            push_refused_plan(alloc, form, plan, &fault, text)?;
+            Ok(true)
+        }
+    }
+}
+
+/// Appends the lines of keys, in their order: of each one its name, its algorithm, its length in bits,
+/// its usage mask, its target and the steps to it.
+///
+/// # Errors
+/// If memory runs out. A part may have been appended then.
+pub fn push_check_lines(
+    alloc: Global,
+    form: Form,
+    keys: &[Key],
+    text: &mut Vec<u8>,
+) -> Result<(), NoMemory>
+    // What is appended is exactly the lines of the keys.
+    ensures { OnOk result (text.new.items
+        ≡ text.old.items ++ report_in form (check_lines keys.now)) }
+{
+    for key in keys {
+        push_key(alloc, form, key, text)?;
+    }
+    Ok(())
+}
+
+/// Appends the line of a key.
+fn push_key(alloc: Global, form: Form, key: &Key, text: &mut Vec<u8>) -> Result<(), NoMemory>
+    ensures { OnOk result (text.new.items
+        ≡ text.old.items ++ line_in form (check_line key.now)) }
+{
+    let steps = step_words(alloc, key, 0)?;
+    push_line(alloc, form, &pieces_of_key(key, steps.as_slice()), text)
+}
+
+/// The line of a key: its name, what it is made with, its target and the steps to it.
+fn pieces_of_key<'a>(key: &'a Key, steps: &'a [&'a str]) -> [Piece<'a>; 6]
+    requires { map (λ word. word.now) steps.now ≡ map step_word (chain key.now.target) }
+    ensures { pieces_of result ≡ check_line key.now }
+{
+    let attrs = &key.attrs;
+    [
+        Piece::word("", "key", attrs.name.as_str()),
+        Piece::word_or(" ", "algorithm", " ", algorithm_word(attrs.algorithm)),
+        Piece::signed(" ", "length", attrs.length),
+        Piece::mask(" ", "usage", attrs.usage.cast_unsigned()),
+        Piece::word(" ", "target", key.target.word()),
+        Piece::words(":", "steps", steps),
+    ]
+}

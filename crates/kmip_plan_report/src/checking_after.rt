@@ -1,0 +1,116 @@
+//! The command `check --after`: what a plan asks for, and whether it prolongs an earlier one.
+ghost use Rattle.std.specs.Prelude.{◌≡◌, ◌++◌, ◌↔◌, ℕ, IsTrue, Ok, Option, IfOk, OnOk, not};
+ghost use Rattle.std.specs.Io.KnownBytes.{Appends};
+ghost use Rattle.kmip_plan.specs.Reading.{plan_read};
+ghost use Rattle.kmip_message_commands.specs.Printing.{IfFailed, IfWhole, UnlessOutput};
+ghost use Rattle.kmip_report.specs.FaultLines.{no_memory};
+ghost use Rattle.kmip_report.specs.PieceViews.{pieces_of};
+ghost use Rattle.kmip_report.specs.Pieces.{line_in, report_in};
+ghost use Rattle.kmip_plan_report.specs.Checking.{IsRefusedAfter, check_after_report, prolongs_line};
+ghost use Rattle.kmip_plan_report.specs.Private.{JudgesAfter};
+
+use crate::checking::push_check_lines;
+use crate::printing::print_report;
+use crate::refusing::push_refused_plan;
+use kmip_message_commands::ExitStatus;
+use kmip_plan::{Plan, prolongs, read_plan};
+use kmip_report::{Form, Member, Piece, push_line};
+use kmip_ttlv::NoMemory;
+use std::alloc::Global;
+use std::io::Write;
+
+/// Runs `check --after` on a plan and the text of an earlier one: prints the report, or that memory
+/// ran out. Returns how the program ends.
+pub fn run_check_after<W: Write>(
+    alloc: Global,
+    form: Form,
+    plan: &Plan,
+    earlier: &str,
+    writer: &mut W,
+) -> ExitStatus
+    // If it ends with `Done` or `Refused`, exactly the report of the two is written, by some line of
+    // the text if that is not a plan. It never ends with `Usage`.
+    ensures text { IfWhole result (λ r. (line : Option ℕ)
+        × Appends (W.contents writer.old) (W.contents writer.new)
+        (report_in form (check_after_report r plan.now (plan_read earlier.now) line))) }
+    // It ends with `Refused`, not `Done`, exactly if the text is not a plan, or the plan does not
+    // prolong that one.
+    ensures refused { IfWhole result (λ r.
+        IsTrue r ↔ IsRefusedAfter plan.now (plan_read earlier.now)) }
+    // If it ends with `Failed`, exactly the line for running out of memory is written, unless the
+    // writer failed.
+    ensures broken { IfFailed result (λ fault. UnlessOutput fault
+        (Appends (W.contents writer.old) (W.contents writer.new) (line_in form no_memory))) }
+{
+    let mut text = Vec::new(alloc);
+    let made = push_check_after(alloc, form, plan, earlier, &mut text);
+    print_report(form, made, text.as_slice(), writer)
+}
+
+/// Appends the report of a plan and of the text of an earlier one: a line for each key of the plan and
+/// one that says whether it prolongs the earlier plan, or the line of the first fault of the text.
+/// Returns true if the text is not a plan, or the plan does not prolong it.
+///
+/// # Errors
+/// If memory runs out. A part may have been appended then.
+pub fn push_check_after(
+    alloc: Global,
+    form: Form,
+    plan: &Plan,
+    earlier: &str,
+    text: &mut Vec<u8>,
+) -> Result<bool, NoMemory>
+    // What is appended is exactly the report of the two, by some line of the text if that is not a
+    // plan.
+    ensures text { IfOk result (λ r. (line : Option ℕ) × (text.new.items ≡ text.old.items
+        ++ report_in form (check_after_report r plan.now (plan_read earlier.now) line))) }
+    // It is refused exactly if the text is not a plan, or the plan does not prolong that one.
+    ensures refused { IfOk result (λ r.
+        IsTrue r ↔ IsRefusedAfter plan.now (plan_read earlier.now)) }
+{
+    match read_plan(alloc, earlier) {
+        Ok(earlier) => push_comparison(alloc, form, plan, &earlier, text),
+        Err(fault) => {
+            push_refused_plan(alloc, form, earlier, &fault, text)?;
+            Ok(true)
+        }
+    }
+}
+
+/// Appends the lines of a plan's keys, and one that says whether it prolongs the earlier plan.
+fn push_comparison(
+    alloc: Global,
+    form: Form,
+    plan: &Plan,
+    earlier: &Plan,
+    text: &mut Vec<u8>,
+) -> Result<bool, NoMemory>
+    ensures { JudgesAfter form plan.now (Ok earlier.now) result text.old.items text.new.items }
+{
+    push_check_lines(alloc, form, plan.keys(), text)?;
+    let is_refused = !prolongs(plan, earlier);
+    push_prolongs(alloc, form, !is_refused, text)?;
+    Ok(is_refused)
+}
+
+/// Appends the line that says whether a plan prolongs another.
+fn push_prolongs(
+    alloc: Global,
+    form: Form,
+    does_prolong: bool,
+    text: &mut Vec<u8>,
+) -> Result<(), NoMemory>
+    ensures { OnOk result (text.new.items
+        ≡ text.old.items ++ line_in form (prolongs_line does_prolong)) }
+{
+    let words = if does_prolong {
+        "prolongs"
+    } else {
+        "prolongs not"
+    };
+    let pieces = [
+        Piece::Said(words),
+        Piece::Noted(Member::truth("prolongs", does_prolong)),
+    ];
+    push_line(alloc, form, &pieces, text)
+}
