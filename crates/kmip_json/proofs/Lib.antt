@@ -1,2 +1,1 @@
 mod LookLemmas
-mod ProbeLemmas

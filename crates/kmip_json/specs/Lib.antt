@@ -8,5 +8,3 @@ pub mod RunJson
 pub mod SimJson
 -- what `look` says of the keys of a plan
 pub mod LookJson
--- what `probe` says of a server, line by line
-pub mod ProbeJson

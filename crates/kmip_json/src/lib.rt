@@ -5,14 +5,11 @@
 //! escapes what would break a line.
 #![tactic(auto)]
 
-mod json_lines;
 mod looking;
 mod optional;
-mod probing;
 mod running;
 mod simulating;
 
-pub use json_lines::JsonLines;
 pub use looking::push_look;
 pub use running::push_run;
 pub use simulating::push_sim_end;

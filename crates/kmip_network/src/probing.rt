@@ -3,11 +3,11 @@
 use crate::linking::{loopback, tcp_link, unix_link};
 use crate::watcher::Watcher;
 use kmip_account::ExchangeLog;
-use kmip_choices::{Format, Peer, ProbeOptions};
-use kmip_json::JsonLines;
+use kmip_choices::{Peer, ProbeOptions};
 use kmip_message_commands::{CommandFault, ExitStatus};
-use kmip_probe_command::{PlainText, probe, run_probe};
+use kmip_probe_command::{probe, run_probe};
 use kmip_protocol::Link;
+use kmip_report::Form;
 use kmip_runs::Observed;
 use kmip_trouble::{Trouble, print_documents, standard_output};
 use kmip_ttlv::NoMemory;
@@ -46,18 +46,18 @@ fn probe_over<L: Link + Drop>(
     let rt = log.rt();
     let mut link = Observed::new(link, Watcher::new(log));
     let mut writer = BufWriter::new(rt.alloc(), standard_output(rt))?;
-    let prefix = options.prefix.as_str();
-    match options.format {
-        Format::Text => Ok(run_probe(rt.alloc(), prefix, &PlainText, &mut link, &mut writer)),
-        Format::Json => {
-            let ended = probe(rt.alloc(), prefix, &JsonLines, &mut link, &mut writer);
+    let (form, prefix) = (options.format.form(), options.prefix.as_str());
+    match form {
+        Form::Text => Ok(run_probe(rt.alloc(), prefix, form, &mut link, &mut writer)),
+        Form::Json => {
+            let ended = probe(rt.alloc(), prefix, form, &mut link, &mut writer);
             Ok(status_in_json(rt, ended))
         }
     }
 }
 
-/// How the program ends after a probe whose documents are printed. Want of memory has its own document,
-/// which is printed here.
+/// How the program ends after a probe whose documents are printed. If memory ran out, the document of
+/// that is printed here.
 fn status_in_json(rt: &HostRuntime, ended: Result<bool, CommandFault>) -> ExitStatus {
     match ended {
         Ok(false) => ExitStatus::Done,

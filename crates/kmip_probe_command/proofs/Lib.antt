@@ -1,3 +1,4 @@
+mod PieceLemmas
 pub mod ToldLemmas
 pub mod EndLemmas
 pub mod MidwayLemmas

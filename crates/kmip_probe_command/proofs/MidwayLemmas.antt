@@ -12,15 +12,15 @@ use Rattle.kmip_message_commands.specs.declared.exit_status.ExitStatus.TheVarian
 use Rattle.kmip_message_commands.specs.declared.command_fault.CommandFault.{CommandFault}
 use Rattle.kmip_message_commands.specs.declared.command_fault.CommandFault.TheVariants.{Input, Output, NoMemory}
 use Rattle.kmip_probe.specs.declared.answer.Answer.{Answer}
-use Rattle.kmip_probe_command.specs.FormTexts.{FormTexts}
+use Rattle.kmip_report.specs.declared.form.Form.{Form}
 use Rattle.kmip_probe_command.specs.Private.{BreaksMidway}
 use Rattle.kmip_probe_command.specs.Midway.{TellsSome, answers_before, lines_by}
 
 -- ---- how it breaks off
 
-told_some : (texts : FormTexts) (prefix : List ℕ) (answers : List Answer) (told left : List (List ℕ)) (old new : Option (List ℕ)) → lines_by texts prefix answers ≡ told ++ left
-    → answers_before told ≤ length answers → Appends old new (concat told) → TellsSome texts prefix [] old new
-told_some texts prefix answers told left old new whole decided written = record {
+told_some : (form : Form) (prefix : List ℕ) (answers : List Answer) (told left : List (List ℕ)) (old new : Option (List ℕ)) → lines_by form prefix answers ≡ told ++ left
+    → answers_before told ≤ length answers → Appends old new (concat told) → TellsSome form prefix [] old new
+told_some form prefix answers told left old new whole decided written = record {
   answers = answers;
   told = told;
   left = left;
@@ -29,66 +29,66 @@ told_some texts prefix answers told left old new whole decided written = record 
   written = subst (Appends old new) (sym (append-nil (concat told))) written;
 }
 
-pub broken_at : (texts : FormTexts) (prefix : List ℕ) (answers : List Answer) (told left : List (List ℕ)) (fault own_fault : CommandFault) (Whole : Type 0) (old between new : Option (List ℕ))
-    → lines_by texts prefix answers ≡ told ++ left → answers_before told ≤ length answers → Appends old between (concat told) → Fails fault own_fault Whole between new
-    → BreaksMidway texts fault own_fault Whole prefix old new
-broken_at texts prefix answers told left fault own_fault Whole old between new whole decided written (inl (is, kept)) =
-    inl (is, told_some texts prefix answers told left old new whole decided (Appends-kept old between new (concat told) written kept))
-broken_at texts prefix answers told left fault own_fault Whole old between new whole decided written (inr (is, kept)) =
-    inr (is, λ all. told_some texts prefix answers told left old new whole decided (Appends-kept old between new (concat told) written (kept all)))
+pub broken_at : (form : Form) (prefix : List ℕ) (answers : List Answer) (told left : List (List ℕ)) (fault own_fault : CommandFault) (Whole : Type 0) (old between new : Option (List ℕ))
+    → lines_by form prefix answers ≡ told ++ left → answers_before told ≤ length answers → Appends old between (concat told) → Fails fault own_fault Whole between new
+    → BreaksMidway form fault own_fault Whole prefix old new
+broken_at form prefix answers told left fault own_fault Whole old between new whole decided written (inl (is, kept)) =
+    inl (is, told_some form prefix answers told left old new whole decided (Appends-kept old between new (concat told) written kept))
+broken_at form prefix answers told left fault own_fault Whole old between new whole decided written (inr (is, kept)) =
+    inr (is, λ all. told_some form prefix answers told left old new whole decided (Appends-kept old between new (concat told) written (kept all)))
 
 -- behind some lines of these answers a part of the command failed
-pub broke : {A : Type 0} (result : Result A CommandFault) (texts : FormTexts) (prefix : List ℕ) (answers : List Answer) (told left : List (List ℕ)) (own_fault : CommandFault)
+pub broke : {A : Type 0} (result : Result A CommandFault) (form : Form) (prefix : List ℕ) (answers : List Answer) (told left : List (List ℕ)) (own_fault : CommandFault)
     (Whole : Type 0) (old between new : Option (List ℕ))
-    → lines_by texts prefix answers ≡ told ++ left → answers_before told ≤ length answers → Appends old between (concat told)
-    → IfErr result (λ fault. Fails fault own_fault Whole between new) → IfErr result (λ fault. BreaksMidway texts fault own_fault Whole prefix old new)
-broke (Ok a) texts prefix answers told left own_fault Whole old between new whole decided written fails = tt
-broke (Err fault) texts prefix answers told left own_fault Whole old between new whole decided written fails =
-    broken_at texts prefix answers told left fault own_fault Whole old between new whole decided written fails
+    → lines_by form prefix answers ≡ told ++ left → answers_before told ≤ length answers → Appends old between (concat told)
+    → IfErr result (λ fault. Fails fault own_fault Whole between new) → IfErr result (λ fault. BreaksMidway form fault own_fault Whole prefix old new)
+broke (Ok a) form prefix answers told left own_fault Whole old between new whole decided written fails = tt
+broke (Err fault) form prefix answers told left own_fault Whole old between new whole decided written fails =
+    broken_at form prefix answers told left fault own_fault Whole old between new whole decided written fails
 
 -- or there was no memory
-pub lacked : (fault : CommandFault) (texts : FormTexts) (prefix : List ℕ) (answers : List Answer) (told left : List (List ℕ)) (own_fault : CommandFault)
+pub lacked : (fault : CommandFault) (form : Form) (prefix : List ℕ) (answers : List Answer) (told left : List (List ℕ)) (own_fault : CommandFault)
     (Whole : Type 0) (old new : Option (List ℕ))
-    → lines_by texts prefix answers ≡ told ++ left → answers_before told ≤ length answers → Appends old new (concat told) → fault ≡ NoMemory
-    → BreaksMidway texts fault own_fault Whole prefix old new
-lacked fault texts prefix answers told left own_fault Whole old new whole decided written is =
-    inl (is, told_some texts prefix answers told left old new whole decided written)
+    → lines_by form prefix answers ≡ told ++ left → answers_before told ≤ length answers → Appends old new (concat told) → fault ≡ NoMemory
+    → BreaksMidway form fault own_fault Whole prefix old new
+lacked fault form prefix answers told left own_fault Whole old new whole decided written is =
+    inl (is, told_some form prefix answers told left old new whole decided written)
 
 -- ---- on a writer, and in memory
 
-at_writer : (fault : CommandFault) (Whole : Type 0) (texts : FormTexts) (prefix : List ℕ) (old new : Option (List ℕ)) → BreaksMidway texts fault Output Whole prefix old new
-    → UnlessOutput fault (TellsSome texts prefix [] old new)
-at_writer fault Whole texts prefix old new (inl (is, some)) = rw is some
-at_writer fault Whole texts prefix old new (inr (is, some)) = rw is tt
+at_writer : (fault : CommandFault) (Whole : Type 0) (form : Form) (prefix : List ℕ) (old new : Option (List ℕ)) → BreaksMidway form fault Output Whole prefix old new
+    → UnlessOutput fault (TellsSome form prefix [] old new)
+at_writer fault Whole form prefix old new (inl (is, some)) = rw is some
+at_writer fault Whole form prefix old new (inr (is, some)) = rw is tt
 
-pub on_writer : {A : Type 0} (result : Result A CommandFault) (Whole : Type 0) (texts : FormTexts) (prefix : List ℕ) (old new : Option (List ℕ))
-    → IfErr result (λ fault. BreaksMidway texts fault Output Whole prefix old new) → IfErr result (λ fault. UnlessOutput fault (TellsSome texts prefix [] old new))
-on_writer (Ok a) Whole texts prefix old new broken = tt
-on_writer (Err fault) Whole texts prefix old new broken = at_writer fault Whole texts prefix old new broken
+pub on_writer : {A : Type 0} (result : Result A CommandFault) (Whole : Type 0) (form : Form) (prefix : List ℕ) (old new : Option (List ℕ))
+    → IfErr result (λ fault. BreaksMidway form fault Output Whole prefix old new) → IfErr result (λ fault. UnlessOutput fault (TellsSome form prefix [] old new))
+on_writer (Ok a) Whole form prefix old new broken = tt
+on_writer (Err fault) Whole form prefix old new broken = at_writer fault Whole form prefix old new broken
 
-no_input_at : (fault : CommandFault) (Whole : Type 0) (texts : FormTexts) (prefix : List ℕ) (old new : Option (List ℕ)) → BreaksMidway texts fault Output Whole prefix old new → fault ≢ Input
-no_input_at fault Whole texts prefix old new (inl (is, some)) = λ input. let both : NoMemory ≡ Input = sym is ∙ input in absurd cc
-no_input_at fault Whole texts prefix old new (inr (is, some)) = λ input. let both : Output ≡ Input = sym is ∙ input in absurd cc
+no_input_at : (fault : CommandFault) (Whole : Type 0) (form : Form) (prefix : List ℕ) (old new : Option (List ℕ)) → BreaksMidway form fault Output Whole prefix old new → fault ≢ Input
+no_input_at fault Whole form prefix old new (inl (is, some)) = λ input. let both : NoMemory ≡ Input = sym is ∙ input in absurd cc
+no_input_at fault Whole form prefix old new (inr (is, some)) = λ input. let both : Output ≡ Input = sym is ∙ input in absurd cc
 
 -- nothing is said of a reader
-pub without_input : {A : Type 0} (result : Result A CommandFault) (Whole : Type 0) (texts : FormTexts) (prefix : List ℕ) (old new : Option (List ℕ))
-    → IfErr result (λ fault. BreaksMidway texts fault Output Whole prefix old new) → IfErr result (λ fault. fault ≢ Input)
-without_input (Ok a) Whole texts prefix old new broken = tt
-without_input (Err fault) Whole texts prefix old new broken = no_input_at fault Whole texts prefix old new broken
+pub without_input : {A : Type 0} (result : Result A CommandFault) (Whole : Type 0) (form : Form) (prefix : List ℕ) (old new : Option (List ℕ))
+    → IfErr result (λ fault. BreaksMidway form fault Output Whole prefix old new) → IfErr result (λ fault. fault ≢ Input)
+without_input (Ok a) Whole form prefix old new broken = tt
+without_input (Err fault) Whole form prefix old new broken = no_input_at fault Whole form prefix old new broken
 
-front_kept : (texts : FormTexts) (prefix old new : List ℕ) → TellsSome texts prefix [] (Some old) (Some new) → take (length old) new ≡ old
-front_kept texts prefix old new some = ap (take (length old)) some.written ∙ take_at old (concat some.told ++ []) (length old) refl
+front_kept : (form : Form) (prefix old new : List ℕ) → TellsSome form prefix [] (Some old) (Some new) → take (length old) new ≡ old
+front_kept form prefix old new some = ap (take (length old)) some.written ∙ take_at old (concat some.told ++ []) (length old) refl
 
 -- in memory what was there is the front of what is there
-pub front_is_kept : (fault : CommandFault) (texts : FormTexts) (prefix old new : List ℕ) → BreaksMidway texts fault NoMemory (Unit {0}) prefix (Some old) (Some new)
+pub front_is_kept : (fault : CommandFault) (form : Form) (prefix old new : List ℕ) → BreaksMidway form fault NoMemory (Unit {0}) prefix (Some old) (Some new)
     → take (length old) new ≡ old
-front_is_kept fault texts prefix old new (inl (is, some)) = front_kept texts prefix old new some
-front_is_kept fault texts prefix old new (inr (is, some)) = front_kept texts prefix old new (some tt)
+front_is_kept fault form prefix old new (inl (is, some)) = front_kept form prefix old new some
+front_is_kept fault form prefix old new (inr (is, some)) = front_kept form prefix old new (some tt)
 
 -- ---- behind it the line of the fault
 
-with_line : (texts : FormTexts) (prefix line : List ℕ) (old between new : Option (List ℕ)) → TellsSome texts prefix [] old between → Appends between new line → TellsSome texts prefix line old new
-with_line texts prefix line old between new some written = record {
+with_line : (form : Form) (prefix line : List ℕ) (old between new : Option (List ℕ)) → TellsSome form prefix [] old between → Appends between new line → TellsSome form prefix line old new
+with_line form prefix line old between new some written = record {
   answers = some.answers;
   told = some.told;
   left = some.left;
@@ -97,23 +97,23 @@ with_line texts prefix line old between new some written = record {
   written = subst (λ bytes. Appends old new (bytes ++ line)) (append-nil (concat some.told)) (Appends-trans old between new (concat some.told ++ []) line some.written written);
 }
 
-unless_output : (last fault : CommandFault) (texts : FormTexts) (prefix : List ℕ) (old between new : Option (List ℕ))
-    → UnlessOutput last ((last ≡ fault) × Appends between new (fault_line fault)) → UnlessOutput fault (TellsSome texts prefix [] old between)
-    → UnlessOutput last (TellsSome texts prefix (fault_line last) old new)
-unless_output Output fault texts prefix old between new ends some = tt
-unless_output Input Input texts prefix old between new (is, written) some = with_line texts prefix (fault_line Input) old between new some written
-unless_output NoMemory NoMemory texts prefix old between new (is, written) some = with_line texts prefix (fault_line NoMemory) old between new some written
-unless_output Input Output texts prefix old between new (is, written) some = absurd cc
-unless_output Input NoMemory texts prefix old between new (is, written) some = absurd cc
-unless_output NoMemory Input texts prefix old between new (is, written) some = absurd cc
-unless_output NoMemory Output texts prefix old between new (is, written) some = absurd cc
+unless_output : (last fault : CommandFault) (form : Form) (prefix : List ℕ) (old between new : Option (List ℕ))
+    → UnlessOutput last ((last ≡ fault) × Appends between new (fault_line fault)) → UnlessOutput fault (TellsSome form prefix [] old between)
+    → UnlessOutput last (TellsSome form prefix (fault_line last) old new)
+unless_output Output fault form prefix old between new ends some = tt
+unless_output Input Input form prefix old between new (is, written) some = with_line form prefix (fault_line Input) old between new some written
+unless_output NoMemory NoMemory form prefix old between new (is, written) some = with_line form prefix (fault_line NoMemory) old between new some written
+unless_output Input Output form prefix old between new (is, written) some = absurd cc
+unless_output Input NoMemory form prefix old between new (is, written) some = absurd cc
+unless_output NoMemory Input form prefix old between new (is, written) some = absurd cc
+unless_output NoMemory Output form prefix old between new (is, written) some = absurd cc
 
-pub ends_midway : (ended : Result Bool CommandFault) (status : ExitStatus) (texts : FormTexts) (prefix : List ℕ) (old between new : Option (List ℕ))
-    → Finishes ended status between new → IfErr ended (λ fault. UnlessOutput fault (TellsSome texts prefix [] old between))
-    → IfFailed status (λ last. UnlessOutput last (TellsSome texts prefix (fault_line last) old new))
-ends_midway (Ok false) status texts prefix old between new (is, same) some = rw is tt
-ends_midway (Ok true) status texts prefix old between new (is, same) some = rw is tt
-ends_midway (Err fault) Done texts prefix old between new ends some = tt
-ends_midway (Err fault) Refused texts prefix old between new ends some = tt
-ends_midway (Err fault) Usage texts prefix old between new ends some = absurd ends
-ends_midway (Err fault) (Failed last) texts prefix old between new ends some = unless_output last fault texts prefix old between new ends some
+pub ends_midway : (ended : Result Bool CommandFault) (status : ExitStatus) (form : Form) (prefix : List ℕ) (old between new : Option (List ℕ))
+    → Finishes ended status between new → IfErr ended (λ fault. UnlessOutput fault (TellsSome form prefix [] old between))
+    → IfFailed status (λ last. UnlessOutput last (TellsSome form prefix (fault_line last) old new))
+ends_midway (Ok false) status form prefix old between new (is, same) some = rw is tt
+ends_midway (Ok true) status form prefix old between new (is, same) some = rw is tt
+ends_midway (Err fault) Done form prefix old between new ends some = tt
+ends_midway (Err fault) Refused form prefix old between new ends some = tt
+ends_midway (Err fault) Usage form prefix old between new ends some = absurd ends
+ends_midway (Err fault) (Failed last) form prefix old between new ends some = unless_output last fault form prefix old between new ends some

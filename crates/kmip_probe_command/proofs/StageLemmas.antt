@@ -6,9 +6,9 @@ use Rattle.kmip_probe.specs.Judging.{AreFindings, answer_at, names_are_unique, i
 use Rattle.kmip_probe.specs.declared.answer.Answer.{Answer}
 use Rattle.kmip_probe.specs.declared.answer.Answer.TheVariants.{Nothing}
 use Rattle.kmip_probe.specs.declared.findings.Findings.{Findings}
-use Rattle.kmip_probe_command.specs.FormTexts.{FormTexts}
+use Rattle.kmip_report.specs.declared.form.Form.{Form}
 use Rattle.kmip_probe_command.specs.Midway.{line_by}
-use Rattle.kmip_probe_command.specs.ProbeText.{line_of, report_text}
+use Rattle.kmip_probe_command.specs.ProbeText.{end_text, finding_text, line_of, report_text}
 use Rattle.kmip_probe_command.specs.Private.{rest_text}
 use Rattle.kmip_probe_command.specs.declared.premise.Premise.{Premise}
 use Rattle.kmip_probe_command.specs.declared.premise.Premise.TheVariants as premise
@@ -76,47 +76,47 @@ told_stays prefix answers more all = let a = at answers more 8 (omega (arith, al
 
 -- ---- the lines
 
-pub early_stays : (texts : FormTexts) (prefix : List ℕ) (answers later more : List Answer) → later ≡ answers ++ more → 8 ≤ length answers
-    → flat_map (line_by texts prefix later) EARLY ≡ flat_map (line_by texts prefix answers) EARLY
-early_stays texts prefix answers later more is all =
-    ap (λ xs. flat_map (line_by texts prefix xs) EARLY) is
-    ∙ ap (λ finding. texts.premise_line premise.NamesAreUnique finding ++ []) (unique_stays answers more all)
+pub early_stays : (form : Form) (prefix : List ℕ) (answers later more : List Answer) → later ≡ answers ++ more → 8 ≤ length answers
+    → flat_map (line_by form prefix later) EARLY ≡ flat_map (line_by form prefix answers) EARLY
+early_stays form prefix answers later more is all =
+    ap (λ xs. flat_map (line_by form prefix xs) EARLY) is
+    ∙ ap (λ finding. finding_text form premise.NamesAreUnique finding ++ []) (unique_stays answers more all)
 
 -- a line before others
 before : {line same lines others : List ℕ} → line ≡ same → lines ≡ others → line ++ lines ≡ same ++ others
 before is are = ap₂ (λ line lines. line ++ lines) is are
 
-late_lines : (texts : FormTexts) (prefix : List ℕ) (answers more : List Answer) → 23 ≤ length answers
-    → flat_map (line_by texts prefix (answers ++ more)) LATE ≡ flat_map (line_by texts prefix answers) LATE
-late_lines texts prefix answers more all =
-    before (ap (texts.premise_line premise.NamesStayUsed) (used_stays answers more all))
-    (before (ap (texts.premise_line premise.StepsCountOnce) (once_stays answers more all))
-    (before (ap (texts.premise_line premise.ActiveIsKept) (active_stays answers more all))
-    (before (ap (texts.premise_line premise.ObjectsAreFound) (found_stays answers more all))
-    (before (ap (texts.premise_line premise.DestroyedAreFound) (destroyed_found_stays answers more all))
-    (before (ap (texts.premise_line premise.AttributesAreTold) (told_stays prefix answers more all)) refl)))))
+late_lines : (form : Form) (prefix : List ℕ) (answers more : List Answer) → 23 ≤ length answers
+    → flat_map (line_by form prefix (answers ++ more)) LATE ≡ flat_map (line_by form prefix answers) LATE
+late_lines form prefix answers more all =
+    before (ap (finding_text form premise.NamesStayUsed) (used_stays answers more all))
+    (before (ap (finding_text form premise.StepsCountOnce) (once_stays answers more all))
+    (before (ap (finding_text form premise.ActiveIsKept) (active_stays answers more all))
+    (before (ap (finding_text form premise.ObjectsAreFound) (found_stays answers more all))
+    (before (ap (finding_text form premise.DestroyedAreFound) (destroyed_found_stays answers more all))
+    (before (ap (finding_text form premise.AttributesAreTold) (told_stays prefix answers more all)) refl)))))
 
-pub late_stays : (texts : FormTexts) (prefix : List ℕ) (answers later more : List Answer) → later ≡ answers ++ more → 23 ≤ length answers
-    → flat_map (line_by texts prefix later) LATE ≡ flat_map (line_by texts prefix answers) LATE
-late_stays texts prefix answers later more is all = ap (λ xs. flat_map (line_by texts prefix xs) LATE) is ∙ late_lines texts prefix answers more all
+pub late_stays : (form : Form) (prefix : List ℕ) (answers later more : List Answer) → later ≡ answers ++ more → 23 ≤ length answers
+    → flat_map (line_by form prefix later) LATE ≡ flat_map (line_by form prefix answers) LATE
+late_stays form prefix answers later more is all = ap (λ xs. flat_map (line_by form prefix xs) LATE) is ∙ late_lines form prefix answers more all
 
-line_is : (texts : FormTexts) (prefix : List ℕ) (answers : List Answer) (findings : Findings) → AreFindings prefix answers findings → (p : Premise)
-    → line_of texts findings p ≡ line_by texts prefix answers p
-line_is texts prefix answers findings are premise.NamesAreUnique = ap (texts.premise_line premise.NamesAreUnique) are.unique
-line_is texts prefix answers findings are premise.NamesStayUsed = ap (texts.premise_line premise.NamesStayUsed) are.used
-line_is texts prefix answers findings are premise.StepsCountOnce = ap (texts.premise_line premise.StepsCountOnce) are.once
-line_is texts prefix answers findings are premise.ActiveIsKept = ap (texts.premise_line premise.ActiveIsKept) are.active
-line_is texts prefix answers findings are premise.ObjectsAreFound = ap (texts.premise_line premise.ObjectsAreFound) are.found
-line_is texts prefix answers findings are premise.DestroyedAreFound = ap (texts.premise_line premise.DestroyedAreFound) are.destroyed
-line_is texts prefix answers findings are premise.AttributesAreTold = ap (texts.premise_line premise.AttributesAreTold) are.told
-line_is texts prefix answers findings are premise.IdsAreEchoed = ap (texts.premise_line premise.IdsAreEchoed) are.echoed
+line_is : (form : Form) (prefix : List ℕ) (answers : List Answer) (findings : Findings) → AreFindings prefix answers findings → (p : Premise)
+    → line_of form findings p ≡ line_by form prefix answers p
+line_is form prefix answers findings are premise.NamesAreUnique = ap (finding_text form premise.NamesAreUnique) are.unique
+line_is form prefix answers findings are premise.NamesStayUsed = ap (finding_text form premise.NamesStayUsed) are.used
+line_is form prefix answers findings are premise.StepsCountOnce = ap (finding_text form premise.StepsCountOnce) are.once
+line_is form prefix answers findings are premise.ActiveIsKept = ap (finding_text form premise.ActiveIsKept) are.active
+line_is form prefix answers findings are premise.ObjectsAreFound = ap (finding_text form premise.ObjectsAreFound) are.found
+line_is form prefix answers findings are premise.DestroyedAreFound = ap (finding_text form premise.DestroyedAreFound) are.destroyed
+line_is form prefix answers findings are premise.AttributesAreTold = ap (finding_text form premise.AttributesAreTold) are.told
+line_is form prefix answers findings are premise.IdsAreEchoed = ap (finding_text form premise.IdsAreEchoed) are.echoed
 
-pub lines_are : (texts : FormTexts) (prefix : List ℕ) (answers : List Answer) (findings : Findings) → AreFindings prefix answers findings → (ps : List Premise)
-    → flat_map (line_of texts findings) ps ≡ flat_map (line_by texts prefix answers) ps
-lines_are texts prefix answers findings are [] = refl
-lines_are texts prefix answers findings are (p ∷ ps) =
-    ap (λ line. line ++ flat_map (line_of texts findings) ps) (line_is texts prefix answers findings are p)
-    ∙ ap (λ lines. line_by texts prefix answers p ++ lines) (lines_are texts prefix answers findings are ps)
+pub lines_are : (form : Form) (prefix : List ℕ) (answers : List Answer) (findings : Findings) → AreFindings prefix answers findings → (ps : List Premise)
+    → flat_map (line_of form findings) ps ≡ flat_map (line_by form prefix answers) ps
+lines_are form prefix answers findings are [] = refl
+lines_are form prefix answers findings are (p ∷ ps) =
+    ap (λ line. line ++ flat_map (line_of form findings) ps) (line_is form prefix answers findings are p)
+    ∙ ap (λ lines. line_by form prefix answers p ++ lines) (lines_are form prefix answers findings are ps)
 
 -- ---- all together
 
@@ -128,20 +128,20 @@ parts f early late last end =
     ∙ append_assoc (flat_map f early) (flat_map f late ++ flat_map f last) end
     ∙ ap (λ lines. flat_map f early ++ lines) (append_assoc (flat_map f late) (flat_map f last) end)
 
-report_in_parts : (texts : FormTexts) (findings : Findings) → report_text texts findings ≡ flat_map (line_of texts findings) EARLY ++ (flat_map (line_of texts findings) LATE ++ rest_text texts findings)
-report_in_parts texts findings =
-    parts (line_of texts findings) EARLY LATE (premise.IdsAreEchoed ∷ []) (texts.last_lines findings)
-    ∙ ap (λ line. flat_map (line_of texts findings) EARLY ++ (flat_map (line_of texts findings) LATE ++ (line ++ texts.last_lines findings)))
-    (append-nil (line_of texts findings premise.IdsAreEchoed))
+report_in_parts : (form : Form) (findings : Findings) → report_text form findings ≡ flat_map (line_of form findings) EARLY ++ (flat_map (line_of form findings) LATE ++ rest_text form findings)
+report_in_parts form findings =
+    parts (line_of form findings) EARLY LATE (premise.IdsAreEchoed ∷ []) (end_text form findings)
+    ∙ ap (λ line. flat_map (line_of form findings) EARLY ++ (flat_map (line_of form findings) LATE ++ (line ++ end_text form findings)))
+    (append-nil (line_of form findings premise.IdsAreEchoed))
 
 -- what was told early, late and at last is the report
-pub report_is : (texts : FormTexts) (prefix : List ℕ) (early late all more rest : List Answer) (findings : Findings) → late ≡ early ++ more → all ≡ late ++ rest
+pub report_is : (form : Form) (prefix : List ℕ) (early late all more rest : List Answer) (findings : Findings) → late ≡ early ++ more → all ≡ late ++ rest
     → 8 ≤ length early → 23 ≤ length late → AreFindings prefix all findings
-    → flat_map (line_by texts prefix early) EARLY ++ (flat_map (line_by texts prefix late) LATE ++ rest_text texts findings) ≡ report_text texts findings
-report_is texts prefix early late all more rest findings is_late is_all eight most are =
-    let first = sym (early_stays texts prefix early late more is_late eight)
-    ∙ sym (early_stays texts prefix late all rest is_all (omega (arith, most))) ∙ sym (lines_are texts prefix all findings are EARLY) in
-    let later = sym (late_stays texts prefix late all rest is_all most) ∙ sym (lines_are texts prefix all findings are LATE) in
-    ap (λ lines. lines ++ (flat_map (line_by texts prefix late) LATE ++ rest_text texts findings)) first
-    ∙ ap (λ lines. flat_map (line_of texts findings) EARLY ++ (lines ++ rest_text texts findings)) later
-    ∙ sym (report_in_parts texts findings)
+    → flat_map (line_by form prefix early) EARLY ++ (flat_map (line_by form prefix late) LATE ++ rest_text form findings) ≡ report_text form findings
+report_is form prefix early late all more rest findings is_late is_all eight most are =
+    let first = sym (early_stays form prefix early late more is_late eight)
+    ∙ sym (early_stays form prefix late all rest is_all (omega (arith, most))) ∙ sym (lines_are form prefix all findings are EARLY) in
+    let later = sym (late_stays form prefix late all rest is_all most) ∙ sym (lines_are form prefix all findings are LATE) in
+    ap (λ lines. lines ++ (flat_map (line_by form prefix late) LATE ++ rest_text form findings)) first
+    ∙ ap (λ lines. flat_map (line_of form findings) EARLY ++ (lines ++ rest_text form findings)) later
+    ∙ sym (report_in_parts form findings)

@@ -18,15 +18,16 @@ use Rattle.kmip_protocol.specs.Seen.{Seen}
 use Rattle.kmip_probe.specs.declared.answer.Answer.{Answer}
 use Rattle.kmip_probe.proofs.ProbingLemmas.{so_many}
 use Rattle.kmip_probe.proofs.ServedLemmas.{all_served, goes_on}
-use Rattle.kmip_probe_command.specs.FormTexts.{FormTexts}
+use Rattle.kmip_report.specs.declared.form.Form.{Form}
+use Rattle.kmip_probe_command.specs.KeptLines.{kept_lines}
 use Rattle.kmip_probe_command.specs.Midway.{line_by}
 use Rattle.kmip_probe_command.specs.Private.{TellsEnd, rest_text}
-use Rattle.kmip_probe_command.specs.ProbeText.{TellsAllKept, TellsFrom, WritesProbe, looked_text, making_text, report_text, unbegun_text}
+use Rattle.kmip_probe_command.specs.ProbeText.{TellsFrom, WritesProbe, looked_text, making_text, report_text, unbegun_text}
 use Rattle.kmip_message_commands.specs.declared.command_fault.CommandFault.{CommandFault}
 use Rattle.kmip_probe_command.specs.declared.premise.Premise.TheVariants as premise
 use Rattle.kmip_probe_command.specs.declared.premise.TheConstants.{EARLY, LATE}
 use Rattle.kmip_probe_command.proofs.StageLemmas.{early_stays, report_is}
-use Rattle.kmip_probe_command.proofs.ToldLemmas.{all_are_kept}
+use Rattle.kmip_probe_command.proofs.ToldLemmas.{all_are_kept, all_told}
 
 -- ---- how many answers there are
 
@@ -51,44 +52,44 @@ all_there answers all more most is two first second fewer few whole =
 -- ---- what was written
 
 -- the line of the keys
-pub one_line : (texts : FormTexts) (prefix : List ℕ) (old new : Option (List ℕ)) → Appends old new (making_text texts prefix) → Appends old new (concat (making_text texts prefix ∷ []))
-one_line texts prefix old new named = subst (Appends old new) (sym (append-nil (making_text texts prefix))) named
+pub one_line : (form : Form) (prefix : List ℕ) (old new : Option (List ℕ)) → Appends old new (making_text form prefix) → Appends old new (concat (making_text form prefix ∷ []))
+one_line form prefix old new named = subst (Appends old new) (sym (append-nil (making_text form prefix))) named
 
 -- and the first line
-pub two_lines : (texts : FormTexts) (prefix : List ℕ) (early : List Answer) (old making new : Option (List ℕ)) → Appends old making (making_text texts prefix)
-    → Appends making new (flat_map (line_by texts prefix early) EARLY) → Appends old new (concat (making_text texts prefix ∷ map (line_by texts prefix early) EARLY))
-two_lines texts prefix early old making new named told = Appends-trans old making new (making_text texts prefix) (flat_map (line_by texts prefix early) EARLY) named told
+pub two_lines : (form : Form) (prefix : List ℕ) (early : List Answer) (old making new : Option (List ℕ)) → Appends old making (making_text form prefix)
+    → Appends making new (flat_map (line_by form prefix early) EARLY) → Appends old new (concat (making_text form prefix ∷ map (line_by form prefix early) EARLY))
+two_lines form prefix early old making new named told = Appends-trans old making new (making_text form prefix) (flat_map (line_by form prefix early) EARLY) named told
 
 joined : (making line others : List ℕ) → making ++ (line ++ []) ++ others ≡ making ++ (line ++ others)
 joined making line others = append_assoc making (line ++ []) others ∙ ap (λ first. making ++ (first ++ others)) (append-nil line)
 
 -- and the next six
-pub eight_lines : (texts : FormTexts) (prefix : List ℕ) (early late more : List Answer) (old making first new : Option (List ℕ)) → late ≡ early ++ more → 8 ≤ length early
-    → Appends old making (making_text texts prefix) → Appends making first (flat_map (line_by texts prefix early) EARLY)
-    → Appends first new (flat_map (line_by texts prefix late) LATE)
-    → Appends old new (concat (making_text texts prefix ∷ map (line_by texts prefix late) (EARLY ++ LATE)))
-eight_lines texts prefix early late more old making first new is eight named told later =
-    let same = subst (Appends making first) (sym (early_stays texts prefix early late more is eight)) told in
-    let lines = Appends-trans old making first (making_text texts prefix) (flat_map (line_by texts prefix late) EARLY) named same in
-    let all = Appends-trans old first new (making_text texts prefix ++ flat_map (line_by texts prefix late) EARLY) (flat_map (line_by texts prefix late) LATE) lines later in
-    subst (Appends old new) (joined (making_text texts prefix) (line_by texts prefix late premise.NamesAreUnique) (flat_map (line_by texts prefix late) LATE)) all
+pub eight_lines : (form : Form) (prefix : List ℕ) (early late more : List Answer) (old making first new : Option (List ℕ)) → late ≡ early ++ more → 8 ≤ length early
+    → Appends old making (making_text form prefix) → Appends making first (flat_map (line_by form prefix early) EARLY)
+    → Appends first new (flat_map (line_by form prefix late) LATE)
+    → Appends old new (concat (making_text form prefix ∷ map (line_by form prefix late) (EARLY ++ LATE)))
+eight_lines form prefix early late more old making first new is eight named told later =
+    let same = subst (Appends making first) (sym (early_stays form prefix early late more is eight)) told in
+    let lines = Appends-trans old making first (making_text form prefix) (flat_map (line_by form prefix late) EARLY) named same in
+    let all = Appends-trans old first new (making_text form prefix ++ flat_map (line_by form prefix late) EARLY) (flat_map (line_by form prefix late) LATE) lines later in
+    subst (Appends old new) (joined (making_text form prefix) (line_by form prefix late premise.NamesAreUnique) (flat_map (line_by form prefix late) LATE)) all
 
 -- and all others
-pub told_report : (texts : FormTexts) (prefix : List ℕ) (early late all more rest : List Answer) (refused : Bool) (old making first second new : Option (List ℕ))
+pub told_report : (form : Form) (prefix : List ℕ) (early late all more rest : List Answer) (refused : Bool) (old making first second new : Option (List ℕ))
     → late ≡ early ++ more → all ≡ late ++ rest → 8 ≤ length early → 23 ≤ length late
-    → Appends old making (making_text texts prefix) → Appends making first (flat_map (line_by texts prefix early) EARLY)
-    → Appends first second (flat_map (line_by texts prefix late) LATE) → TellsEnd (rest_text texts) prefix all refused second new
-    → TellsEnd (λ findings. making_text texts prefix ++ report_text texts findings) prefix all refused old new
-told_report texts prefix early late all more rest refused old making first second new is_late is_all eight most named told later (findings, are, refused_is, ended) =
-    let lines = flat_map (line_by texts prefix early) EARLY in
-    let others = flat_map (line_by texts prefix late) LATE in
-    let behind = Appends-trans first second new others (rest_text texts findings) later ended in
-    let report = Appends-trans making first new lines (others ++ rest_text texts findings) told behind in
-    let whole = Appends-trans old making new (making_text texts prefix) (lines ++ (others ++ rest_text texts findings)) named report in (
+    → Appends old making (making_text form prefix) → Appends making first (flat_map (line_by form prefix early) EARLY)
+    → Appends first second (flat_map (line_by form prefix late) LATE) → TellsEnd (rest_text form) prefix all refused second new
+    → TellsEnd (λ findings. making_text form prefix ++ report_text form findings) prefix all refused old new
+told_report form prefix early late all more rest refused old making first second new is_late is_all eight most named told later (findings, are, refused_is, ended) =
+    let lines = flat_map (line_by form prefix early) EARLY in
+    let others = flat_map (line_by form prefix late) LATE in
+    let behind = Appends-trans first second new others (rest_text form findings) later ended in
+    let report = Appends-trans making first new lines (others ++ rest_text form findings) told behind in
+    let whole = Appends-trans old making new (making_text form prefix) (lines ++ (others ++ rest_text form findings)) named report in (
       findings,
       are,
       refused_is,
-      subst (λ text. Appends old new (making_text texts prefix ++ text)) (report_is texts prefix early late all more rest findings is_late is_all eight most are) whole,
+      subst (λ text. Appends old new (making_text form prefix ++ text)) (report_is form prefix early late all more rest findings is_late is_all eight most are) whole,
     )
 
 -- ---- where the report was told
@@ -122,83 +123,83 @@ looked_at true false why other none = absurd cc
 looked_at false second why other none = absurd cc
 
 -- where no reason was told, both names are free
-pub looked_free : (texts : FormTexts) (prefix : List ℕ) (answers : List Answer) → unbegun_text texts prefix answers ≡ None
+pub looked_free : (form : Form) (prefix : List ℕ) (answers : List Answer) → unbegun_text form prefix answers ≡ None
     → (is_free_at answers 0 ≡ true) × (is_free_at answers 1 ≡ true)
-looked_free texts prefix answers none =
-    looked_at (is_free_at answers 0) (is_free_at answers 1) (looked_text texts (name_of Second prefix) (answer_at answers 1))
-    (looked_text texts (name_of First prefix) (answer_at answers 0)) none
+looked_free form prefix answers none =
+    looked_at (is_free_at answers 0) (is_free_at answers 1) (looked_text form (name_of Second prefix) (answer_at answers 1))
+    (looked_text form (name_of First prefix) (answer_at answers 0)) none
 
-pub still_begun : (texts : FormTexts) (prefix : List ℕ) (answers all : List Answer) → (more : List Answer) × (all ≡ answers ++ more) → length answers ≡ 2
-    → unbegun_text texts prefix answers ≡ None → unbegun_text texts prefix all ≡ None
-still_begun texts prefix answers all (more, is) two none =
-    let (first, second) = looked_free texts prefix answers none in
+pub still_begun : (form : Form) (prefix : List ℕ) (answers all : List Answer) → (more : List Answer) × (all ≡ answers ++ more) → length answers ≡ 2
+    → unbegun_text form prefix answers ≡ None → unbegun_text form prefix all ≡ None
+still_begun form prefix answers all (more, is) two none =
+    let (first, second) = looked_free form prefix answers none in
     let still_first = still_free answers all more is two 0 (inl refl) ∙ first in
     let still_second = still_free answers all more is two 1 (inr refl) ∙ second in rw (still_first, still_second) refl
 
 -- why nothing was made was told
-pub told_unbegun : (texts : FormTexts) (prefix : List ℕ) (answers : List Answer) (before after : Seen) (refused : Bool)
+pub told_unbegun : (form : Form) (prefix : List ℕ) (answers : List Answer) (before after : Seen) (refused : Bool)
     (text : List ℕ) (old new : Option (List ℕ)) → ((names : Names) → before.honest names → AreAsked prefix answers before.past after.past)
     → ((names : Names) → before.calm names → AreSentOnce prefix answers before.past after.past)
-    → Some text ≡ unbegun_text texts prefix answers → (refused ≡ true) × Appends old new text → WritesProbe texts prefix before after refused old new
-told_unbegun texts prefix answers before after refused text old new asked once is (refused_is, written) = record {
+    → Some text ≡ unbegun_text form prefix answers → (refused ≡ true) × Appends old new text → WritesProbe form prefix before after refused old new
+told_unbegun form prefix answers before after refused text old new asked once is (refused_is, written) = record {
   answers = answers;
   text = text;
   asked = asked;
   once = once;
-  tells = subst (λ unbegun. TellsFrom texts prefix answers unbegun refused text) is (refused_is, refl);
+  tells = subst (λ unbegun. TellsFrom form prefix answers unbegun refused text) is (refused_is, refl);
   written = written;
 }
 
-told_begun : (texts : FormTexts) (prefix : List ℕ) (answers : List Answer) (before after : Seen) (refused : Bool)
+told_begun : (form : Form) (prefix : List ℕ) (answers : List Answer) (before after : Seen) (refused : Bool)
     (old new : Option (List ℕ)) → ((names : Names) → before.honest names → AreAsked prefix answers before.past after.past)
     → ((names : Names) → before.calm names → AreSentOnce prefix answers before.past after.past)
-    → unbegun_text texts prefix answers ≡ None → TellsEnd (λ findings. making_text texts prefix ++ report_text texts findings) prefix answers refused old new
-    → WritesProbe texts prefix before after refused old new
-told_begun texts prefix answers before after refused old new asked once none (findings, are, refused_is, written) = record {
+    → unbegun_text form prefix answers ≡ None → TellsEnd (λ findings. making_text form prefix ++ report_text form findings) prefix answers refused old new
+    → WritesProbe form prefix before after refused old new
+told_begun form prefix answers before after refused old new asked once none (findings, are, refused_is, written) = record {
   answers = answers;
-  text = making_text texts prefix ++ report_text texts findings;
+  text = making_text form prefix ++ report_text form findings;
   asked = asked;
   once = once;
   tells =
-      subst (λ unbegun. TellsFrom texts prefix answers unbegun refused (making_text texts prefix ++ report_text texts findings)) (sym none)
+      subst (λ unbegun. TellsFrom form prefix answers unbegun refused (making_text form prefix ++ report_text form findings)) (sym none)
       (findings, are, refused_is, refl);
   written = written;
 }
 
 -- what was found was told, of all questions that were asked
-pub told_on : (texts : FormTexts) (prefix : List ℕ) (begun answers : List Answer) (before between after : Seen)
+pub told_on : (form : Form) (prefix : List ℕ) (begun answers : List Answer) (before between after : Seen)
     (result : Result Bool CommandFault) (old new : Option (List ℕ))
     → ((names : Names) → before.honest names → between.honest names × AreAsked prefix begun before.past between.past)
     → ((names : Names) → between.honest names → IfOk result (λ r. AsksOn prefix begun answers between.past after.past))
     → ((names : Names) → before.calm names → between.calm names × AreSentOnce prefix begun before.past between.past)
     → ((names : Names) → between.calm names → IfOk result (λ r. SendsOnce prefix begun answers between.past after.past))
-    → unbegun_text texts prefix answers ≡ None
-    → IfOk result (λ r. TellsEnd (λ findings. making_text texts prefix ++ report_text texts findings) prefix answers r old new)
-    → IfOk result (λ r. WritesProbe texts prefix before after r old new)
-told_on texts prefix begun answers before between after (Ok r) old new asked further once more none tells =
-    told_begun texts prefix answers before after r old new
+    → unbegun_text form prefix answers ≡ None
+    → IfOk result (λ r. TellsEnd (λ findings. making_text form prefix ++ report_text form findings) prefix answers r old new)
+    → IfOk result (λ r. WritesProbe form prefix before after r old new)
+told_on form prefix begun answers before between after (Ok r) old new asked further once more none tells =
+    told_begun form prefix answers before after r old new
     (λ names honest_before. let (still, first) = asked names honest_before in further names still before.past first)
     (λ names calm_before. let (still, first) = once names calm_before in more names still before.past first) none tells
-told_on texts prefix begun answers before between after (Err fault) old new asked further once more none tells = tt
+told_on form prefix begun answers before between after (Err fault) old new asked further once more none tells = tt
 
 -- ---- over a calm link to a server of the profile
 
 -- both names are seen to be free
-pub kept_looks : (texts : FormTexts) (prefix : List ℕ) (answers : List Answer) (p : Past) → length answers ≤ 2 → (next_inquiry answers ≡ None) ⊎ (length answers ≡ 2)
-    → AreServed prefix answers p → unbegun_text texts prefix answers ≡ None
-kept_looks texts prefix answers p fewer (inl none) served = absurd (goes_on prefix answers p (omega (arith, fewer)) served none)
-kept_looks texts prefix answers p fewer (inr two) served =
+pub kept_looks : (form : Form) (prefix : List ℕ) (answers : List Answer) (p : Past) → length answers ≤ 2 → (next_inquiry answers ≡ None) ⊎ (length answers ≡ 2)
+    → AreServed prefix answers p → unbegun_text form prefix answers ≡ None
+kept_looks form prefix answers p fewer (inl none) served = absurd (goes_on prefix answers p (omega (arith, fewer)) served none)
+kept_looks form prefix answers p fewer (inr two) served =
     let is = served.answers_are ∙ ap (λ n. map Told (take n (outcomes_of prefix served.first served.second))) two in rw is refl
 
 -- and every premise is told as kept
-pub kept_on : ProfileKeepsAll → (texts : FormTexts) → TellsAllKept texts → (prefix : List ℕ) (answers : List Answer) (p : Past) (result : Result Bool CommandFault) (old new : Option (List ℕ))
+pub kept_on : ProfileKeepsAll → (form : Form) (prefix : List ℕ) (answers : List Answer) (p : Past) (result : Result Bool CommandFault) (old new : Option (List ℕ))
     → IfOk result (λ r. AreServed prefix answers p) → IfOk result (λ r. length answers ≡ 25)
-    → IfOk result (λ r. TellsEnd (λ findings. making_text texts prefix ++ report_text texts findings) prefix answers r old new)
-    → IfOk result (λ r. (r ≡ false) × Appends old new (making_text texts prefix ++ texts.kept_lines))
-kept_on l texts law prefix answers p (Err fault) old new served all tells = tt
-kept_on l texts law prefix answers p (Ok r) old new served all (findings, are, refused_is, written) =
+    → IfOk result (λ r. TellsEnd (λ findings. making_text form prefix ++ report_text form findings) prefix answers r old new)
+    → IfOk result (λ r. (r ≡ false) × Appends old new (making_text form prefix ++ kept_lines form))
+kept_on l form prefix answers p (Err fault) old new served all tells = tt
+kept_on l form prefix answers p (Ok r) old new served all (findings, are, refused_is, written) =
     let (first, second, is) = all_served prefix answers p all served in
     let same = subst (λ xs. AreFindings prefix xs findings) is are in
     let all_kept = all_are_kept prefix (map Told (outcomes_of prefix first second)) findings (l prefix first second) same in
-    let report = law prefix (map Told (outcomes_of prefix first second)) findings (l prefix first second) same in
-    (refused_is ∙ ap not all_kept, subst (λ text. Appends old new (making_text texts prefix ++ text)) report written)
+    let report = all_told form prefix (map Told (outcomes_of prefix first second)) findings (l prefix first second) same in
+    (refused_is ∙ ap not all_kept, subst (λ text. Appends old new (making_text form prefix ++ text)) report written)

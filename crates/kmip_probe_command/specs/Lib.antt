@@ -1,13 +1,13 @@
 -- What `probe` writes for the answers of its questions.
 
--- what a form of the report says
-pub mod FormTexts
--- what is printed of each premise, and of all of them, as plain text
+-- the words for each premise, and for all of them
 pub mod Wording
--- what is printed of the looks at the two names, as plain text
+-- the words for a look at a name that told nothing
 pub mod LookText
--- the form of plain text
-pub mod PlainTexts
+-- the lines of the report
+pub mod Lines
+-- what is printed of the premises where each is kept
+pub mod KeptLines
 -- what the whole probe writes, in a form
 pub mod ProbeText
 -- what was written where a probe breaks off

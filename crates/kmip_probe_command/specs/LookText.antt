@@ -1,32 +1,19 @@
--- What `probe` writes of its looks at the two names: why nothing was made, or which keys are about to be.
+-- What `probe` writes of a look at a name: why it could not be told whether the name is free.
 -- Source: own (text): what the program prints.
-use Rattle.std.specs.Prelude.{ℕ, List, [], ◌∷◌, ◌++◌, codes, Option, Some, None}
+use Rattle.std.specs.Prelude.{ℕ, List, [], ◌++◌, codes, Option, Some, None}
 use Rattle.std.specs.Fmt.{decimal}
 use Rattle.hex.specs.Hex.{encode_lower}
 use Rattle.byteorder.specs.Endian.{big_bytes}
 use Rattle.kmip_ttlv.specs.Faults.{fault_name, fault_offset}
-use Rattle.kmip_ttlv.specs.Showing.{plain_text}
 use Rattle.kmip_ttlv.specs.declared.ttlv_fault.TtlvFault.{TtlvFault}
 use Rattle.kmip_batch_items.specs.Faults.{message_fault_items, message_fault_name, message_fault_tag}
 use Rattle.kmip_batch_items.specs.declared.message_fault.MessageFault.{MessageFault}
 use Rattle.kmip_batch_items.specs.declared.message_fault.MessageFault.TheVariants.{Version}
 use Rattle.kmip_batch_items.specs.declared.outcome.Outcome.{Outcome}
-use Rattle.kmip_batch_items.specs.declared.outcome.Outcome.TheVariants.{Located, Failed}
+use Rattle.kmip_batch_items.specs.declared.outcome.Outcome.TheVariants.{Failed}
 use Rattle.kmip_message_commands.specs.Showing.{offset_text}
 use Rattle.kmip_probe.specs.declared.protocol_version.ProtocolVersion.{ProtocolVersion}
 use Rattle.kmip_probe.specs.declared.unread.Unread.{Unread}
-
--- The line of two keys that are about to be made.
-abbrev pub pair_text : List ℕ → List ℕ → List ℕ
-pair_text first second = codes "making two keys: " ++ first ++ codes " and " ++ second ++ codes "\n"
-
--- The line that says that an object has the name, and so nothing was made.
-unfoldable pub used_text : List ℕ → List ℕ → List ℕ
-used_text name uid = name ++ codes " is used already, and nothing was made; its object is " ++ plain_text uid ++ codes "\n"
-
--- The line that says why it could not be told whether the name is free, and that nothing was made.
-unfoldable pub unsure_text : List ℕ → List ℕ → List ℕ
-unsure_text why name = why ++ codes ": whether " ++ name ++ codes " is free could not be told; nothing was made\n"
 
 -- The tag that a fault is about, as six hexadecimal digits, where there is one.
 abbrev pub tag_text : Option ℕ → List ℕ
@@ -69,8 +56,3 @@ silent_text None = codes "no reply"
 abbrev pub why_text : Option Outcome → Option Unread → List ℕ
 why_text (Some (Failed reason)) unread = refused_text reason
 why_text outcome unread = silent_text unread
-
--- What is told by the outcome of the look at a name, or by why its reply can't be read.
-abbrev pub look_text : List ℕ → Option Outcome → Option Unread → List ℕ
-look_text name (Some (Located (uid ∷ uids))) unread = used_text name uid
-look_text name outcome unread = unsure_text (why_text outcome unread) name

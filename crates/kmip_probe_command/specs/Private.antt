@@ -3,8 +3,8 @@
 use Rattle.std.specs.Prelude.{ℕ, Bool, List, [], ◌++◌, ◌≡◌, ◌⊎◌, Option, not}
 use Rattle.kmip_probe_command.specs.declared.premise.Premise.TheVariants as premise
 use Rattle.kmip_probe.specs.declared.findings.Findings.{Findings}
-use Rattle.kmip_probe_command.specs.FormTexts.{FormTexts}
-use Rattle.kmip_probe_command.specs.ProbeText.{line_of}
+use Rattle.kmip_report.specs.declared.form.Form.{Form}
+use Rattle.kmip_probe_command.specs.ProbeText.{end_text, line_of}
 use Rattle.kmip_probe_command.specs.Wording.{are_all_kept}
 use Rattle.std.specs.Io.KnownBytes.{Appends}
 use Rattle.kmip_message_commands.specs.declared.command_fault.CommandFault.{CommandFault}
@@ -14,14 +14,14 @@ use Rattle.kmip_probe.specs.declared.answer.Answer.{Answer}
 use Rattle.kmip_probe_command.specs.Midway.{TellsSome}
 
 -- What is left of the report after the lines of all premises but the last.
-abbrev pub rest_text : FormTexts → Findings → List ℕ
-rest_text texts findings = line_of texts findings premise.IdsAreEchoed ++ texts.last_lines findings
+abbrev pub rest_text : Form → Findings → List ℕ
+rest_text form findings = line_of form findings premise.IdsAreEchoed ++ end_text form findings
 
 -- A probe broke off, for want of memory, or by the fault of its printer, which holds whole texts
 -- if it takes all or nothing.
-abbrev pub BreaksMidway : FormTexts → CommandFault → CommandFault → Type 0 → List ℕ → Option (List ℕ) → Option (List ℕ) → Type 0
-BreaksMidway texts fault own_fault IsWhole prefix old new =
-    ((fault ≡ NoMemory) × TellsSome texts prefix [] old new) ⊎ ((fault ≡ own_fault) × (IsWhole → TellsSome texts prefix [] old new))
+abbrev pub BreaksMidway : Form → CommandFault → CommandFault → Type 0 → List ℕ → Option (List ℕ) → Option (List ℕ) → Type 0
+BreaksMidway form fault own_fault IsWhole prefix old new =
+    ((fault ≡ NoMemory) × TellsSome form prefix [] old new) ⊎ ((fault ≡ own_fault) × (IsWhole → TellsSome form prefix [] old new))
 
 -- This was written by some findings of these answers, and whether a premise is not seen to be
 -- kept.

@@ -6,7 +6,7 @@ use Rattle.std.specs.List.{list_all, list_any}
 use Rattle.kmip_objects.specs.Lifecycle.{step_word}
 use Rattle.kmip_ttlv.specs.Showing.{plain_text}
 use Rattle.kmip_probe.specs.declared.finding.Finding.{Finding}
-use Rattle.kmip_probe.specs.declared.finding.Finding.TheVariants.{Kept, Broken, Untold}
+use Rattle.kmip_probe.specs.declared.finding.Finding.TheVariants.{Kept, Broken}
 use Rattle.kmip_probe.specs.declared.findings.Findings.{Findings}
 use Rattle.kmip_probe.specs.declared.flaw.Flaw.{Flaw}
 use Rattle.kmip_probe.specs.declared.flaw.Flaw.TheVariants.{SecondObject, StepTwice, ActiveDestroyed, NotFound, Missing, Different, Refused, NoId}
@@ -26,12 +26,6 @@ flaw_text (Different attribute) = attribute_text attribute ++ codes " is another
 flaw_text Refused = codes "it is refused"
 flaw_text NoId = codes "a reply has none, or another"
 
--- What is found of a premise.
-abbrev pub finding_text : Finding → List ℕ
-finding_text Kept = codes "yes"
-finding_text (Broken flaw) = codes "no (" ++ flaw_text flaw ++ codes ")"
-finding_text Untold = codes "could not be told"
-
 -- A premise in words.
 abbrev pub premise_text : Premise → List ℕ
 premise_text premise.NamesAreUnique = codes "names are unique"
@@ -45,14 +39,14 @@ premise_text premise.IdsAreEchoed = codes "the batch id is echoed"
 
 -- What may go wrong where a premise is broken.
 abbrev pub risk_text : Premise → List ℕ
-risk_text premise.NamesAreUnique = codes "a key may be made twice where the reply to its Create is lost\n"
-risk_text premise.NamesStayUsed = codes "a destroyed key may be made again by a Create that arrives late\n"
-risk_text premise.StepsCountOnce = codes "a request that arrives twice may change a key twice\n"
-risk_text premise.ActiveIsKept = codes "an active key may be destroyed by a Destroy that comes too early\n"
-risk_text premise.ObjectsAreFound = codes "a key that is there may be taken for none, and made again\n"
-risk_text premise.DestroyedAreFound = codes "a destroyed key may be taken for none, and made again\n"
-risk_text premise.AttributesAreTold = codes "a key that was there before is not told from the plan's, and is left alone\n"
-risk_text premise.IdsAreEchoed = codes "no reply can be believed, and no key is finished\n"
+risk_text premise.NamesAreUnique = codes "a key may be made twice where the reply to its Create is lost"
+risk_text premise.NamesStayUsed = codes "a destroyed key may be made again by a Create that arrives late"
+risk_text premise.StepsCountOnce = codes "a request that arrives twice may change a key twice"
+risk_text premise.ActiveIsKept = codes "an active key may be destroyed by a Destroy that comes too early"
+risk_text premise.ObjectsAreFound = codes "a key that is there may be taken for none, and made again"
+risk_text premise.DestroyedAreFound = codes "a destroyed key may be taken for none, and made again"
+risk_text premise.AttributesAreTold = codes "a key that was there before is not told from the plan's, and is left alone"
+risk_text premise.IdsAreEchoed = codes "no reply can be believed, and no key is finished"
 
 -- What is found of a premise, among all that is found.
 abbrev pub finding_of : Findings → Premise → Finding
@@ -65,10 +59,6 @@ finding_of findings premise.DestroyedAreFound = findings.destroyed_are_found
 finding_of findings premise.AttributesAreTold = findings.attributes_are_told
 finding_of findings premise.IdsAreEchoed = findings.ids_are_echoed
 
--- The line of a premise, of which this is found.
-abbrev pub line_text : Premise → Finding → List ℕ
-line_text p finding = premise_text p ++ codes ": " ++ finding_text finding ++ codes "\n"
-
 -- Whether a premise is seen to be broken. One that could not be told is not.
 abbrev pub is_broken : Finding → Bool
 is_broken (Broken flaw) = true
@@ -76,7 +66,11 @@ is_broken finding = false
 
 -- The line of what may go wrong, or nothing where the premise is not seen to be broken.
 abbrev pub risk_line : Findings → Premise → List ℕ
-risk_line findings p = if is_broken (finding_of findings p) then risk_text p else []
+risk_line findings p = if is_broken (finding_of findings p) then risk_text p ++ codes "\n" else []
+
+-- The lines of what may go wrong.
+abbrev pub risk_lines : Findings → List ℕ
+risk_lines findings = flat_map (risk_line findings) PREMISES
 
 -- The numbers of the reasons, as they are listed.
 abbrev pub listed : List ℕ → List ℕ
@@ -107,16 +101,12 @@ is_for_progress p = false
 abbrev pub is_unsafe : Findings → Premise → Bool
 is_unsafe findings p = if is_for_progress p then false else is_broken (finding_of findings p)
 
--- The line of the sum: that the promise holds, that it does not hold, that keys may stay unfinished but
--- none is made twice or destroyed too early, or that not all could be told.
+-- The sum: that the promise holds, that it does not hold, that keys may stay unfinished but none is made
+-- twice or destroyed too early, or that not all could be told.
 abbrev pub sum_text : Findings → List ℕ
 sum_text findings =
-    if are_all_kept findings then codes "the promise holds here: each key is made once, and its steps are made once and in order\n"
-    else (if list_any (is_unsafe findings) PREMISES then codes "the promise does not hold here\n"
+    if are_all_kept findings then codes "the promise holds here: each key is made once, and its steps are made once and in order"
+    else (if list_any (is_unsafe findings) PREMISES then codes "the promise does not hold here"
     else (if list_any (λ p. is_broken (finding_of findings p)) PREMISES
-    then codes "no key is made twice or destroyed too early here, but keys may stay unfinished\n"
-    else codes "not all could be told: see the reasons, or probe again with another prefix\n"))
-
--- What is printed after the lines of the premises: the reasons, what may go wrong, and the sum.
-abbrev pub ending_text : Findings → List ℕ
-ending_text findings = reasons_line findings ++ flat_map (risk_line findings) PREMISES ++ sum_text findings
+    then codes "no key is made twice or destroyed too early here, but keys may stay unfinished"
+    else codes "not all could be told: see the reasons, or probe again with another prefix"))

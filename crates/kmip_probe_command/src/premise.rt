@@ -66,31 +66,31 @@ impl Premise {
         }
     }
 
-    /// What may go wrong where a server does not keep it, as a line.
+    /// What may go wrong if a server does not keep it.
     pub fn risk(self) -> &'static str
         ensures { result.now ≡ risk_text self }
     {
         match self {
             Premise::NamesAreUnique => {
-                "a key may be made twice where the reply to its Create is lost\n"
+                "a key may be made twice where the reply to its Create is lost"
             }
             Premise::NamesStayUsed => {
-                "a destroyed key may be made again by a Create that arrives late\n"
+                "a destroyed key may be made again by a Create that arrives late"
             }
-            Premise::StepsCountOnce => "a request that arrives twice may change a key twice\n",
+            Premise::StepsCountOnce => "a request that arrives twice may change a key twice",
             Premise::ActiveIsKept => {
-                "an active key may be destroyed by a Destroy that comes too early\n"
+                "an active key may be destroyed by a Destroy that comes too early"
             }
             Premise::ObjectsAreFound => {
-                "a key that is there may be taken for none, and made again\n"
+                "a key that is there may be taken for none, and made again"
             }
             Premise::DestroyedAreFound => {
-                "a destroyed key may be taken for none, and made again\n"
+                "a destroyed key may be taken for none, and made again"
             }
             Premise::AttributesAreTold => {
-                "a key that was there before is not told from the plan's, and is left alone\n"
+                "a key that was there before is not told from the plan's, and is left alone"
             }
-            Premise::IdsAreEchoed => "no reply can be believed, and no key is finished\n",
+            Premise::IdsAreEchoed => "no reply can be believed, and no key is finished",
         }
     }
 

@@ -1,19 +1,23 @@
-//! The command `probe`: whether a server keeps what the theorem asks of it, told in a form.
+//! The command `probe`: whether a server keeps what the theorem asks of it, in text or in JSON.
 ghost use Rattle.std.specs.Prelude.{◌≡◌, ◌≢◌, ◌≤◌, ◌+◌, ◌++◌, length, [], false, true, Some, IfErr, IfOk, OnErr, IsTrue};
 ghost use Rattle.std.specs.Io.KnownBytes.{Appends};
 ghost use Rattle.kmip_message_commands.specs.Printing.{IfFailed, IfWhole, UnlessOutput, fault_line};
 ghost use Rattle.kmip_protocol.specs.Past.{Names};
 ghost use Rattle.kmip_probe.specs.Inquiries.{is_prefix};
 ghost use Rattle.kmip_probe.specs.Serving.{IsUnprobed};
+ghost use Rattle.kmip_report.specs.Pieces.{line_in};
+ghost use Rattle.kmip_probe_command.specs.KeptLines.{kept_lines};
+ghost use Rattle.kmip_probe_command.specs.Lines.{unfit_line};
 ghost use Rattle.kmip_probe_command.specs.ProbeText.{WritesProbe, making_text};
 ghost use Rattle.kmip_probe_command.specs.Private.{BreaksMidway};
 ghost use Rattle.kmip_probe_command.specs.Midway.{TellsSome};
 
-use crate::probe_form::ProbeForm;
+use crate::lines::unfit_line;
 use crate::telling::{print_refusal, tell};
 use kmip_message_commands::{CommandFault, ExitStatus, Printed, Printer, finished};
 use kmip_probe::{MOST_MESSAGES, is_prefix};
 use kmip_protocol::Link;
+use kmip_report::Form;
 use kmip_ttlv::NoMemory;
 use std::alloc::Global;
 use std::io::Write;
@@ -27,10 +31,10 @@ use std::mem;
 ///
 /// Which keys are to be made is written before the first is. Each line of what is found is written once
 /// the answers that decide it have come, and those of the lines before it.
-pub fn run_probe<F: ProbeForm, L: Link, W: Write>(
+pub fn run_probe<L: Link, W: Write>(
     alloc: Global,
     prefix: &str,
-    form: &F,
+    form: Form,
     link: &mut L,
     writer: &mut W,
 ) -> ExitStatus
@@ -39,16 +43,16 @@ pub fn run_probe<F: ProbeForm, L: Link, W: Write>(
     // has a name, or that it could not be told, with the reason where the look was refused or its reply
     // can't be read. Over an honest link these are the answers of the questions that were asked.
     ensures text { IsTrue (is_prefix prefix.now) → IfWhole result
-        (λ r. WritesProbe F.texts prefix.now (L.seen link.old) (L.seen link.new) r
+        (λ r. WritesProbe form prefix.now (L.seen link.old) (L.seen link.new) r
         (W.contents writer.old) (W.contents writer.new)) }
     // Of any other prefix nothing is asked. Where it does not fail, a line says so, and it is refused.
     ensures unfit { is_prefix prefix.now ≡ false → (link.new ≡ link.old) × IfWhole result
         (λ r. (r ≡ true) × Appends (W.contents writer.old) (W.contents writer.new)
-        F.texts.unfit_line) }
+        (line_in form unfit_line)) }
     // Where it ends with `Failed`, what was written is some first lines of what is told of answers that
     // have come, and then the line of the fault. No line was written before the answers that decide it
     // (`TellsSome`). Of a writer that failed, nothing is said.
-    ensures broken { IfFailed result (λ fault. UnlessOutput fault (TellsSome F.texts prefix.now
+    ensures broken { IfFailed result (λ fault. UnlessOutput fault (TellsSome form prefix.now
         (fault_line fault) (W.contents writer.old) (W.contents writer.new))) }
     // The fault is never that of a reader.
     ensures no_input { IfFailed result (λ fault. fault ≢ CommandFault.Input) }
@@ -62,7 +66,7 @@ pub fn run_probe<F: ProbeForm, L: Link, W: Write>(
     ensures kept { IsTrue (is_prefix prefix.now) → (names : Names) → (L.seen link.old).calm names
         → IsUnprobed prefix.now (L.seen link.old).past → IfWhole result (λ r. (r ≡ false)
         × Appends (W.contents writer.old) (W.contents writer.new)
-        (making_text F.texts prefix.now ++ F.texts.kept_lines)) }
+        (making_text form prefix.now ++ kept_lines form)) }
 {
     let ended = probe(alloc, prefix, form, link, writer);
     finished(ended, writer)
@@ -73,24 +77,24 @@ pub fn run_probe<F: ProbeForm, L: Link, W: Write>(
 ///
 /// # Errors
 /// `NoMemory`, and `Output` where the writer fails. The lines that were written before stay.
-pub fn probe<F: ProbeForm, L: Link, W: Write>(
+pub fn probe<L: Link, W: Write>(
     alloc: Global,
     prefix: &str,
-    form: &F,
+    form: Form,
     link: &mut L,
     writer: &mut W,
 ) -> Result<bool, CommandFault>
     // Of a prefix that can begin names, what is written is what some answers tell, as of `run_probe`.
     ensures text { IsTrue (is_prefix prefix.now) → IfOk result
-        (λ r. WritesProbe F.texts prefix.now (L.seen link.old) (L.seen link.new) r
+        (λ r. WritesProbe form prefix.now (L.seen link.old) (L.seen link.new) r
         (W.contents writer.old) (W.contents writer.new)) }
     // Of any other prefix nothing is asked. Where it does not fail, a line says so, and it is refused.
     ensures unfit { is_prefix prefix.now ≡ false → (link.new ≡ link.old) × IfOk result
         (λ r. (r ≡ true) × Appends (W.contents writer.old) (W.contents writer.new)
-        F.texts.unfit_line) }
+        (line_in form unfit_line)) }
     // Where it fails, what was written is some first lines of what is told of answers that have come. No
     // line was written before the answers that decide it. Of a writer that failed, nothing is said.
-    ensures broken { IfErr result (λ fault. UnlessOutput fault (TellsSome F.texts prefix.now []
+    ensures broken { IfErr result (λ fault. UnlessOutput fault (TellsSome form prefix.now []
         (W.contents writer.old) (W.contents writer.new))) }
     // The fault is never that of a reader.
     ensures no_input { IfErr result (λ fault. fault ≢ CommandFault.Input) }
@@ -103,7 +107,7 @@ pub fn probe<F: ProbeForm, L: Link, W: Write>(
     ensures kept { IsTrue (is_prefix prefix.now) → (names : Names) → (L.seen link.old).calm names
         → IsUnprobed prefix.now (L.seen link.old).past → IfOk result (λ r. (r ≡ false)
         × Appends (W.contents writer.old) (W.contents writer.new)
-        (making_text F.texts prefix.now ++ F.texts.kept_lines)) }
+        (making_text form prefix.now ++ kept_lines form)) }
 {
     probe_to(alloc, prefix, form, link, writer)
 }
@@ -113,10 +117,10 @@ pub fn probe<F: ProbeForm, L: Link, W: Write>(
 ///
 /// # Errors
 /// Where there is no memory; then nothing is appended.
-pub fn probe_bytes<F: ProbeForm, L: Link>(
+pub fn probe_bytes<L: Link>(
     alloc: Global,
     prefix: &str,
-    form: &F,
+    form: Form,
     link: &mut L,
     output: &mut Vec<u8>,
 ) -> Result<bool, NoMemory>
@@ -125,11 +129,11 @@ pub fn probe_bytes<F: ProbeForm, L: Link>(
     // not be told, with the reason where the look was refused or its reply can't be read. Over an honest
     // link these are the answers of the questions that were asked.
     ensures text { IsTrue (is_prefix prefix.now) → IfOk result
-        (λ r. WritesProbe F.texts prefix.now (L.seen link.old) (L.seen link.new) r
+        (λ r. WritesProbe form prefix.now (L.seen link.old) (L.seen link.new) r
         (Some output.old.items) (Some output.new.items)) }
     // Of any other prefix nothing is asked. Where it does not fail, a line says so, and it is refused.
     ensures unfit { is_prefix prefix.now ≡ false → (link.new ≡ link.old) × IfOk result
-        (λ r. (r ≡ true) × (output.new.items ≡ output.old.items ++ F.texts.unfit_line)) }
+        (λ r. (r ≡ true) × (output.new.items ≡ output.old.items ++ line_in form unfit_line)) }
     // At want of memory nothing is appended.
     ensures broken { OnErr result (output.new.items ≡ output.old.items) }
     // Over an honest link at most 45 messages are sent, however it ends.
@@ -142,7 +146,7 @@ pub fn probe_bytes<F: ProbeForm, L: Link>(
     ensures kept { IsTrue (is_prefix prefix.now) → (names : Names) → (L.seen link.old).calm names
         → IsUnprobed prefix.now (L.seen link.old).past → IfOk result (λ r. (r ≡ false)
         × (output.new.items
-        ≡ output.old.items ++ (making_text F.texts prefix.now ++ F.texts.kept_lines))) }
+        ≡ output.old.items ++ (making_text form prefix.now ++ kept_lines form))) }
 {
     let before = output.len();
     let mut printed = Printed {
@@ -164,20 +168,20 @@ pub fn probe_bytes<F: ProbeForm, L: Link>(
 /// # Errors
 ///
 /// `NoMemory`, and the fault of the printer.
-fn probe_to<F: ProbeForm, L: Link, P: Printer>(
+fn probe_to<L: Link, P: Printer>(
     alloc: Global,
     prefix: &str,
-    form: &F,
+    form: Form,
     link: &mut L,
     printer: &mut P,
 ) -> Result<bool, CommandFault>
     ensures text { IsTrue (is_prefix prefix.now) → IfOk result
-        (λ r. WritesProbe F.texts prefix.now (L.seen link.old) (L.seen link.new) r
+        (λ r. WritesProbe form prefix.now (L.seen link.old) (L.seen link.new) r
         (P.contents printer.old) (P.contents printer.new)) }
     ensures unfit { is_prefix prefix.now ≡ false → (link.new ≡ link.old) × IfOk result
         (λ r. (r ≡ true) × Appends (P.contents printer.old) (P.contents printer.new)
-        F.texts.unfit_line) }
-    ensures broken { IfErr result (λ fault. BreaksMidway F.texts fault P.own_fault P.IsWhole
+        (line_in form unfit_line)) }
+    ensures broken { IfErr result (λ fault. BreaksMidway form fault P.own_fault P.IsWhole
         prefix.now (P.contents printer.old) (P.contents printer.new)) }
     ensures few { (names : Names) → (L.seen link.old).honest names
         → length (L.seen link.new).past.sent
@@ -185,11 +189,11 @@ fn probe_to<F: ProbeForm, L: Link, P: Printer>(
     ensures kept { IsTrue (is_prefix prefix.now) → (names : Names) → (L.seen link.old).calm names
         → IsUnprobed prefix.now (L.seen link.old).past → IfOk result (λ r. (r ≡ false)
         × Appends (P.contents printer.old) (P.contents printer.new)
-        (making_text F.texts prefix.now ++ F.texts.kept_lines)) }
+        (making_text form prefix.now ++ kept_lines form)) }
 {
     if is_prefix(prefix) {
         tell(alloc, prefix, form, link, printer)
     } else {
-        print_refusal(form.unfit_line().as_bytes(), printer)
+        print_refusal(unfit_line(form).as_bytes(), printer)
     }
 }

@@ -10,13 +10,14 @@ ghost use Rattle.kmip_probe.specs.Inquiries.{is_prefix, most_messages};
 ghost use Rattle.kmip_probe.specs.Serving.{IsUnprobed};
 ghost use Rattle.kmip_probe.specs.TwoObjects.{AreServed};
 ghost use Rattle.kmip_probe.specs.Putting.{AsksOn, SendsOnce};
+ghost use Rattle.kmip_probe_command.specs.KeptLines.{kept_lines};
 ghost use Rattle.kmip_probe_command.specs.Midway.{line_by};
 ghost use Rattle.kmip_probe_command.specs.Private.{BreaksMidway, TellsEnd, rest_text};
 ghost use Rattle.kmip_probe_command.specs.ProbeText.{WritesProbe, line_of, making_text, report_text};
 
+use crate::lines::{push_end, push_premise};
 use crate::looking::{making_text, unbegun_text};
 use crate::premise::{EARLY, EARLY_ANSWERS, LATE, LATE_ANSWERS, Premise, finding_of};
-use crate::probe_form::ProbeForm;
 use crate::wording::are_all_kept;
 use kmip_message_commands::{CommandFault, Printer};
 use kmip_probe::laws::the_profile_keeps_all;
@@ -24,6 +25,7 @@ use kmip_probe::{
     Answer, Findings, LOOK_FIRST, LOOK_SECOND, LOOKS, MOST_MESSAGES, QUESTIONS, ask_on, findings_of,
 };
 use kmip_protocol::Link;
+use kmip_report::Form;
 use kmip_ttlv::NoMemory;
 use std::alloc::Global;
 
@@ -33,18 +35,18 @@ use std::alloc::Global;
 /// # Errors
 ///
 /// `NoMemory`, and the fault of the printer.
-pub(crate) fn tell<F: ProbeForm, L: Link, P: Printer>(
+pub(crate) fn tell<L: Link, P: Printer>(
     alloc: Global,
     prefix: &str,
-    form: &F,
+    form: Form,
     link: &mut L,
     printer: &mut P,
 ) -> Result<bool, CommandFault>
     requires { IsTrue (is_prefix prefix.now) }
     ensures text { IfOk result
-        (λ r. WritesProbe F.texts prefix.now (L.seen link.old) (L.seen link.new) r
+        (λ r. WritesProbe form prefix.now (L.seen link.old) (L.seen link.new) r
         (P.contents printer.old) (P.contents printer.new)) }
-    ensures broken { IfErr result (λ fault. BreaksMidway F.texts fault P.own_fault P.IsWhole
+    ensures broken { IfErr result (λ fault. BreaksMidway form fault P.own_fault P.IsWhole
         prefix.now (P.contents printer.old) (P.contents printer.new)) }
     ensures few { (names : Names) → (L.seen link.old).honest names
         → length (L.seen link.new).past.sent
@@ -52,10 +54,9 @@ pub(crate) fn tell<F: ProbeForm, L: Link, P: Printer>(
     ensures kept { (names : Names) → (L.seen link.old).calm names
         → IsUnprobed prefix.now (L.seen link.old).past → IfOk result (λ r. (r ≡ false)
         × Appends (P.contents printer.old) (P.contents printer.new)
-        (making_text F.texts prefix.now ++ F.texts.kept_lines)) }
+        (making_text form prefix.now ++ kept_lines form)) }
 {
     the_profile_keeps_all();
-    F::tells_all_kept();
     let mut answers = Vec::new(alloc);
     ask_on(alloc, prefix, link, LOOKS, &mut answers)?;
     match unbegun_text(alloc, prefix, form, answers.as_slice())? {
@@ -70,10 +71,10 @@ pub(crate) fn tell<F: ProbeForm, L: Link, P: Printer>(
 /// # Errors
 ///
 /// `NoMemory`, and the fault of the printer.
-fn tell_on<F: ProbeForm, L: Link, P: Printer>(
+fn tell_on<L: Link, P: Printer>(
     alloc: Global,
     prefix: &str,
-    form: &F,
+    form: Form,
     link: &mut L,
     printer: &mut P,
     answers: &mut Vec<Answer>,
@@ -90,11 +91,11 @@ fn tell_on<F: ProbeForm, L: Link, P: Printer>(
     ensures once { (names : Names) → (L.seen link.old).calm names
         → IfOk result (λ r. SendsOnce prefix.now
         answers.old.items answers.new.items (L.seen link.old).past (L.seen link.new).past) }
-    ensures text { IfOk result (λ r. TellsEnd (λ f. making_text F.texts prefix.now
-        ++ report_text F.texts f)
+    ensures text { IfOk result (λ r. TellsEnd (λ f. making_text form prefix.now
+        ++ report_text form f)
         prefix.now answers.new.items r (P.contents printer.old) (P.contents printer.new)) }
     ensures all { IfOk result (λ r. length answers.new.items ≡ QUESTIONS) }
-    ensures broken { IfErr result (λ fault. BreaksMidway F.texts fault P.own_fault P.IsWhole
+    ensures broken { IfErr result (λ fault. BreaksMidway form fault P.own_fault P.IsWhole
         prefix.now (P.contents printer.old) (P.contents printer.new)) }
     ensures few { (names : Names) → (L.seen link.old).honest names
         → length (L.seen link.new).past.sent + most_messages LOOKS
@@ -132,14 +133,14 @@ pub(crate) fn print_refusal<P: Printer>(text: &[u8], printer: &mut P) -> Result<
 /// # Errors
 ///
 /// `NoMemory`, and the fault of the printer.
-fn print_making<F: ProbeForm, P: Printer>(
+fn print_making<P: Printer>(
     alloc: Global,
     prefix: &str,
-    form: &F,
+    form: Form,
     printer: &mut P,
 ) -> Result<(), CommandFault>
     ensures text { OnOk result (Appends (P.contents printer.old) (P.contents printer.new)
-        (making_text F.texts prefix.now)) }
+        (making_text form prefix.now)) }
     ensures broken { IfErr result (λ fault. Fails fault P.own_fault P.IsWhole
         (P.contents printer.old) (P.contents printer.new)) }
 {
@@ -153,16 +154,16 @@ fn print_making<F: ProbeForm, P: Printer>(
 /// # Errors
 ///
 /// `NoMemory`, and the fault of the printer.
-fn print_lines<F: ProbeForm, P: Printer>(
+fn print_lines<P: Printer>(
     alloc: Global,
     prefix: &str,
-    form: &F,
+    form: Form,
     answers: &[Answer],
     premises: &[Premise],
     printer: &mut P,
 ) -> Result<(), CommandFault>
     ensures text { OnOk result (Appends (P.contents printer.old) (P.contents printer.new)
-        (flat_map (line_by F.texts prefix.now answers.now) premises.now)) }
+        (flat_map (line_by form prefix.now answers.now) premises.now)) }
     ensures broken { IfErr result (λ fault. Fails fault P.own_fault P.IsWhole
         (P.contents printer.old) (P.contents printer.new)) }
 {
@@ -178,14 +179,14 @@ fn print_lines<F: ProbeForm, P: Printer>(
 /// # Errors
 ///
 /// `NoMemory`, and the fault of the printer.
-fn print_rest<F: ProbeForm, P: Printer>(
+fn print_rest<P: Printer>(
     alloc: Global,
     prefix: &str,
-    form: &F,
+    form: Form,
     answers: &[Answer],
     printer: &mut P,
 ) -> Result<bool, CommandFault>
-    ensures text { IfOk result (λ r. TellsEnd (rest_text F.texts) prefix.now answers.now r
+    ensures text { IfOk result (λ r. TellsEnd (rest_text form) prefix.now answers.now r
         (P.contents printer.old) (P.contents printer.new)) }
     ensures broken { IfErr result (λ fault. Fails fault P.own_fault P.IsWhole
         (P.contents printer.old) (P.contents printer.new)) }
@@ -196,42 +197,39 @@ fn print_rest<F: ProbeForm, P: Printer>(
     Ok(!are_all_kept(&findings))
 }
 
-/// What is told in a form after the lines that are told before a probe ends: the line of the last
-/// premise, and what stands behind it.
+/// Returns what is printed once a probe has ended, in this form: the line of the last premise, and
+/// the end of the report.
 ///
 /// # Errors
-/// Where there is no memory.
-fn rest_of_report<F: ProbeForm>(
-    alloc: Global,
-    form: &F,
-    findings: &Findings,
-) -> Result<Vec<u8>, NoMemory>
-    ensures { IfOk result (λ text. text.items ≡ rest_text F.texts findings.now) }
+/// If memory runs out.
+fn rest_of_report(alloc: Global, form: Form, findings: &Findings) -> Result<Vec<u8>, NoMemory>
+    ensures { IfOk result (λ text. text.items ≡ rest_text form findings.now) }
 {
     let premise = Premise::IdsAreEchoed;
-    let mut text = form.premise_line(alloc, premise, finding_of(findings, premise))?;
-    let end = form.last_lines(alloc, findings)?;
-    text.extend_from_slice(end.as_slice())?;
+    let mut text = Vec::new(alloc);
+    let finding = finding_of(findings, premise);
+    push_premise(alloc, form, premise, finding, &mut text)?;
+    push_end(alloc, form, findings, &mut text)?;
     Ok(text)
 }
 
-/// The lines of some premises, in a form.
+/// Returns the lines of some premises, in this form.
 ///
 /// # Errors
-/// Where there is no memory.
-fn lines_of<F: ProbeForm>(
+/// If memory runs out.
+fn lines_of(
     alloc: Global,
-    form: &F,
+    form: Form,
     findings: &Findings,
     premises: &[Premise],
 ) -> Result<Vec<u8>, NoMemory>
     ensures { IfOk result (λ text. text.items
-        ≡ flat_map (line_of F.texts findings.now) premises.now) }
+        ≡ flat_map (line_of form findings.now) premises.now) }
 {
     let mut text = Vec::new(alloc);
     for premise in premises {
-        let line = form.premise_line(alloc, *premise, finding_of(findings, *premise))?;
-        text.extend_from_slice(line.as_slice())?;
+        let finding = finding_of(findings, *premise);
+        push_premise(alloc, form, *premise, finding, &mut text)?;
     }
     Ok(text)
 }

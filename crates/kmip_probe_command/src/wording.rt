@@ -1,8 +1,8 @@
-//! What is printed of the premises as plain text, and what all forms say of them.
+//! The words for what is found of the premises.
 ghost use Rattle.std.specs.Prelude.{◌≡◌, ◌++◌, codes, flat_map, IfOk, OnOk, string_bytes};
 ghost use Rattle.std.specs.List.{list_all, list_any};
 ghost use Rattle.std.specs.Fmt.{decimal};
-ghost use Rattle.kmip_probe_command.specs.Wording.{are_all_kept, ending_text, finding_of, finding_text, flaw_text, is_broken, is_kept, is_unsafe, line_text, listed, risk_line, sum_text};
+ghost use Rattle.kmip_probe_command.specs.Wording.{are_all_kept, finding_of, flaw_text, is_broken, is_kept, is_unsafe, listed, reasons_line, risk_line, risk_lines, sum_text};
 
 use crate::premise::{PREMISES, Premise, finding_of};
 use kmip_probe::{Finding, Findings, Flaw};
@@ -13,7 +13,7 @@ use std::alloc::Global;
 ///
 /// # Errors
 /// Where there is no memory.
-pub fn flaw_text(alloc: Global, flaw: &Flaw) -> Result<String, NoMemory>
+pub(crate) fn flaw_text(alloc: Global, flaw: &Flaw) -> Result<String, NoMemory>
     ensures { IfOk result (λ text. string_bytes text ≡ flaw_text flaw.now) }
 {
     let text = match flaw {
@@ -30,40 +30,6 @@ pub fn flaw_text(alloc: Global, flaw: &Flaw) -> Result<String, NoMemory>
         Flaw::NoId => format!(in alloc; "a reply has none, or another")?,
     };
     Ok(text)
-}
-
-/// What is found of a premise, in words.
-///
-/// # Errors
-/// Where there is no memory.
-fn finding_text(alloc: Global, finding: &Finding) -> Result<String, NoMemory>
-    ensures { IfOk result (λ text. string_bytes text ≡ finding_text finding.now) }
-{
-    let text = match finding {
-        Finding::Kept => format!(in alloc; "yes")?,
-        Finding::Broken(flaw) => {
-            let flaw = flaw_text(alloc, flaw)?;
-            format!(in alloc; "no ({flaw})")?
-        }
-        Finding::Untold => format!(in alloc; "could not be told")?,
-    };
-    Ok(text)
-}
-
-/// The line of a premise, of which this is found.
-///
-/// # Errors
-/// Where there is no memory.
-pub(crate) fn line_text(
-    alloc: Global,
-    premise: Premise,
-    finding: &Finding,
-) -> Result<String, NoMemory>
-    ensures { IfOk result (λ text. string_bytes text ≡ line_text premise finding.now) }
-{
-    let found = finding_text(alloc, finding)?;
-    let line = format!(in alloc; "{}: {found}\n", premise.text())?;
-    Ok(line)
 }
 
 /// Whether a premise is seen to be kept.
@@ -113,31 +79,21 @@ fn is_unsafe(findings: &Findings, premise: Premise) -> bool
     !premise.is_for_progress() && is_broken(finding_of(findings, premise))
 }
 
-/// The line that sums up what was found of all premises: the promise holds, it does not, keys may stay
-/// unfinished, or not all could be told. It ends by a line feed.
-pub fn sum_text(findings: &Findings) -> &'static str
+/// Returns the sum of what was found of all premises: the promise holds, it does not, keys may stay
+/// unfinished, or not all could be told.
+pub(crate) fn sum_text(findings: &Findings) -> &'static str
     ensures { result.now ≡ sum_text findings.now }
 {
     if are_all_kept(findings) {
-        return "the promise holds here: each key is made once, and its steps are made once and in order\n";
+        return "the promise holds here: each key is made once, and its steps are made once and in order";
     }
     if is_any_unsafe(findings) {
-        return "the promise does not hold here\n";
+        return "the promise does not hold here";
     }
     if has_broken(findings) {
-        return "no key is made twice or destroyed too early here, but keys may stay unfinished\n";
+        return "no key is made twice or destroyed too early here, but keys may stay unfinished";
     }
-    "not all could be told: see the reasons, or probe again with another prefix\n"
-}
-
-/// What may go wrong by a premise: a line where it is broken.
-fn risk_line(findings: &Findings, premise: Premise) -> &'static str
-    ensures { result.now ≡ risk_line findings.now premise }
-{
-    if is_broken(finding_of(findings, premise)) {
-        return premise.risk();
-    }
-    ""
+    "not all could be told: see the reasons, or probe again with another prefix"
 }
 
 /// The reasons, as they are listed.
@@ -170,34 +126,42 @@ fn push_rest(alloc: Global, reasons: &[u32], text: &mut String) -> Result<(), No
     Ok(())
 }
 
-/// What is printed after the lines of the premises.
+/// Returns the line of the reasons that were seen.
 ///
 /// # Errors
-/// Where there is no memory.
-pub(crate) fn ending_text(alloc: Global, findings: &Findings) -> Result<String, NoMemory>
-    ensures { IfOk result (λ text. string_bytes text ≡ ending_text findings.now) }
+/// If memory runs out.
+pub(crate) fn reasons_line(alloc: Global, findings: &Findings) -> Result<String, NoMemory>
+    ensures { IfOk result (λ text. string_bytes text ≡ reasons_line findings.now) }
 {
     let reasons = listed(alloc, findings.reasons.as_slice())?;
-    let mut text = format!(in alloc; "reasons seen: {reasons}\n")?;
-    let risks = risk_lines(alloc, findings)?;
-    text.push_str(risks.as_str())?;
-    text.push_str(sum_text(findings))?;
+    let text = format!(in alloc; "reasons seen: {reasons}\n")?;
     Ok(text)
 }
 
-/// The lines of what may go wrong.
+/// Returns the lines of what may go wrong, one for each premise that is broken.
 ///
 /// # Errors
-/// Where there is no memory.
-fn risk_lines(alloc: Global, findings: &Findings) -> Result<String, NoMemory>
-    ensures { IfOk result (λ text. string_bytes text
-        ≡ flat_map (risk_line findings.now) PREMISES) }
+/// If memory runs out.
+pub(crate) fn risk_lines(alloc: Global, findings: &Findings) -> Result<String, NoMemory>
+    ensures { IfOk result (λ text. string_bytes text ≡ risk_lines findings.now) }
 {
     let mut text = String::new(alloc);
     for premise in premises() {
-        text.push_str(risk_line(findings, *premise))?;
+        push_risk(findings, *premise, &mut text)?;
     }
     Ok(text)
+}
+
+/// Appends the line of what may go wrong by a premise, if it is broken.
+fn push_risk(findings: &Findings, premise: Premise, text: &mut String) -> Result<(), NoMemory>
+    ensures { OnOk result (string_bytes text.new
+        ≡ string_bytes text.old ++ risk_line findings.now premise) }
+{
+    if is_broken(finding_of(findings, premise)) {
+        text.push_str(premise.risk())?;
+        text.push_str("\n")?;
+    }
+    Ok(())
 }
 
 /// The premises, in the order in which they are told.

@@ -2,10 +2,12 @@
 
 use crate::asserting::assert_lines;
 use kmip_batch_items::Outcome;
-use kmip_json::JsonLines;
 use kmip_objects::{Step, Texts};
 use kmip_probe::{Attribute, Finding, Findings, Flaw};
-use kmip_probe_command::{PREMISES, ProbeForm, finding_of};
+use kmip_probe_command::{
+    PREMISES, finding_of, push_end, push_making, push_premise, push_unmade, unfit_line,
+};
+use kmip_report::Form;
 use kmip_ttlv::{NoMemory, Text};
 use std::alloc::Global;
 use std::process::Abort;
@@ -24,15 +26,15 @@ const BROKEN_LINES: [&str; 10] = [
     r#"{"reasons":[8,71],"sum":"the promise does not hold here"}"#,
 ];
 
-/// All that a form tells of a server, where these keys are made and this is found.
-fn report<F: ProbeForm>(alloc: Global, form: &F, findings: &Findings) -> Result<Vec<u8>, NoMemory> {
-    let mut text = form.making_line(alloc, "p-1", "p-2")?;
+/// All that is printed of a server, if these keys are made and this is found.
+fn report(alloc: Global, form: Form, findings: &Findings) -> Result<Vec<u8>, NoMemory> {
+    let mut text = Vec::new(alloc);
+    push_making(alloc, form, "p-1", "p-2", &mut text)?;
     for premise in &PREMISES {
-        let line = form.premise_line(alloc, *premise, finding_of(findings, *premise))?;
-        text.extend_from_slice(line.as_slice())?;
+        let finding = finding_of(findings, *premise);
+        push_premise(alloc, form, *premise, finding, &mut text)?;
     }
-    let end = form.last_lines(alloc, findings)?;
-    text.extend_from_slice(end.as_slice())?;
+    push_end(alloc, form, findings, &mut text)?;
     Ok(text)
 }
 
@@ -51,7 +53,7 @@ fn writes_what_is_found(rt: HostRuntime) -> Result<(), Fail> {
         ids_are_echoed: Finding::Kept,
         reasons: vec![in alloc; 8u32, 71]?,
     };
-    let text = report(alloc, &JsonLines, &findings)?;
+    let text = report(alloc, Form::Json, &findings)?;
     assert_lines(&rt, alloc, text.as_slice(), &BROKEN_LINES)?;
     Ok(())
 }
@@ -63,7 +65,8 @@ fn assert_unmade(
     outcome: Option<&Outcome>,
     line: &str,
 ) -> Result<(), NoMemory> {
-    let text = JsonLines.unmade_line(alloc, "p-1", outcome, None)?;
+    let mut text = Vec::new(alloc);
+    push_unmade(alloc, Form::Json, "p-1", outcome, None, &mut text)?;
     assert_lines(rt, alloc, text.as_slice(), &[line])
 }
 
@@ -86,7 +89,7 @@ fn writes_why_nothing_is_made(rt: HostRuntime) -> Result<(), Fail> {
 fn writes_that_a_prefix_is_refused(rt: HostRuntime) -> Result<(), Fail> {
     let line =
         r#"{"fault":"prefix refused","at":null,"why":"it is not 1 to 62 printable ASCII characters without a space","cause":null}"#;
-    let text = JsonLines.unfit_line();
+    let text = unfit_line(Form::Json);
     assert_lines(&rt, rt.alloc(), text.as_bytes(), &[line])?;
     Ok(())
 }

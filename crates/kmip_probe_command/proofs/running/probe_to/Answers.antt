@@ -10,6 +10,6 @@ tell-requires g c = search (rules, c.is_prefix.ensures)
 
 pub returns-else-is_prefix-clause-broken : goal.returns-else-is_prefix-clause-broken
 returns-else-is_prefix-clause-broken g c =
-    broke c.print_refusal.result g.F.ProbeForm.texts c.args.prefix.now [] [] (lines_by g.F.ProbeForm.texts c.args.prefix.now []) g.P.Printer.own_fault g.P.Printer.IsWhole
+    broke c.print_refusal.result c.args.form c.args.prefix.now [] [] (lines_by c.args.form c.args.prefix.now []) g.P.Printer.own_fault g.P.Printer.IsWhole
     (g.P.Printer.contents c.args.printer.now) (g.P.Printer.contents c.args.printer.now) (g.P.Printer.contents c.print_refusal.new.printer) refl (omega arith)
     (Appends-nil (g.P.Printer.contents c.args.printer.now)) c.print_refusal.ensures.broken

@@ -4,6 +4,6 @@ use Rattle.kmip_probe_command.specs.ProbeText.{line_of}
 use Rattle.kmip_probe_command.proofs.telling.lines_of.Given as goal
 
 abbrev pub invariant-loop-premise : goal.invariant-loop-premise
-invariant-loop-premise g l =
-    l.text.items ++ flat_map (line_of g.F.ProbeForm.texts l.findings) (drop l.premise-index l.premises)
-    ≡ flat_map (line_of g.F.ProbeForm.texts l.findings) l.premises
+invariant-loop-premise l =
+    l.text.items ++ flat_map (line_of l.form l.findings) (drop l.premise-index l.premises)
+    ≡ flat_map (line_of l.form l.findings) l.premises

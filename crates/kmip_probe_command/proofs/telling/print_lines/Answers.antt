@@ -8,5 +8,5 @@ pub returns-clause-text : goal.returns-clause-text
 returns-clause-text g c =
     subst (Appends (g.P.Printer.contents c.args.printer.now) (g.P.Printer.contents c.print.new.self))
     (c.as_slice.ensures.value ∙ c.in_ok-text.ensures
-    ∙ lines_are g.F.ProbeForm.texts c.args.prefix.now c.args.answers.now c.in_ok-findings.findings c.in_ok-findings.ensures c.args.premises.now)
+    ∙ lines_are c.args.form c.args.prefix.now c.args.answers.now c.in_ok-findings.findings c.in_ok-findings.ensures c.args.premises.now)
     c.in_ok-print.ensures.text

@@ -15,64 +15,64 @@ use Rattle.kmip_probe_command.proofs.telling.tell_on.Goals as goal
 pub returns-in_err-ask_on-clause-broken : goal.returns-in_err-ask_on-clause-broken
 returns-in_err-ask_on-clause-broken g c =
     let fault = err_from_is_err_and c.from_residual-in_err-ask_on.result c.from_residual-in_err-ask_on.ensures.1 in
-    rw fault.1 (lacked fault.0 g.F.ProbeForm.texts c.args.prefix.now c.args.answers.now.items (making_text g.F.ProbeForm.texts c.args.prefix.now ∷ []) (map (line_by g.F.ProbeForm.texts c.args.prefix.now c.args.answers.now.items) (EARLY ++ LATE ++ premise.IdsAreEchoed ∷ [])) g.P.Printer.own_fault g.P.Printer.IsWhole (g.P.Printer.contents c.args.printer.now) (g.P.Printer.contents c.print_making.new.printer) refl (omega (arith, c.requires.two))
-    (one_line g.F.ProbeForm.texts c.args.prefix.now (g.P.Printer.contents c.args.printer.now) (g.P.Printer.contents c.print_making.new.printer) c.in_ok-print_making.ensures.text) fault.2)
+    rw fault.1 (lacked fault.0 c.args.form c.args.prefix.now c.args.answers.now.items (making_text c.args.form c.args.prefix.now ∷ []) (map (line_by c.args.form c.args.prefix.now c.args.answers.now.items) (EARLY ++ LATE ++ premise.IdsAreEchoed ∷ [])) g.P.Printer.own_fault g.P.Printer.IsWhole (g.P.Printer.contents c.args.printer.now) (g.P.Printer.contents c.print_making.new.printer) refl (omega (arith, c.requires.two))
+    (one_line c.args.form c.args.prefix.now (g.P.Printer.contents c.args.printer.now) (g.P.Printer.contents c.print_making.new.printer) c.in_ok-print_making.ensures.text) fault.2)
 
 pub returns-in_err-print_lines-clause-broken : goal.returns-in_err-print_lines-clause-broken
 returns-in_err-print_lines-clause-broken g c =
     let eight = counted c.args.answers.now.items c.ask_on.new.answers.items 8 c.in_ok-ask_on.ensures.onward c.requires.two c.requires.first c.requires.second c.in_ok-ask_on.ensures.most (omega arith) c.in_ok-ask_on.ensures.whole in
     let fault = err_from_is_err_and c.from_residual-in_err-print_lines.result c.from_residual-in_err-print_lines.ensures.1 in
-    rw fault.1 (broken_at g.F.ProbeForm.texts c.args.prefix.now c.ask_on.new.answers.items (making_text g.F.ProbeForm.texts c.args.prefix.now ∷ []) (map (line_by g.F.ProbeForm.texts c.args.prefix.now c.ask_on.new.answers.items) (EARLY ++ LATE ++ premise.IdsAreEchoed ∷ [])) fault.0 g.P.Printer.own_fault g.P.Printer.IsWhole (g.P.Printer.contents c.args.printer.now) (g.P.Printer.contents c.print_making.new.printer) (g.P.Printer.contents c.print_lines.new.printer) refl (omega (arith, eight))
-    (one_line g.F.ProbeForm.texts c.args.prefix.now (g.P.Printer.contents c.args.printer.now) (g.P.Printer.contents c.print_making.new.printer) c.in_ok-print_making.ensures.text) (subst (λ e. Fails e g.P.Printer.own_fault g.P.Printer.IsWhole (g.P.Printer.contents c.print_making.new.printer) (g.P.Printer.contents c.print_lines.new.printer)) (sym fault.2) c.in_err-print_lines.ensures.broken))
+    rw fault.1 (broken_at c.args.form c.args.prefix.now c.ask_on.new.answers.items (making_text c.args.form c.args.prefix.now ∷ []) (map (line_by c.args.form c.args.prefix.now c.ask_on.new.answers.items) (EARLY ++ LATE ++ premise.IdsAreEchoed ∷ [])) fault.0 g.P.Printer.own_fault g.P.Printer.IsWhole (g.P.Printer.contents c.args.printer.now) (g.P.Printer.contents c.print_making.new.printer) (g.P.Printer.contents c.print_lines.new.printer) refl (omega (arith, eight))
+    (one_line c.args.form c.args.prefix.now (g.P.Printer.contents c.args.printer.now) (g.P.Printer.contents c.print_making.new.printer) c.in_ok-print_making.ensures.text) (subst (λ e. Fails e g.P.Printer.own_fault g.P.Printer.IsWhole (g.P.Printer.contents c.print_making.new.printer) (g.P.Printer.contents c.print_lines.new.printer)) (sym fault.2) c.in_err-print_lines.ensures.broken))
 
 pub returns-in_err-ask_on-2-clause-broken : goal.returns-in_err-ask_on-2-clause-broken
 returns-in_err-ask_on-2-clause-broken g c =
     let eight = counted c.args.answers.now.items c.ask_on.new.answers.items 8 c.in_ok-ask_on.ensures.onward c.requires.two c.requires.first c.requires.second c.in_ok-ask_on.ensures.most (omega arith) c.in_ok-ask_on.ensures.whole in
-    let told = subst (λ xs. Appends (g.P.Printer.contents c.print_making.new.printer) (g.P.Printer.contents c.print_lines.new.printer) (flat_map (line_by g.F.ProbeForm.texts c.args.prefix.now xs) EARLY)) c.as_slice.ensures.value c.in_ok-print_lines.ensures.text in
+    let told = subst (λ xs. Appends (g.P.Printer.contents c.print_making.new.printer) (g.P.Printer.contents c.print_lines.new.printer) (flat_map (line_by c.args.form c.args.prefix.now xs) EARLY)) c.as_slice.ensures.value c.in_ok-print_lines.ensures.text in
     let fault = err_from_is_err_and c.from_residual-in_err-ask_on-2.result c.from_residual-in_err-ask_on-2.ensures.1 in
-    rw fault.1 (lacked fault.0 g.F.ProbeForm.texts c.args.prefix.now c.ask_on.new.answers.items (making_text g.F.ProbeForm.texts c.args.prefix.now ∷ map (line_by g.F.ProbeForm.texts c.args.prefix.now c.ask_on.new.answers.items) EARLY) (map (line_by g.F.ProbeForm.texts c.args.prefix.now c.ask_on.new.answers.items) (LATE ++ premise.IdsAreEchoed ∷ [])) g.P.Printer.own_fault g.P.Printer.IsWhole (g.P.Printer.contents c.args.printer.now) (g.P.Printer.contents c.print_lines.new.printer) refl (omega (arith, eight))
-    (two_lines g.F.ProbeForm.texts c.args.prefix.now c.ask_on.new.answers.items (g.P.Printer.contents c.args.printer.now) (g.P.Printer.contents c.print_making.new.printer) (g.P.Printer.contents c.print_lines.new.printer) c.in_ok-print_making.ensures.text told) fault.2)
+    rw fault.1 (lacked fault.0 c.args.form c.args.prefix.now c.ask_on.new.answers.items (making_text c.args.form c.args.prefix.now ∷ map (line_by c.args.form c.args.prefix.now c.ask_on.new.answers.items) EARLY) (map (line_by c.args.form c.args.prefix.now c.ask_on.new.answers.items) (LATE ++ premise.IdsAreEchoed ∷ [])) g.P.Printer.own_fault g.P.Printer.IsWhole (g.P.Printer.contents c.args.printer.now) (g.P.Printer.contents c.print_lines.new.printer) refl (omega (arith, eight))
+    (two_lines c.args.form c.args.prefix.now c.ask_on.new.answers.items (g.P.Printer.contents c.args.printer.now) (g.P.Printer.contents c.print_making.new.printer) (g.P.Printer.contents c.print_lines.new.printer) c.in_ok-print_making.ensures.text told) fault.2)
 
 pub returns-in_err-print_lines-2-clause-broken : goal.returns-in_err-print_lines-2-clause-broken
 returns-in_err-print_lines-2-clause-broken g c =
     let eight = counted c.args.answers.now.items c.ask_on.new.answers.items 8 c.in_ok-ask_on.ensures.onward c.requires.two c.requires.first c.requires.second c.in_ok-ask_on.ensures.most (omega arith) c.in_ok-ask_on.ensures.whole in
-    let told = subst (λ xs. Appends (g.P.Printer.contents c.print_making.new.printer) (g.P.Printer.contents c.print_lines.new.printer) (flat_map (line_by g.F.ProbeForm.texts c.args.prefix.now xs) EARLY)) c.as_slice.ensures.value c.in_ok-print_lines.ensures.text in
+    let told = subst (λ xs. Appends (g.P.Printer.contents c.print_making.new.printer) (g.P.Printer.contents c.print_lines.new.printer) (flat_map (line_by c.args.form c.args.prefix.now xs) EARLY)) c.as_slice.ensures.value c.in_ok-print_lines.ensures.text in
     let fault = err_from_is_err_and c.from_residual-in_err-print_lines-2.result c.from_residual-in_err-print_lines-2.ensures.1 in
-    rw fault.1 (broken_at g.F.ProbeForm.texts c.args.prefix.now c.ask_on.new.answers.items (making_text g.F.ProbeForm.texts c.args.prefix.now ∷ map (line_by g.F.ProbeForm.texts c.args.prefix.now c.ask_on.new.answers.items) EARLY) (map (line_by g.F.ProbeForm.texts c.args.prefix.now c.ask_on.new.answers.items) (LATE ++ premise.IdsAreEchoed ∷ [])) fault.0 g.P.Printer.own_fault g.P.Printer.IsWhole (g.P.Printer.contents c.args.printer.now) (g.P.Printer.contents c.print_lines.new.printer) (g.P.Printer.contents c.print_lines-2.new.printer) refl (omega (arith, eight))
-    (two_lines g.F.ProbeForm.texts c.args.prefix.now c.ask_on.new.answers.items (g.P.Printer.contents c.args.printer.now) (g.P.Printer.contents c.print_making.new.printer) (g.P.Printer.contents c.print_lines.new.printer) c.in_ok-print_making.ensures.text told) (subst (λ e. Fails e g.P.Printer.own_fault g.P.Printer.IsWhole (g.P.Printer.contents c.print_lines.new.printer) (g.P.Printer.contents c.print_lines-2.new.printer)) (sym fault.2) c.in_err-print_lines-2.ensures.broken))
+    rw fault.1 (broken_at c.args.form c.args.prefix.now c.ask_on.new.answers.items (making_text c.args.form c.args.prefix.now ∷ map (line_by c.args.form c.args.prefix.now c.ask_on.new.answers.items) EARLY) (map (line_by c.args.form c.args.prefix.now c.ask_on.new.answers.items) (LATE ++ premise.IdsAreEchoed ∷ [])) fault.0 g.P.Printer.own_fault g.P.Printer.IsWhole (g.P.Printer.contents c.args.printer.now) (g.P.Printer.contents c.print_lines.new.printer) (g.P.Printer.contents c.print_lines-2.new.printer) refl (omega (arith, eight))
+    (two_lines c.args.form c.args.prefix.now c.ask_on.new.answers.items (g.P.Printer.contents c.args.printer.now) (g.P.Printer.contents c.print_making.new.printer) (g.P.Printer.contents c.print_lines.new.printer) c.in_ok-print_making.ensures.text told) (subst (λ e. Fails e g.P.Printer.own_fault g.P.Printer.IsWhole (g.P.Printer.contents c.print_lines.new.printer) (g.P.Printer.contents c.print_lines-2.new.printer)) (sym fault.2) c.in_err-print_lines-2.ensures.broken))
 
 pub returns-in_err-ask_on-3-clause-broken : goal.returns-in_err-ask_on-3-clause-broken
 returns-in_err-ask_on-3-clause-broken g c =
     let eight = counted c.args.answers.now.items c.ask_on.new.answers.items 8 c.in_ok-ask_on.ensures.onward c.requires.two c.requires.first c.requires.second c.in_ok-ask_on.ensures.most (omega arith) c.in_ok-ask_on.ensures.whole in
-    let told = subst (λ xs. Appends (g.P.Printer.contents c.print_making.new.printer) (g.P.Printer.contents c.print_lines.new.printer) (flat_map (line_by g.F.ProbeForm.texts c.args.prefix.now xs) EARLY)) c.as_slice.ensures.value c.in_ok-print_lines.ensures.text in
+    let told = subst (λ xs. Appends (g.P.Printer.contents c.print_making.new.printer) (g.P.Printer.contents c.print_lines.new.printer) (flat_map (line_by c.args.form c.args.prefix.now xs) EARLY)) c.as_slice.ensures.value c.in_ok-print_lines.ensures.text in
     let most = counted c.args.answers.now.items c.ask_on-2.new.answers.items 23 (farther c.args.answers.now.items c.ask_on.new.answers.items c.ask_on-2.new.answers.items c.in_ok-ask_on.ensures.onward c.in_ok-ask_on-2.ensures.onward) c.requires.two c.requires.first c.requires.second c.in_ok-ask_on-2.ensures.most (omega arith) c.in_ok-ask_on-2.ensures.whole in
-    let later = subst (λ xs. Appends (g.P.Printer.contents c.print_lines.new.printer) (g.P.Printer.contents c.print_lines-2.new.printer) (flat_map (line_by g.F.ProbeForm.texts c.args.prefix.now xs) LATE)) c.as_slice-2.ensures.value c.in_ok-print_lines-2.ensures.text in
+    let later = subst (λ xs. Appends (g.P.Printer.contents c.print_lines.new.printer) (g.P.Printer.contents c.print_lines-2.new.printer) (flat_map (line_by c.args.form c.args.prefix.now xs) LATE)) c.as_slice-2.ensures.value c.in_ok-print_lines-2.ensures.text in
     let (more, is) = c.in_ok-ask_on-2.ensures.onward in
     let fault = err_from_is_err_and c.from_residual-in_err-ask_on-3.result c.from_residual-in_err-ask_on-3.ensures.1 in
-    rw fault.1 (lacked fault.0 g.F.ProbeForm.texts c.args.prefix.now c.ask_on-2.new.answers.items (making_text g.F.ProbeForm.texts c.args.prefix.now ∷ map (line_by g.F.ProbeForm.texts c.args.prefix.now c.ask_on-2.new.answers.items) (EARLY ++ LATE)) (line_by g.F.ProbeForm.texts c.args.prefix.now c.ask_on-2.new.answers.items premise.IdsAreEchoed ∷ []) g.P.Printer.own_fault g.P.Printer.IsWhole (g.P.Printer.contents c.args.printer.now) (g.P.Printer.contents c.print_lines-2.new.printer) refl (omega (arith, most))
-    (eight_lines g.F.ProbeForm.texts c.args.prefix.now c.ask_on.new.answers.items c.ask_on-2.new.answers.items more (g.P.Printer.contents c.args.printer.now) (g.P.Printer.contents c.print_making.new.printer) (g.P.Printer.contents c.print_lines.new.printer) (g.P.Printer.contents c.print_lines-2.new.printer) is (omega (arith, eight)) c.in_ok-print_making.ensures.text told later) fault.2)
+    rw fault.1 (lacked fault.0 c.args.form c.args.prefix.now c.ask_on-2.new.answers.items (making_text c.args.form c.args.prefix.now ∷ map (line_by c.args.form c.args.prefix.now c.ask_on-2.new.answers.items) (EARLY ++ LATE)) (line_by c.args.form c.args.prefix.now c.ask_on-2.new.answers.items premise.IdsAreEchoed ∷ []) g.P.Printer.own_fault g.P.Printer.IsWhole (g.P.Printer.contents c.args.printer.now) (g.P.Printer.contents c.print_lines-2.new.printer) refl (omega (arith, most))
+    (eight_lines c.args.form c.args.prefix.now c.ask_on.new.answers.items c.ask_on-2.new.answers.items more (g.P.Printer.contents c.args.printer.now) (g.P.Printer.contents c.print_making.new.printer) (g.P.Printer.contents c.print_lines.new.printer) (g.P.Printer.contents c.print_lines-2.new.printer) is (omega (arith, eight)) c.in_ok-print_making.ensures.text told later) fault.2)
 
 pub returns-clause-broken : goal.returns-clause-broken
 returns-clause-broken g c =
     let eight = counted c.args.answers.now.items c.ask_on.new.answers.items 8 c.in_ok-ask_on.ensures.onward c.requires.two c.requires.first c.requires.second c.in_ok-ask_on.ensures.most (omega arith) c.in_ok-ask_on.ensures.whole in
-    let told = subst (λ xs. Appends (g.P.Printer.contents c.print_making.new.printer) (g.P.Printer.contents c.print_lines.new.printer) (flat_map (line_by g.F.ProbeForm.texts c.args.prefix.now xs) EARLY)) c.as_slice.ensures.value c.in_ok-print_lines.ensures.text in
+    let told = subst (λ xs. Appends (g.P.Printer.contents c.print_making.new.printer) (g.P.Printer.contents c.print_lines.new.printer) (flat_map (line_by c.args.form c.args.prefix.now xs) EARLY)) c.as_slice.ensures.value c.in_ok-print_lines.ensures.text in
     let most = counted c.args.answers.now.items c.ask_on-2.new.answers.items 23 (farther c.args.answers.now.items c.ask_on.new.answers.items c.ask_on-2.new.answers.items c.in_ok-ask_on.ensures.onward c.in_ok-ask_on-2.ensures.onward) c.requires.two c.requires.first c.requires.second c.in_ok-ask_on-2.ensures.most (omega arith) c.in_ok-ask_on-2.ensures.whole in
-    let later = subst (λ xs. Appends (g.P.Printer.contents c.print_lines.new.printer) (g.P.Printer.contents c.print_lines-2.new.printer) (flat_map (line_by g.F.ProbeForm.texts c.args.prefix.now xs) LATE)) c.as_slice-2.ensures.value c.in_ok-print_lines-2.ensures.text in
+    let later = subst (λ xs. Appends (g.P.Printer.contents c.print_lines.new.printer) (g.P.Printer.contents c.print_lines-2.new.printer) (flat_map (line_by c.args.form c.args.prefix.now xs) LATE)) c.as_slice-2.ensures.value c.in_ok-print_lines-2.ensures.text in
     let (more, is) = c.in_ok-ask_on-2.ensures.onward in
-    broke c.print_rest.result g.F.ProbeForm.texts c.args.prefix.now c.ask_on-2.new.answers.items (making_text g.F.ProbeForm.texts c.args.prefix.now ∷ map (line_by g.F.ProbeForm.texts c.args.prefix.now c.ask_on-2.new.answers.items) (EARLY ++ LATE)) (line_by g.F.ProbeForm.texts c.args.prefix.now c.ask_on-2.new.answers.items premise.IdsAreEchoed ∷ []) g.P.Printer.own_fault g.P.Printer.IsWhole (g.P.Printer.contents c.args.printer.now) (g.P.Printer.contents c.print_lines-2.new.printer) (g.P.Printer.contents c.print_rest.new.printer) refl (omega (arith, most))
-    (eight_lines g.F.ProbeForm.texts c.args.prefix.now c.ask_on.new.answers.items c.ask_on-2.new.answers.items more (g.P.Printer.contents c.args.printer.now) (g.P.Printer.contents c.print_making.new.printer) (g.P.Printer.contents c.print_lines.new.printer) (g.P.Printer.contents c.print_lines-2.new.printer) is (omega (arith, eight)) c.in_ok-print_making.ensures.text told later) c.print_rest.ensures.broken
+    broke c.print_rest.result c.args.form c.args.prefix.now c.ask_on-2.new.answers.items (making_text c.args.form c.args.prefix.now ∷ map (line_by c.args.form c.args.prefix.now c.ask_on-2.new.answers.items) (EARLY ++ LATE)) (line_by c.args.form c.args.prefix.now c.ask_on-2.new.answers.items premise.IdsAreEchoed ∷ []) g.P.Printer.own_fault g.P.Printer.IsWhole (g.P.Printer.contents c.args.printer.now) (g.P.Printer.contents c.print_lines-2.new.printer) (g.P.Printer.contents c.print_rest.new.printer) refl (omega (arith, most))
+    (eight_lines c.args.form c.args.prefix.now c.ask_on.new.answers.items c.ask_on-2.new.answers.items more (g.P.Printer.contents c.args.printer.now) (g.P.Printer.contents c.print_making.new.printer) (g.P.Printer.contents c.print_lines.new.printer) (g.P.Printer.contents c.print_lines-2.new.printer) is (omega (arith, eight)) c.in_ok-print_making.ensures.text told later) c.print_rest.ensures.broken
 
 pub returns-clause-text : goal.returns-clause-text
 returns-clause-text g c =
     let eight = counted c.args.answers.now.items c.ask_on.new.answers.items 8 c.in_ok-ask_on.ensures.onward c.requires.two c.requires.first c.requires.second c.in_ok-ask_on.ensures.most (omega arith) c.in_ok-ask_on.ensures.whole in
-    let told = subst (λ xs. Appends (g.P.Printer.contents c.print_making.new.printer) (g.P.Printer.contents c.print_lines.new.printer) (flat_map (line_by g.F.ProbeForm.texts c.args.prefix.now xs) EARLY)) c.as_slice.ensures.value c.in_ok-print_lines.ensures.text in
+    let told = subst (λ xs. Appends (g.P.Printer.contents c.print_making.new.printer) (g.P.Printer.contents c.print_lines.new.printer) (flat_map (line_by c.args.form c.args.prefix.now xs) EARLY)) c.as_slice.ensures.value c.in_ok-print_lines.ensures.text in
     let most = counted c.args.answers.now.items c.ask_on-2.new.answers.items 23 (farther c.args.answers.now.items c.ask_on.new.answers.items c.ask_on-2.new.answers.items c.in_ok-ask_on.ensures.onward c.in_ok-ask_on-2.ensures.onward) c.requires.two c.requires.first c.requires.second c.in_ok-ask_on-2.ensures.most (omega arith) c.in_ok-ask_on-2.ensures.whole in
-    let later = subst (λ xs. Appends (g.P.Printer.contents c.print_lines.new.printer) (g.P.Printer.contents c.print_lines-2.new.printer) (flat_map (line_by g.F.ProbeForm.texts c.args.prefix.now xs) LATE)) c.as_slice-2.ensures.value c.in_ok-print_lines-2.ensures.text in
+    let later = subst (λ xs. Appends (g.P.Printer.contents c.print_lines.new.printer) (g.P.Printer.contents c.print_lines-2.new.printer) (flat_map (line_by c.args.form c.args.prefix.now xs) LATE)) c.as_slice-2.ensures.value c.in_ok-print_lines-2.ensures.text in
     let (more, is) = c.in_ok-ask_on-2.ensures.onward in
     let (rest, is_all) = c.in_ok-ask_on-3.ensures.onward in
     told_if c.print_rest.result _ _
-    (λ r tells. told_report g.F.ProbeForm.texts c.args.prefix.now c.ask_on.new.answers.items c.ask_on-2.new.answers.items c.ask_on-3.new.answers.items more rest r (g.P.Printer.contents c.args.printer.now) (g.P.Printer.contents c.print_making.new.printer) (g.P.Printer.contents c.print_lines.new.printer) (g.P.Printer.contents c.print_lines-2.new.printer) (g.P.Printer.contents c.print_rest.new.printer) is is_all (omega (arith, eight)) (omega (arith, most)) c.in_ok-print_making.ensures.text told later
-    (subst (λ xs. TellsEnd (rest_text g.F.ProbeForm.texts) c.args.prefix.now xs r (g.P.Printer.contents c.print_lines-2.new.printer) (g.P.Printer.contents c.print_rest.new.printer)) c.as_slice-3.ensures.value tells)) c.print_rest.ensures.text
+    (λ r tells. told_report c.args.form c.args.prefix.now c.ask_on.new.answers.items c.ask_on-2.new.answers.items c.ask_on-3.new.answers.items more rest r (g.P.Printer.contents c.args.printer.now) (g.P.Printer.contents c.print_making.new.printer) (g.P.Printer.contents c.print_lines.new.printer) (g.P.Printer.contents c.print_lines-2.new.printer) (g.P.Printer.contents c.print_rest.new.printer) is is_all (omega (arith, eight)) (omega (arith, most)) c.in_ok-print_making.ensures.text told later
+    (subst (λ xs. TellsEnd (rest_text c.args.form) c.args.prefix.now xs r (g.P.Printer.contents c.print_lines-2.new.printer) (g.P.Printer.contents c.print_rest.new.printer)) c.as_slice-3.ensures.value tells)) c.print_rest.ensures.text
 
 pub returns-clause-all : goal.returns-clause-all
 returns-clause-all g c =

@@ -1,0 +1,12 @@
+-- The pieces are these.
+use Rattle.std.proofs.Common.{refl}
+use Rattle.kmip_report.proofs.ForCallers.{last_piece, line_of, then_pieces}
+use Rattle.kmip_probe_command.specs.Lines.{keys_line}
+use Rattle.kmip_probe_command.proofs.PieceLemmas.{noted_as}
+use Rattle.kmip_probe_command.proofs.lines.push_keys.Goals as goal
+
+pub returns : goal.returns
+unfolding keys_line
+returns c =
+    let said = then_pieces refl (then_pieces refl (then_pieces refl (then_pieces refl (last_piece (noted_as c.words.result c.words.ensures))))) in
+    line_of c.push_line.result c.args.form c.args.text.now.items c.push_line.new.text.items said c.push_line.ensures
