@@ -1,4 +1,4 @@
--- What a line of a report says as a document of JSON.
+-- The documents of `run` and `sim`.
 
 -- what stands in the way of a run
 pub mod Causes
@@ -6,5 +6,3 @@ pub mod Causes
 pub mod RunJson
 -- what `sim` says of the end of a simulation
 pub mod SimJson
--- what `look` says of the keys of a plan
-pub mod LookJson

@@ -1,7 +1,9 @@
--- What `look` writes of the keys of a plan.
+-- What `look` reports of the keys of a plan.
 
--- what is written of what was seen of each key
-pub mod LookText
+-- the words of what was found out
+pub mod LookWords
+-- the report
+pub mod LookReport
 -- that it was written
 pub mod Writing
 -- private: what only the clauses of private functions cite

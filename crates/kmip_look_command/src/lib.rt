@@ -1,16 +1,19 @@
-//! The command `look`: tells how each key of a plan stands on the server.
+//! The command `look`: reports how each key of a plan stands on the server.
 //!
-//! It asks Locate and Get Attributes alone over any link, and tells what was answered, over any writer
-//! or in memory.
+//! It asks Locate and Get Attributes alone over any link, and reports what was answered, as text or
+//! as JSON.
 #![tactic(auto)]
 
 mod line;
+mod line_words;
+mod report;
 mod running;
-mod seen;
-mod text;
+mod standing;
 mod usage;
+mod verdicts;
+mod words;
 
-pub use running::{look_bytes, run_look};
-pub use seen::{named_algorithm, named_state, why_text};
-pub use text::{push_looked, verdicts_on};
+pub use report::push_looked;
+pub use running::run_look;
 pub use usage::usage_text;
+pub use words::{state_name, why_text};

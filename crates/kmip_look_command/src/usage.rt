@@ -1,7 +1,12 @@
 //! A usage mask, in words.
 ghost use Rattle.std.specs.Prelude.{◌≡◌, ◌++◌, IfOk, OnOk, map, string_bytes};
 ghost use Rattle.std.specs.List.{flat_map};
-ghost use Rattle.kmip_look_command.specs.LookText.{mask_text, named_usages, usage_text, usage_word};
+ghost use Rattle.kmip_look_command.specs.LookWords.{
+  mask_text,
+  named_usages,
+  usage_text,
+  usage_word,
+};
 
 use kmip_objects::is_usage;
 use kmip_ttlv::NoMemory;
@@ -9,8 +14,8 @@ use std::alloc::Global;
 
 /// The usages that have a word, each with its bit of the Cryptographic Usage Mask.
 ///
-/// Source: KMIP 2.1, Enumerations and Masks, Cryptographic Usage Mask. Export is of KMIP 1. The words
-/// are own.
+/// Source: KMIP 2.1, Enumerations and Masks, Cryptographic Usage Mask. Export is of KMIP 1. The
+/// words are own.
 const USAGES: [(&str, u32); 9] = [
     ("sign", 1),
     ("verify", 2),
@@ -30,11 +35,11 @@ fn named_usages() -> &'static [(&'static str, u32)]
     &USAGES
 }
 
-/// A usage mask in words, a space before each, as ` encrypt decrypt`. A mask with a bit that has no word,
-/// or with no bit, stands behind them in eight hexadecimal digits, as ` sign of mask 00000201`.
+/// A usage mask in words, a space before each, as ` encrypt decrypt`. A mask with a bit that has no
+/// word, or with no bit, is after them in eight hexadecimal digits, as ` sign of mask 00000201`.
 ///
 /// # Errors
-/// If there is no memory.
+/// If memory runs out.
 pub fn usage_text(alloc: Global, usage: i32) -> Result<String, NoMemory>
     ensures { IfOk result (λ text. string_bytes text ≡ usage_text usage) }
 {

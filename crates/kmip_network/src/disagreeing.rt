@@ -3,7 +3,7 @@
 use kmip_account::Account;
 use kmip_client::{Clash, Client};
 use kmip_look::Looked;
-use kmip_look_command::{named_state, why_text};
+use kmip_look_command::{state_name, why_text};
 use kmip_plan::{Key, Step, chain_length, step_place};
 use kmip_refresh::{Agreement, KeyLook};
 use kmip_trouble::{Contradiction, Disagreement};
@@ -123,7 +123,7 @@ fn state_text(alloc: Global, looked: &Looked) -> Result<String, NoMemory> {
     };
     let text = match state {
         Some(number) => {
-            let state = named_state(alloc, number)?;
+            let state = state_name(alloc, number)?;
             format!(in alloc; "{object} in the state {state}")?
         }
         None => format!(in alloc; "{object} in an unknown state")?,

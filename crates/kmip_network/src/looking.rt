@@ -5,21 +5,21 @@ use crate::linking::{loopback, tcp_link, unix_link};
 use crate::look_pause::LookPause;
 use crate::look_watcher::LookWatcher;
 use kmip_account::{ExchangeLog, LookCounts};
-use kmip_choices::{Format, LookOptions, Peer};
+use kmip_choices::{LookOptions, Peer};
 use kmip_client::Verdict;
-use kmip_json::push_look;
 use kmip_look::{Looked, look};
 use kmip_look_command::{push_looked, run_look};
-use kmip_message_commands::{CommandFault, ExitStatus, Printer, finished};
+use kmip_message_commands::{CommandFault, ExitStatus, Printer};
 use kmip_plan::{Key, Plan};
 use kmip_plan_commands::batch_of;
+use kmip_plan_report::print_report;
 use kmip_protocol::Link;
+use kmip_report::Form;
 use kmip_run_files::{LookMetricsFile, plan_at};
 use kmip_runs::Observed;
-use kmip_trouble::{Cannot, Trouble, print_documents, standard_output};
+use kmip_trouble::{Cannot, Trouble, standard_output};
 use kmip_ttlv::NoMemory;
 use std::cell::Cell;
-use std::io::BufWriter;
 use std::random::RandomSource;
 use std::time::Duration;
 
@@ -78,23 +78,25 @@ fn look_over<L: Link + Drop>(
     let mut link = Observed::new(link, LookWatcher::new(log, &last, &mark, plan.count()));
     let mut pause = LookPause::new(rt, log, &last, first_wait, options.give_up);
     let batch = batch_of(options.batch);
-    let status = if options.format == Format::Text && metrics.is_none() {
-        let mut writer = BufWriter::new(rt.alloc(), standard_output(rt))?;
-        run_look(
+    let form = options.format.form();
+    let status = match metrics {
+        None => run_look(
             rt.alloc(),
+            form,
             plan,
             &mut link,
             &new,
             batch,
             &mut pause,
-            &mut writer,
-        )
-    } else {
-        let looked = look(rt.alloc(), plan, &mut link, &new, batch, &mut pause);
-        if let (Some(metrics), Ok(lookeds)) = (&metrics, &looked) {
-            metrics.write(log, counts_of(plan.keys(), lookeds.as_slice()));
+            &mut standard_output(rt),
+        ),
+        Some(metrics) => {
+            let looked = look(rt.alloc(), plan, &mut link, &new, batch, &mut pause);
+            if let Ok(lookeds) = &looked {
+                metrics.write(log, counts_of(plan.keys(), lookeds.as_slice()));
+            }
+            print_looked(rt, form, plan.keys(), looked)
         }
-        print_looked(log, options.format, plan.keys(), looked)?
     };
     log.end_line();
     if pause.has_given_up() {
@@ -103,33 +105,19 @@ fn look_over<L: Link + Drop>(
     Ok(status)
 }
 
-/// Prints the status of the keys in this form, if it is known. Says how the program ends.
+/// Prints how the keys stand, or that memory ran out. Returns how the program ends.
 fn print_looked(
-    log: &ExchangeLog<'_>,
-    format: Format,
+    rt: &HostRuntime,
+    form: Form,
     keys: &[Key],
     looked: Result<Vec<Looked>, NoMemory>,
-) -> Result<ExitStatus, Trouble> {
-    let rt = log.rt();
+) -> ExitStatus {
     let mut text = Vec::new(rt.alloc());
-    match format {
-        Format::Json => {
-            let made = match looked {
-                Ok(lookeds) => push_look(rt.alloc(), keys, lookeds.as_slice(), &mut text),
-                Err(NoMemory) => Err(NoMemory),
-            };
-            Ok(print_documents(rt, made, text.as_slice()))
-        }
-        Format::Text => {
-            let mut writer = BufWriter::new(rt.alloc(), standard_output(rt))?;
-            let made = match looked {
-                Ok(lookeds) => push_looked(rt.alloc(), keys, lookeds.as_slice(), &mut text),
-                Err(NoMemory) => Err(NoMemory),
-            };
-            let ended = printed(made, text.as_slice(), &mut writer);
-            Ok(finished(ended, &mut writer))
-        }
-    }
+    let made = match looked {
+        Ok(lookeds) => push_looked(rt.alloc(), form, keys, lookeds.as_slice(), &mut text),
+        Err(NoMemory) => Err(NoMemory),
+    };
+    print_report(form, made, text.as_slice(), &mut standard_output(rt))
 }
 
 /// Prints a text that was made, and says whether something in it is refused.

@@ -1,7 +1,8 @@
 //! How a report is printed.
-ghost use Rattle.std.specs.Prelude.{◌≡◌, Ok};
+ghost use Rattle.std.specs.Prelude.{◌≡◌, ◌≢◌, Ok};
 ghost use Rattle.std.specs.Io.KnownBytes.{Appends};
 ghost use Rattle.kmip_message_commands.specs.Printing.{FailsBy, IfFailed, IfWhole, UnlessOutput};
+ghost use Rattle.kmip_message_commands.specs.declared.command_fault.CommandFault.TheVariants as Fault;
 ghost use Rattle.kmip_report.specs.FaultLines.{no_memory};
 ghost use Rattle.kmip_report.specs.Pieces.{line_in};
 
@@ -27,6 +28,8 @@ pub fn print_report<W: Write>(
     // writer failed.
     ensures broken { IfFailed result (λ fault. UnlessOutput fault
         (Appends (W.contents writer.old) (W.contents writer.new) (line_in form no_memory))) }
+    // The fault is never that of a reader.
+    ensures no_input { IfFailed result (λ fault. fault ≢ Fault.Input) }
 {
     match made {
         Ok(is_refused) => match send(report, false, writer) {
@@ -40,8 +43,9 @@ pub fn print_report<W: Write>(
 
 /// Prints the line for running out of memory.
 fn print_no_memory<W: Write>(form: Form, writer: &mut W) -> ExitStatus
-    ensures { FailsBy result (λ fault. UnlessOutput fault
+    ensures broken { FailsBy result (λ fault. UnlessOutput fault
         (Appends (W.contents writer.old) (W.contents writer.new) (line_in form no_memory))) }
+    ensures no_input { FailsBy result (λ fault. fault ≢ Fault.Input) }
 {
     match send(no_memory_line(form).as_bytes(), false, writer) {
         Ok(()) => ExitStatus::Failed(CommandFault::NoMemory),

@@ -5,8 +5,9 @@ ghost use Rattle.kmip_messages.specs.Members.{may_have};
 use crate::board::Board;
 use crate::settings::batch_of;
 use kmip_look::Pause;
-use kmip_look_command::{look_bytes, run_look};
+use kmip_look_command::run_look;
 use kmip_plan::{Plan, read_plan};
+use kmip_report::Form;
 use std::alloc::Global;
 use std::fs;
 use std::str::from_utf8;
@@ -44,11 +45,11 @@ impl Pause for Times {
     }
 }
 
-/// Looks as these words say, behind `look of`, at a peer that answers as the lines say. Writes what is
-/// written over a writer, and says where something else is written in memory.
+/// Looks as these words say, after `look of`, at a peer that answers as the lines say. Appends what
+/// is written.
 ///
 /// # Errors
-/// Where a line can't be read, the file of the plan is none, or there is no memory.
+/// If a line can't be read, the file of the plan is none, or memory runs out.
 pub fn push_look(
     rt: &HostRuntime,
     text: &mut String,
@@ -79,6 +80,7 @@ fn look_over(
     let mut written = Vec::new(alloc);
     let status = run_look(
         alloc,
+        Form::Text,
         plan,
         &mut board,
         MARK,
@@ -93,35 +95,5 @@ fn look_over(
         "exit status {}, messages {messages}, waits {waits}",
         status.code()
     )?;
-    look_in_memory(alloc, text, plan, batch, times, lines, written.as_slice())
-}
-
-/// Looks once more in memory, and tells where that appends something else.
-fn look_in_memory(
-    alloc: Global,
-    text: &mut String,
-    plan: &Plan,
-    batch: usize,
-    times: usize,
-    lines: &str,
-    written: &[u8],
-) -> Result<(), Fail>
-    requires { IsTrue (may_have batch) }
-{
-    let mut board = Board::of(alloc, lines)?;
-    let mut pause = Times::new(times);
-    let mut output = Vec::new(alloc);
-    look_bytes(
-        alloc,
-        plan,
-        &mut board,
-        MARK,
-        batch,
-        &mut pause,
-        &mut output,
-    )?;
-    if output.as_slice() != written {
-        text.push_str("in memory something else is appended\n")?;
-    }
     Ok(())
 }

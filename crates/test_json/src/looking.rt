@@ -2,9 +2,10 @@
 
 use crate::asserting::{assert_lines, key};
 use kmip_client::{Clash, Knowledge, Phase};
-use kmip_json::push_look;
 use kmip_look::{Looked, Shown, Why};
+use kmip_look_command::push_looked;
 use kmip_plan::Target;
+use kmip_report::Form;
 use kmip_ttlv::{NoMemory, Text};
 use std::alloc::Global;
 use std::test::Fail;
@@ -143,7 +144,13 @@ fn writes_how_keys_stand(rt: HostRuntime) -> Result<(), Fail> {
         lookeds.push(looked(alloc, row)?)?;
     }
     let mut text = Vec::new(alloc);
-    let is_refused = push_look(alloc, keys.as_slice(), lookeds.as_slice(), &mut text)?;
+    let is_refused = push_looked(
+        alloc,
+        Form::Json,
+        keys.as_slice(),
+        lookeds.as_slice(),
+        &mut text,
+    )?;
     assert!(rt; is_refused, "not all keys are finished");
     assert_lines(&rt, alloc, text.as_slice(), &LOOK_LINES)?;
     Ok(())

@@ -22,14 +22,14 @@ const CHECK_LINES: [&str; 3] = [
     r#"{"key":"d","algorithm":"HMAC-SHA256","length":256,"usage":384,"target":"destroyed","steps":["Create","Activate","Revoke","Destroy"]}"#,
 ];
 
-/// A plan that the plan does not prolong: its key is of another length.
+/// A plan that the plan does not prolong: the plan has not its key.
 const EARLIER: &str = r#"
 [[key]]
-name = "second"
-algorithm = "HMAC-SHA256"
-length = 512
-usage = ["mac-generate"]
-target = "discarded"
+name = "other"
+algorithm = "AES"
+length = 256
+usage = ["encrypt"]
+target = "active"
 "#;
 
 const PROLONGS_LINES: [&str; 3] = [

@@ -1,7 +1,7 @@
 -- One verdict more, until a list ends.
 use Rattle.std.proofs.Common.{◌∙◌}
 use Rattle.kmip_look_command.proofs.LineLemmas.{no_verdict, nothing_left, verdict_more}
-use Rattle.kmip_look_command.proofs.text.push_verdicts.Goals as goal
+use Rattle.kmip_look_command.proofs.verdicts.push_verdicts.Goals as goal
 
 pub loop-key-preserved : goal.loop-key-preserved
 loop-key-preserved c =

@@ -1,9 +1,9 @@
--- What was seen is printed, or memory ran out.
+-- The report of what was seen is appended, or memory ran out.
 use Rattle.std.proofs.Common.{Ok, Err, IfOk, rules, subst}
 use Rattle.std.specs.List.{AllZip}
 use Rattle.kmip_look.specs.Looks.{IsTried, Looks}
 use Rattle.kmip_look_command.proofs.LookLemmas.{looks_lack, looks_list}
-use Rattle.kmip_look_command.proofs.running.look_to.Goals as goal
+use Rattle.kmip_look_command.proofs.running.push_look.Goals as goal
 
 pub returns-in-Ok : goal.returns-in-Ok
 returns-in-Ok g c = record {
@@ -15,8 +15,7 @@ returns-in-Ok g c = record {
       subst
       (λ r. IfOk r (λ v. AllZip (IsTried c.args.mark.now (g.L.Link.seen c.args.link.now).past (g.L.Link.seen c.look.new.link).past) c.args.plan.now v.items))
       c.in-Ok.is (c.look.ensures.tried names honest patient);
-  whole = search (rules, c.print_looked.ensures.text, c.keys.ensures, c.as_slice.ensures.value);
-  broken = c.print_looked.ensures.broken;
+  whole = search (rules, c.push_looked.ensures.text, c.push_looked.ensures.refused, c.keys.ensures, c.as_slice.ensures.value);
 }
 
 pub returns-in-Err : goal.returns-in-Err
@@ -27,5 +26,4 @@ returns-in-Err g c = record {
       (subst (λ r. Looks (λ v. v.items) c.args.plan.now c.args.mark.now (g.L.Link.seen c.args.link.now) r (g.L.Link.seen c.look.new.link)) c.in-Err.is c.look.ensures.looks);
   tried = λ names honest patient. tt;
   whole = tt;
-  broken = search rules;
 }
