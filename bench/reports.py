@@ -4,14 +4,16 @@
     bench/reports.py PROGRAM FOLDER
 
 Each line has to be one JSON object with no member twice. The values are compared with what is written here, and
-exit statuses with those of the text. Each row prints what it looks at and `ok`, or what went wrong. The last
-line counts what is wrong, and the exit status is 0 where nothing is. Sockets on 127.0.0.1 and in the folder only.
+exit statuses with those of the text. The members of each document have to be those of a row of docs/AUTOMATION.md,
+in its order, and each row of that page has to be seen. Each row prints what it looks at and `ok`, or what went wrong.
+The last line counts what is wrong, and the exit status is 0 if nothing is. Sockets on 127.0.0.1 and in the folder only.
 """
 
 import fcntl
 import json
 import os
 import pathlib
+import re
 import shutil
 import socket
 import subprocess
@@ -34,7 +36,10 @@ PREMISES = ['names are unique', 'names stay used after Destroy', 'a step made tw
             'Locate finds destroyed objects', 'Get Attributes tells all six attributes', 'the batch id is echoed']
 
 # What the rows of the commands want.
-STORED = pathlib.Path(__file__).resolve().parent.parent / 'crates' / 'rows_kmipctl' / 'data'
+ROOT = pathlib.Path(__file__).resolve().parent.parent
+STORED = ROOT / 'crates' / 'rows_kmipctl' / 'data'
+PAGE = ROOT / 'docs' / 'AUTOMATION.md'
+HEAD = '| command | of | members |'
 HOLDS = 'the promise holds here: each key is made once, and its steps are made once and in order'
 
 
@@ -80,6 +85,25 @@ def no_plan(number, name, field, key, line):
     return {'fault': 'plan refused', 'number': number, 'name': name, 'field': field, 'key': key, 'line': line}
 
 
+def named_in(text):
+    """The names that a text has in backticks."""
+    return re.findall(r'`([^`]+)`', text)
+
+
+def page_rows():
+    """The rows of the page: the commands of each, none if it is of all, and the members of its document."""
+    commands, lines = [], PAGE.read_text().splitlines()
+    for line in lines[lines.index(HEAD) + 2:]:
+        if not line.startswith('|'):
+            return
+        command, _, members = [cell.strip() for cell in line.strip('|').split('|')]
+        commands = named_in(command) or ([] if command else commands)
+        short, more, rest = members.partition('also')
+        yield tuple(commands), tuple(named_in(short))
+        if more:
+            yield tuple(commands), tuple(named_in(short) + named_in(rest))
+
+
 def one_document(line):
     """The object that a line is, in which no name stands twice."""
     def pairs_of(pairs):
@@ -105,7 +129,7 @@ def is_document(line):
 class Reports:
     def __init__(self, program, folder):
         self.program, self.folder, self.wrong, self.rows = program, folder, 0, 0
-        self.servers = []
+        self.servers, self.seen = [], set()
         shutil.rmtree(folder, ignore_errors=True)
         os.makedirs(folder)
         self.plan = self.write('plan.toml', plan(KEYS))
@@ -134,6 +158,7 @@ class Reports:
         except ValueError as error:
             return done.returncode, f'{error}: {text!r}'
         for document in documents:
+            self.seen.add((words[0], tuple(document)))
             if isinstance(document.get('milliseconds'), int):
                 document['milliseconds'] = 'T'
         return done.returncode, documents
@@ -199,6 +224,13 @@ class Reports:
                   ['run', '--plan', self.plan, '--progress', saved, '--connect', second, '--batch', batch], 1,
                   fault('progress of another server', saved,
                         f'it was saved against {where[1]}; this run is to use {second}'))
+
+        empty = self.serve()
+        os.remove(f'{saved}.origin')
+        self.look(f'its progress at a server without its keys{what}',
+                  ['run', '--plan', self.plan, '--progress', saved, '--connect', empty, '--batch', batch, '--believe'], 1,
+                  {'fault': 'progress of another server', 'at': saved, 'why': f'{empty} contradicts what it says',
+                   'keys': [key.name for key in KEYS]})
 
     def passing(self, batch):
         """Troubles that pass, and those that last."""
@@ -271,6 +303,9 @@ class Reports:
         self.look(f'a script that is refused, {batch} keys a message',
                   ['sim', '--plan', self.plan, '--script', bad, '--batch', batch], 1,
                   {'fault': 'script refused', 'line': 2})
+        early = self.write('early.script', 'crash 90 new\n')
+        self.look(f'a crash after calls that are not made, {batch} keys a message',
+                  ['sim', '--plan', self.plan, '--script', early, '--batch', batch], 1, {'fault': 'crash refused', 'run': 1})
 
     def probes(self):
         where = ['--connect', self.serve()]
@@ -287,6 +322,15 @@ class Reports:
         wrong = [line for line in lines if not is_document(line)]
         self.compare(f'{len(lines)} documents of rows', (len(lines) > 0, wrong), (True, []))
 
+    def page(self):
+        """The documents that were printed, and the rows of the page."""
+        rows = list(page_rows())
+        unlisted = sorted(seen for seen in self.seen
+                          if not any(seen[0] in (commands or seen) and seen[1] == members for commands, members in rows))
+        unseen = [row for row in rows
+                  if not any((command, row[1]) in self.seen for command in row[0] or {seen for seen, _ in self.seen})]
+        self.compare(f'{len(rows)} rows of {PAGE.name}', (len(rows) > 0, unlisted, unseen), (True, [], []))
+
     def end(self):
         for server in self.servers:
             server.kill()
@@ -300,7 +344,7 @@ def main():
         for batch in BATCHES:
             for part in (reports.runs, reports.passing, reports.simulations):
                 part(batch)
-        for part in (reports.plans, reports.faults, reports.probes, reports.stored):
+        for part in (reports.plans, reports.faults, reports.probes, reports.stored, reports.page):
             part()
     finally:
         status = reports.end()
