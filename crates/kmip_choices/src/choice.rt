@@ -1,6 +1,5 @@
 //! What a command line may ask for, by its options and their values.
 ghost use Rattle.std.specs.Prelude.{◌≡◌, IfOk, option_map, string_bytes, if◌then◌else◌};
-ghost use Rattle.kmip_message_commands.specs.declared.form.Form.TheVariants.{Text, Canonical};
 ghost use Rattle.kmip_choices.specs.Choices.{IsCheckOf, IsSimulationOf, choice_format};
 ghost use Rattle.kmip_choices.specs.declared.choice.Choice.TheVariants.{Answer, AnswerStream};
 ghost use Rattle.kmip_choices.specs.declared.detail.Detail.TheVariants.{Runs, Exchanges, Diagram};
@@ -13,7 +12,6 @@ use crate::probe_options::ProbeOptions;
 use crate::run_options::RunOptions;
 use crate::serve_options::ServeOptions;
 use crate::shell::Shell;
-use kmip_message_commands::Form;
 use std::alloc::{AllocError, Global};
 
 /// What the command line asks for.
@@ -23,7 +21,11 @@ pub enum Choice {
     Answer,
     /// Answer the messages of the stream that the lines are pieces of.
     AnswerStream,
-    Show(Form),
+    /// Show the items on the lines.
+    Show {
+        /// Whether each is printed in its canonical form, not as text.
+        is_canonical: bool,
+    },
     /// Check a plan.
     Check {
         /// The path of the plan.
@@ -87,7 +89,7 @@ impl Choice {
             Choice::Probe(options) => options.format,
             Choice::Answer
             | Choice::AnswerStream
-            | Choice::Show(_)
+            | Choice::Show { .. }
             | Choice::Serve(_)
             | Choice::PlanSchema
             | Choice::Completions(_) => Format::Text,
@@ -103,18 +105,6 @@ pub fn answer_of(is_stream: bool) -> Choice
         Choice::AnswerStream
     } else {
         Choice::Answer
-    }
-}
-
-/// The form that `show` prints, by whether it was asked for the canonical one: `Canonical`, or else
-/// `Text`.
-pub fn form_of(is_canonical: bool) -> Form
-    ensures { result ≡ (if is_canonical then Canonical else Text) }
-{
-    if is_canonical {
-        Form::Canonical
-    } else {
-        Form::Text
     }
 }
 

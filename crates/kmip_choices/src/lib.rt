@@ -18,7 +18,7 @@ mod shell;
 mod trust;
 mod variable;
 
-pub use choice::{Choice, answer_of, check_of, detail_of, form_of, simulation_of};
+pub use choice::{Choice, answer_of, check_of, detail_of, simulation_of};
 pub use detail::Detail;
 pub use format::Format;
 pub use list_options::ListOptions;

@@ -32,8 +32,8 @@ pub use environment::{
     CONNECT_VARIABLE, Environment, PLAN_VARIABLE, PROGRESS_VARIABLE, SOCKET_VARIABLE,
 };
 use given::Given;
-use kmip_choices::{Choice, Shell, answer_of, form_of};
-use kmip_message_commands::{CommandFault, ExitStatus};
+use kmip_choices::{Choice, Shell, answer_of};
+use kmip_report::{CommandFault, ExitStatus};
 use local::{check_choice, list_choice, sim_choice};
 use looking::look_choice;
 use network::{probe_choice, run_choice, serve_options};
@@ -99,7 +99,9 @@ fn is_lacking(matches: &Result<ArgMatches<'_>, Error>) -> bool {
 /// What a command with these options asks for.
 fn choice_of(alloc: Global, command: &str, given: Given<'_, '_>) -> Result<Choice, Unchosen> {
     match command {
-        "show" => Ok(Choice::Show(form_of(given.flag("canon")))),
+        "show" => Ok(Choice::Show {
+            is_canonical: given.flag("canon"),
+        }),
         "check" => check_choice(alloc, given),
         "sim" => sim_choice(alloc, given),
         "run" => run_choice(alloc, given),

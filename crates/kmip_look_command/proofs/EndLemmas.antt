@@ -3,9 +3,9 @@ use Rattle.std.proofs.Common.{◌≡◌, ℕ, Bool, true, false, List, [], Optio
 use Rattle.std.specs.Io.KnownBytes.{Appends}
 use Rattle.kmip_report.specs.declared.form.Form.{Form}
 use Rattle.kmip_ttlv.specs.declared.no_memory.NoMemory.{NoMemory}
-use Rattle.kmip_message_commands.specs.Printing.{IfWhole}
-use Rattle.kmip_message_commands.specs.declared.exit_status.ExitStatus.{ExitStatus}
-use Rattle.kmip_message_commands.specs.declared.exit_status.ExitStatus.TheVariants.{Done, Refused, Failed, Usage}
+use Rattle.kmip_report.specs.Endings.{IfWhole}
+use Rattle.kmip_report.specs.declared.exit_status.ExitStatus.{ExitStatus}
+use Rattle.kmip_report.specs.declared.exit_status.ExitStatus.TheVariants.{Done, Refused, Failed, Usage}
 use Rattle.kmip_plan.specs.declared.key.Key.{Key}
 use Rattle.kmip_look.specs.declared.looked.Looked.{Looked}
 use Rattle.kmip_look_command.specs.Private.{AppendsLooked}

@@ -10,9 +10,9 @@ use Rattle.kmip_ttlv.specs.declared.no_memory.NoMemory.{NoMemory}
 use Rattle.kmip_plan.specs.declared.key.Key.{Key}
 use Rattle.kmip_protocol.specs.Past.{Names}
 use Rattle.kmip_protocol.specs.Seen.{Seen}
-use Rattle.kmip_message_commands.specs.Printing.{IfFailed, IfWhole, UnlessOutput}
-use Rattle.kmip_message_commands.specs.declared.command_fault.CommandFault.TheVariants.{Input}
-use Rattle.kmip_message_commands.specs.declared.exit_status.ExitStatus.{ExitStatus}
+use Rattle.kmip_report.specs.Endings.{IfFailed, IfWhole, UnlessOutput}
+use Rattle.kmip_report.specs.declared.command_fault.CommandFault.TheVariants.{Input}
+use Rattle.kmip_report.specs.declared.exit_status.ExitStatus.{ExitStatus}
 use Rattle.kmip_look.specs.Looks.{IsTried, Looks}
 use Rattle.kmip_look.specs.declared.looked.Looked.{Looked}
 use Rattle.kmip_look_command.specs.LookReport.{are_all_finished, look_report}

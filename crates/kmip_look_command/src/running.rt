@@ -6,11 +6,10 @@ ghost use Rattle.kmip_look_command.specs.Writing.{WritesLook};
 
 use crate::report::push_looked;
 use kmip_look::{Pause, look};
-use kmip_message_commands::ExitStatus;
 use kmip_plan::Plan;
 use kmip_plan_report::print_report;
 use kmip_protocol::Link;
-use kmip_report::Form;
+use kmip_report::{ExitStatus, Form};
 use kmip_ttlv::NoMemory;
 use std::alloc::Global;
 use std::io::Write;

@@ -5,5 +5,4 @@ mod LineLemmas
 mod StreamingLemmas
 mod AdvancingLemmas
 mod MessagesLemmas
-pub mod ForCallers
 mod DecodingLemmas

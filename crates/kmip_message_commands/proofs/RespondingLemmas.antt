@@ -11,9 +11,10 @@ use Rattle.kmip_message_commands.specs.LineText.{saying_text, state_after_saying
 use Rattle.kmip_message_commands.specs.Private.{state_after_lines, lines_read, Response, input_read, Responds, RespondsTo, BreaksOffAt}
 use Rattle.kmip_message_commands.specs.Lines.{most_digits, lines_of}
 use Rattle.kmip_message_commands.specs.Private.{most_kept, TakesFirst}
-use Rattle.kmip_message_commands.specs.Printing.{WroteFront, UnlessOutput}
-use Rattle.kmip_message_commands.specs.declared.command_fault.CommandFault.{CommandFault}
-use Rattle.kmip_message_commands.specs.declared.command_fault.CommandFault.TheVariants.{Input, Output, NoMemory}
+use Rattle.kmip_report.specs.Endings.{UnlessOutput}
+use Rattle.kmip_message_commands.specs.Printing.{WroteFront}
+use Rattle.kmip_report.specs.declared.command_fault.CommandFault.{CommandFault}
+use Rattle.kmip_report.specs.declared.command_fault.CommandFault.TheVariants.{Input, Output, NoMemory}
 
 -- a line of more digits than a message may have
 saying_of-long : (line : List ℕ) → most_digits < length line → saying_of line ≡ too_long

@@ -1,8 +1,8 @@
--- What `answer` and `show` read and write, and how a command ends.
+-- What `answer` and `show` read and write.
 
 -- the lines of some bytes
 pub mod Lines
--- what was written of what was read, and how a command ends
+-- what was written of what was read
 pub mod Printing
 -- what a line says, and whether it is refused
 pub mod Judging

@@ -1,8 +1,8 @@
 -- Private: definitions that only clauses of private functions cite.
 -- Source: own (view): parts of the public definitions of this crate.
-use Rattle.std.specs.Prelude.{◌≡◌, ◌≢◌, ℕ, ◌+◌, ◌-◌, List, [], ◌∷◌, ◌++◌, if◌then◌else◌, length, take, Option, Some, Bool, false, ◌⊎◌, IfSome}
+use Rattle.std.specs.Prelude.{◌≡◌, ◌≢◌, ℕ, ◌+◌, ◌-◌, List, [], ◌∷◌, ◌++◌, if◌then◌else◌, length, take, Option, Some, Bool, false, IfSome}
 use Rattle.std.specs.List.{All}
-use Rattle.std.specs.Io.KnownBytes.{Consumes, IsAtEnd, Appends, Keeps}
+use Rattle.std.specs.Io.KnownBytes.{Consumes, IsAtEnd, Appends}
 use Rattle.kmip_message_commands.specs.declared.next_line.NextLine.{NextLine}
 use Rattle.kmip_message_commands.specs.declared.next_line.NextLine.TheVariants.{Line, End}
 use Rattle.kmip_message_commands.specs.declared.piece.Piece.{Piece}
@@ -11,8 +11,6 @@ use Rattle.kmip_message_commands.specs.Lines.{most_digits, lines_of}
 use Rattle.kmip_message_commands.specs.declared.judged.Judged.{Judged}
 use Rattle.kmip_message_commands.specs.declared.judged.Judged.TheVariants.{Empty, Long, NotHex, Message}
 use Rattle.kmip_message_commands.specs.Judging.{Saying, nothing, too_long, no_hex, message, saying_of, are_refused}
-use Rattle.kmip_message_commands.specs.declared.command_fault.CommandFault.{CommandFault}
-use Rattle.kmip_message_commands.specs.declared.command_fault.CommandFault.TheVariants.{NoMemory}
 use Rattle.kmip_message_commands.specs.Printing.{WroteFront}
 use Rattle.kmip_message_commands.specs.LineText.{state_after_saying, lines_text}
 use Rattle.kmip_store.specs.Stock.{Stock}
@@ -66,11 +64,6 @@ judge Empty bytes = nothing
 judge Long bytes = too_long
 judge NotHex bytes = no_hex
 judge Message bytes = message bytes
-
--- A command failed. It was for want of memory, and nothing was printed; or by the fault of its
--- printer, which then holds what it held if it takes all or nothing.
-abbrev pub Fails : CommandFault → CommandFault → Type 0 → Option (List ℕ) → Option (List ℕ) → Type 0
-Fails fault own_fault IsWhole old new = ((fault ≡ NoMemory) × Keeps old new) ⊎ ((fault ≡ own_fault) × (IsWhole → Keeps old new))
 
 -- The state after lines.
 abbrev pub state_after_lines : {S : Type 0} → (S → List ℕ → S) → S → List (List ℕ) → S

@@ -6,14 +6,13 @@ ghost use Rattle.kmip_message_commands.specs.AnswerText.{answer_lines, answer_te
 ghost use Rattle.kmip_message_commands.specs.Private.{answers};
 ghost use Rattle.kmip_message_commands.specs.Judging.{has_refused_line};
 ghost use Rattle.kmip_message_commands.specs.Lines.{lines_of};
-ghost use Rattle.kmip_message_commands.specs.Printing.{BreaksOff, IfFailed, IfWhole, Prints, Tells, WroteFront, fault_line, nothing_more};
+ghost use Rattle.kmip_report.specs.Endings.{IfFailed, IfWhole, fault_line};
+ghost use Rattle.kmip_message_commands.specs.Printing.{BreaksOff, Prints, Tells, WroteFront, nothing_more};
 
 use crate::answerer::Answerer;
-use crate::command_fault::CommandFault;
-use crate::exit_status::ExitStatus;
-use crate::finishing::finished;
 use crate::replies::push_hex;
 use crate::responding::{respond_to_bytes, respond_to_lines};
+use kmip_report::{CommandFault, ExitStatus, finished};
 use kmip_server::{IndexedStore, Server};
 use kmip_store::{MOST_ROOM, SEED};
 use kmip_ttlv::NoMemory;

@@ -1,5 +1,7 @@
 //! How `show` prints an item.
+ghost use Rattle.std.specs.Prelude.{◌≡◌, if◌then◌else◌};
 ghost use Rattle.kmip_message_commands.specs.declared.form.Form.{Form};
+ghost use Rattle.kmip_message_commands.specs.declared.form.Form.TheVariants.{Text, Canonical};
 
 use kmip_ttlv::show;
 
@@ -10,4 +12,17 @@ pub enum Form {
     Text,
     /// The one written form of its bytes in hexadecimal, the padding zero.
     Canonical,
+}
+
+impl Form {
+    /// `Canonical` if the canonical form is asked for, else `Text`.
+    pub fn of(is_canonical: bool) -> Form
+        ensures { result ≡ (if is_canonical then Canonical else Text) }
+    {
+        if is_canonical {
+            Form::Canonical
+        } else {
+            Form::Text
+        }
+    }
 }

@@ -1,4 +1,4 @@
-//! The commands `answer` and `show`, and what every command stands on.
+//! The commands `answer` and `show`.
 //!
 //! Each is a public function over any reader and writer. What is read and written is said where a
 //! contract knows the bytes of both. `answer`, `answer_stream` and `show_lines` do the work of their
@@ -8,18 +8,12 @@
 //!
 //! A command breaks off where its reader or its writer fails, or memory runs out. A writer that failed
 //! may have taken anything, and of that case no clause says what was written.
-//!
-//! `finished`, `push_text` and `send`, and what a text is printed on, a `Printer`, are for the commands
-//! of other crates.
 #![tactic(auto)]
 
 mod answerer;
 mod answering;
-mod command_fault;
 mod decoding;
 mod encoding;
-mod exit_status;
-mod finishing;
 mod form;
 mod input_end;
 mod judged;
@@ -27,8 +21,6 @@ mod judging;
 mod lines;
 mod next_line;
 mod piece;
-mod printed;
-mod printer;
 mod replies;
 mod respond;
 mod responding;
@@ -39,14 +31,8 @@ mod streamer;
 mod streaming;
 
 pub use answering::{answer, answer_bytes, run_answer};
-pub use command_fault::CommandFault;
-pub use exit_status::ExitStatus;
-pub use finishing::finished;
 pub use form::Form;
 pub use input_end::InputEnd;
-pub use printed::Printed;
-pub use printer::Printer;
-pub use replies::{push_text, send};
 pub use showing::{run_show, show_bytes, show_lines};
 pub use stream_outcome::StreamOutcome;
 pub use streaming::{answer_stream, answer_stream_bytes, run_answer_stream};

@@ -5,10 +5,9 @@ ghost use Rattle.std.specs.Io.KnownBytes.{Keeps};
 ghost use Rattle.kmip_message_commands.specs.Private.{TakesLine, TakesPiece, kept_with};
 ghost use Rattle.kmip_message_commands.specs.Lines.{lines_of};
 
-use crate::command_fault::CommandFault;
 use crate::next_line::NextLine;
 use crate::piece::Piece;
-use crate::replies::flush;
+use kmip_report::{CommandFault, flush};
 use memchr::memchr;
 use std::io::{BufRead, ErrorKind, Write};
 

@@ -3,15 +3,15 @@ ghost use Rattle.std.specs.Prelude.{◌≡◌, ◌++◌, Some, IfOk, OnOk, IfErr
 ghost use Rattle.kmip_message_commands.specs.Judging.{is_saying_refused, saying_of};
 ghost use Rattle.kmip_message_commands.specs.Private.{RespondsTo, BreaksOffAt};
 ghost use Rattle.kmip_message_commands.specs.LineText.{saying_text, state_after_saying};
-ghost use Rattle.kmip_message_commands.specs.Printing.{UnlessOutput};
+ghost use Rattle.kmip_report.specs.Endings.{UnlessOutput};
 
-use crate::command_fault::CommandFault;
 use crate::judged::Judged;
 use crate::judging::judge;
 use crate::lines::{first_line, read_line};
 use crate::next_line::NextLine;
-use crate::replies::{REFUSED_HEX, REFUSED_LENGTH, flush, push_text, send};
+use crate::replies::{REFUSED_HEX, REFUSED_LENGTH};
 use crate::respond::Respond;
+use kmip_report::{CommandFault, flush, push_text, send};
 use kmip_ttlv::NoMemory;
 use std::alloc::Global;
 use std::io::{BufRead, Write};

@@ -1,18 +1,15 @@
 //! The command `answer --stream`: the lines of its input are pieces of one stream of messages, and
 //! each reply of one server is a line of its output.
 ghost use Rattle.std.specs.Prelude.{◌≡◌, ◌<◌, ◌++◌, [], Some, IfOk, OnOk, IfErr, OnErr, IfSome};
-ghost use Rattle.kmip_message_commands.specs.Printing.{IfFailed, IfWhole, UnlessOutput, fault_line};
+ghost use Rattle.kmip_report.specs.Endings.{IfFailed, IfWhole, UnlessOutput, fault_line};
 ghost use Rattle.kmip_message_commands.specs.StreamText.{stream_refusal_text, cut_text, tail_text, IsWritten, IsAnswered, IsStreamAnswered, IsBrokenOff};
 
-use crate::command_fault::CommandFault;
-use crate::exit_status::ExitStatus;
-use crate::finishing::finished;
 use crate::input_end::InputEnd;
-use crate::replies::{push_text, send};
 use crate::responding::{respond_to_bytes, respond_to_lines};
 use crate::stream_outcome::StreamOutcome;
 use crate::streamer::Streamer;
 use kmip_frames::FrameFault;
+use kmip_report::{CommandFault, ExitStatus, finished, push_text, send};
 use kmip_ttlv::NoMemory;
 use std::alloc::Global;
 use std::io::{BufRead, Write};

@@ -15,12 +15,12 @@ use crate::until_run::UntilRun;
 use kmip_account::{Account, Findings, RunObserver};
 use kmip_choices::{Format, RunOptions};
 use kmip_look::{Pause, Why};
-use kmip_message_commands::{CommandFault, ExitStatus, finished};
 use kmip_plan_commands::{RunEnd, RunInput, Unanswered, begin, push_run_end};
 use kmip_protocol::Link;
 use kmip_refresh::{
     Agreement, Beginning, KeyLook, Refresh, RefreshOutcome, Refreshed, run_refreshed,
 };
+use kmip_report::{CommandFault, ExitStatus, finished};
 use kmip_run_files::{MachineKeeper, Start};
 use kmip_runs::{Observed, Pace};
 use kmip_trouble::{Obstacle, Trouble, print_documents, standard_output};

@@ -8,9 +8,9 @@ use crate::refreshing::{Refreshing, run_after_look};
 use kmip_account::{Account, Findings, RunObserver};
 use kmip_choices::{Format, Peer, RunOptions};
 use kmip_files::ProgressFile;
-use kmip_message_commands::ExitStatus;
 use kmip_plan_commands::{RunInput, batch_of, run_to_end};
 use kmip_protocol::Link;
+use kmip_report::ExitStatus;
 use kmip_run_files::{
     MachineKeeper, MetricsFile, PlanFile, Start, check_progress, locked, plan_at,
     progress_to_begin_with,

@@ -5,7 +5,7 @@ use crate::overheard::Overheard;
 use crate::saying::Saying;
 use crate::serving_at_once::{Crowd, Halt};
 use kmip_choices::ServeOptions;
-use kmip_message_commands::{CommandFault, ExitStatus};
+use kmip_report::{CommandFault, ExitStatus};
 use kmip_server::{IndexedStore, Server};
 use kmip_store::{MOST_ROOM, SEED};
 use kmip_transport::{StreamEnd, serve_stream};

@@ -4,7 +4,7 @@ use Rattle.std.specs.Bool.{⊤}
 use Rattle.std.proofs.lemmas.List.Elements.{All-nil}
 use Rattle.std.specs.Io.KnownBytes.{Appends}
 use Rattle.kmip_choices.specs.declared.report.Report.{Report}
-use Rattle.kmip_message_commands.specs.declared.command_fault.CommandFault.{CommandFault}
+use Rattle.kmip_report.specs.declared.command_fault.CommandFault.{CommandFault}
 use Rattle.kmip_plan.specs.Reading.{FailsPlan}
 use Rattle.kmip_disk.specs.Views.{DiskView}
 use Rattle.kmip_objects.specs.Objects.{Object}

@@ -3,8 +3,8 @@
 use Rattle.std.specs.Prelude.{Bool, Err, IfErr, IfOk, List, None, Option, Result, Some, ℕ}
 use Rattle.kmip_choices.specs.declared.report.Report.{Report}
 use Rattle.kmip_client.specs.Clients.{ClientState}
-use Rattle.kmip_message_commands.specs.Private.{Fails}
-use Rattle.kmip_message_commands.specs.declared.command_fault.CommandFault.{CommandFault}
+use Rattle.kmip_report.specs.Endings.{Fails}
+use Rattle.kmip_report.specs.declared.command_fault.CommandFault.{CommandFault}
 use Rattle.kmip_plan.specs.declared.key.Key.{Key}
 use Rattle.kmip_runs.specs.Driving.{IsGood}
 use Rattle.kmip_runs.specs.declared.save_fault.SaveFault.TheVariants as faults

@@ -4,10 +4,10 @@ use Rattle.std.specs.Prelude.{Bool, IfErr, IfOk, List, Ok, OnErr, Option, Result
 use Rattle.std.specs.Io.KnownBytes.{Appends}
 use Rattle.kmip_choices.specs.declared.report.Report.{Report}
 use Rattle.kmip_client.specs.declared.knowledge.Knowledge.{Knowledge}
-use Rattle.kmip_message_commands.specs.Printing.{IfFailed, IfWhole, UnlessOutput, fault_line}
-use Rattle.kmip_message_commands.specs.declared.command_fault.CommandFault.{CommandFault}
-use Rattle.kmip_message_commands.specs.declared.command_fault.CommandFault.TheVariants.{Input}
-use Rattle.kmip_message_commands.specs.declared.exit_status.ExitStatus.{ExitStatus}
+use Rattle.kmip_report.specs.Endings.{IfFailed, IfWhole, UnlessOutput, fault_line}
+use Rattle.kmip_report.specs.declared.command_fault.CommandFault.{CommandFault}
+use Rattle.kmip_report.specs.declared.command_fault.CommandFault.TheVariants.{Input}
+use Rattle.kmip_report.specs.declared.exit_status.ExitStatus.{ExitStatus}
 use Rattle.kmip_plan.specs.declared.key.Key.{Key}
 use Rattle.kmip_plan.specs.declared.plan_fault.PlanFault.{PlanFault}
 use Rattle.kmip_protocol.specs.Past.{is_planned}

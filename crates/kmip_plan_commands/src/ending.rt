@@ -8,9 +8,8 @@ use crate::run_end::RunEnd;
 use crate::telling::{push_stop, push_unwritten};
 use kmip_choices::Report;
 use kmip_client::Client;
-use kmip_message_commands::push_text;
 use kmip_plan_report::{push_client_listing, push_progress_refusal};
-use kmip_report::Form;
+use kmip_report::{Form, push_text};
 use kmip_ttlv::NoMemory;
 use std::alloc::Global;
 

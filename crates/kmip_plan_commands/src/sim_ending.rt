@@ -6,9 +6,8 @@ ghost use Rattle.kmip_plan_commands.specs.SimEndText.{crash_refusal_text, prolon
 
 use crate::sim_end::SimEnd;
 use kmip_choices::Detail;
-use kmip_message_commands::push_text;
 use kmip_plan_report::push_plan_refusal;
-use kmip_report::Form;
+use kmip_report::{Form, push_text};
 use kmip_simulation::{SimLines, Simulation, push_diagram, push_simulation, push_trace};
 use kmip_ttlv::NoMemory;
 use std::alloc::Global;

@@ -2,13 +2,13 @@
 ghost use Rattle.std.specs.Prelude.{[], Some, IfErr, IfOk, IsTrue, OnErr, option_map};
 ghost use Rattle.kmip_messages.specs.Members.{may_have};
 ghost use Rattle.kmip_plan.specs.Reading.{plan_read};
-ghost use Rattle.kmip_message_commands.specs.Printing.{IfFailed, IfWhole, UnlessOutput, fault_line};
+ghost use Rattle.kmip_report.specs.Endings.{IfFailed, IfWhole, UnlessOutput, fault_line};
 ghost use Rattle.kmip_plan_commands.specs.Simulating.{BreaksOffSim, WritesSim};
 
 use crate::playing::sim_to_end;
 use crate::sim_ending::push_sim_end;
 use crate::sim_input::SimInput;
-use kmip_message_commands::{CommandFault, ExitStatus, finished, push_text, send};
+use kmip_report::{CommandFault, ExitStatus, finished, push_text, send};
 use kmip_ttlv::NoMemory;
 use std::alloc::Global;
 use std::io::Write;

@@ -2,7 +2,7 @@
 ghost use Rattle.std.specs.Prelude.{◌≡◌, ◌++◌, OnOk, IfOk, string_bytes};
 ghost use Rattle.kmip_plan_commands.specs.RunText.{stop_line, unwritten_text};
 
-use kmip_message_commands::push_text;
+use kmip_report::push_text;
 use kmip_runs::Stop;
 use kmip_ttlv::NoMemory;
 use std::alloc::Global;

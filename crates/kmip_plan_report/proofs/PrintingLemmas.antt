@@ -1,8 +1,8 @@
 -- What holds of a report that was made holds of how it was printed.
 use Rattle.std.proofs.Common.{◌≡◌, Bool, true, false, Result, Ok}
-use Rattle.kmip_message_commands.specs.Printing.{IfWhole}
-use Rattle.kmip_message_commands.specs.declared.exit_status.ExitStatus.{ExitStatus}
-use Rattle.kmip_message_commands.specs.declared.exit_status.ExitStatus.TheVariants.{Done, Refused, Failed, Usage}
+use Rattle.kmip_report.specs.Endings.{IfWhole}
+use Rattle.kmip_report.specs.declared.exit_status.ExitStatus.{ExitStatus}
+use Rattle.kmip_report.specs.declared.exit_status.ExitStatus.TheVariants.{Done, Refused, Failed, Usage}
 use Rattle.kmip_ttlv.specs.declared.no_memory.NoMemory.{NoMemory}
 
 pub whole_if : (P : Bool → Type 0) (A : Type 0) (status : ExitStatus) (made : Result Bool NoMemory) → IfWhole status (λ r. A) → IfWhole status (λ r. made ≡ Ok r)

@@ -1,13 +1,12 @@
 //! How a report is printed.
 ghost use Rattle.std.specs.Prelude.{◌≡◌, ◌≢◌, Ok};
 ghost use Rattle.std.specs.Io.KnownBytes.{Appends};
-ghost use Rattle.kmip_message_commands.specs.Printing.{FailsBy, IfFailed, IfWhole, UnlessOutput};
-ghost use Rattle.kmip_message_commands.specs.declared.command_fault.CommandFault.TheVariants as Fault;
+ghost use Rattle.kmip_report.specs.Endings.{FailsBy, IfFailed, IfWhole, UnlessOutput};
+ghost use Rattle.kmip_report.specs.declared.command_fault.CommandFault.TheVariants as Fault;
 ghost use Rattle.kmip_report.specs.FaultLines.{no_memory};
 ghost use Rattle.kmip_report.specs.Pieces.{line_in};
 
-use kmip_message_commands::{CommandFault, ExitStatus, send};
-use kmip_report::{Form, no_memory_line};
+use kmip_report::{CommandFault, ExitStatus, Form, no_memory_line, send};
 use kmip_ttlv::NoMemory;
 use std::io::Write;
 

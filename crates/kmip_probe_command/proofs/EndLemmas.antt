@@ -1,10 +1,10 @@
 -- How the program ends after a command that reads nothing.
 use Rattle.std.proofs.Common.{◌≢◌, ℕ, Bool, true, false, List, Option, Result, Ok, Err, IfErr, sym}
-use Rattle.kmip_message_commands.specs.Printing.{Finishes, IfFailed}
-use Rattle.kmip_message_commands.specs.declared.exit_status.ExitStatus.{ExitStatus}
-use Rattle.kmip_message_commands.specs.declared.exit_status.ExitStatus.TheVariants.{Done, Refused, Failed, Usage}
-use Rattle.kmip_message_commands.specs.declared.command_fault.CommandFault.{CommandFault}
-use Rattle.kmip_message_commands.specs.declared.command_fault.CommandFault.TheVariants.{Input, Output, NoMemory}
+use Rattle.kmip_report.specs.Endings.{Finishes, IfFailed}
+use Rattle.kmip_report.specs.declared.exit_status.ExitStatus.{ExitStatus}
+use Rattle.kmip_report.specs.declared.exit_status.ExitStatus.TheVariants.{Done, Refused, Failed, Usage}
+use Rattle.kmip_report.specs.declared.command_fault.CommandFault.{CommandFault}
+use Rattle.kmip_report.specs.declared.command_fault.CommandFault.TheVariants.{Input, Output, NoMemory}
 
 -- no fault of a reader, where the command has none
 pub ends_without_input : (ended : Result Bool CommandFault) (status : ExitStatus) (old new : Option (List ℕ)) → Finishes ended status old new

@@ -5,12 +5,11 @@ use Rattle.std.specs.List.{concat}
 use Rattle.std.specs.Io.KnownBytes.{Appends}
 use Rattle.std.proofs.KnownBytes.{Appends-kept, Appends-trans}
 use Rattle.std.proofs.lemmas.List.{take_at}
-use Rattle.kmip_message_commands.specs.Private.{Fails}
-use Rattle.kmip_message_commands.specs.Printing.{Finishes, IfFailed, UnlessOutput, fault_line}
-use Rattle.kmip_message_commands.specs.declared.exit_status.ExitStatus.{ExitStatus}
-use Rattle.kmip_message_commands.specs.declared.exit_status.ExitStatus.TheVariants.{Done, Refused, Failed, Usage}
-use Rattle.kmip_message_commands.specs.declared.command_fault.CommandFault.{CommandFault}
-use Rattle.kmip_message_commands.specs.declared.command_fault.CommandFault.TheVariants.{Input, Output, NoMemory}
+use Rattle.kmip_report.specs.Endings.{Fails, Finishes, IfFailed, UnlessOutput, fault_line}
+use Rattle.kmip_report.specs.declared.exit_status.ExitStatus.{ExitStatus}
+use Rattle.kmip_report.specs.declared.exit_status.ExitStatus.TheVariants.{Done, Refused, Failed, Usage}
+use Rattle.kmip_report.specs.declared.command_fault.CommandFault.{CommandFault}
+use Rattle.kmip_report.specs.declared.command_fault.CommandFault.TheVariants.{Input, Output, NoMemory}
 use Rattle.kmip_probe.specs.declared.answer.Answer.{Answer}
 use Rattle.kmip_report.specs.declared.form.Form.{Form}
 use Rattle.kmip_probe_command.specs.Private.{BreaksMidway}

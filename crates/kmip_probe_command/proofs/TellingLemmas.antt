@@ -23,7 +23,7 @@ use Rattle.kmip_probe_command.specs.KeptLines.{kept_lines}
 use Rattle.kmip_probe_command.specs.Midway.{line_by}
 use Rattle.kmip_probe_command.specs.Private.{TellsEnd, rest_text}
 use Rattle.kmip_probe_command.specs.ProbeText.{TellsFrom, WritesProbe, looked_text, making_text, report_text, unbegun_text}
-use Rattle.kmip_message_commands.specs.declared.command_fault.CommandFault.{CommandFault}
+use Rattle.kmip_report.specs.declared.command_fault.CommandFault.{CommandFault}
 use Rattle.kmip_probe_command.specs.declared.premise.Premise.TheVariants as premise
 use Rattle.kmip_probe_command.specs.declared.premise.TheConstants.{EARLY, LATE}
 use Rattle.kmip_probe_command.proofs.StageLemmas.{early_stays, report_is}

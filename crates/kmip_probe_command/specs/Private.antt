@@ -7,8 +7,8 @@ use Rattle.kmip_report.specs.declared.form.Form.{Form}
 use Rattle.kmip_probe_command.specs.ProbeText.{end_text, line_of}
 use Rattle.kmip_probe_command.specs.Wording.{are_all_kept}
 use Rattle.std.specs.Io.KnownBytes.{Appends}
-use Rattle.kmip_message_commands.specs.declared.command_fault.CommandFault.{CommandFault}
-use Rattle.kmip_message_commands.specs.declared.command_fault.CommandFault.TheVariants.{NoMemory}
+use Rattle.kmip_report.specs.declared.command_fault.CommandFault.{CommandFault}
+use Rattle.kmip_report.specs.declared.command_fault.CommandFault.TheVariants.{NoMemory}
 use Rattle.kmip_probe.specs.Judging.{AreFindings}
 use Rattle.kmip_probe.specs.declared.answer.Answer.{Answer}
 use Rattle.kmip_probe_command.specs.Midway.{TellsSome}

@@ -1,7 +1,7 @@
 //! The command `probe`: whether a server keeps what the theorem asks of it, in text or in JSON.
 ghost use Rattle.std.specs.Prelude.{◌≡◌, ◌≢◌, ◌≤◌, ◌+◌, ◌++◌, length, [], false, true, Some, IfErr, IfOk, OnErr, IsTrue};
 ghost use Rattle.std.specs.Io.KnownBytes.{Appends};
-ghost use Rattle.kmip_message_commands.specs.Printing.{IfFailed, IfWhole, UnlessOutput, fault_line};
+ghost use Rattle.kmip_report.specs.Endings.{IfFailed, IfWhole, UnlessOutput, fault_line};
 ghost use Rattle.kmip_protocol.specs.Past.{Names};
 ghost use Rattle.kmip_probe.specs.Inquiries.{is_prefix};
 ghost use Rattle.kmip_probe.specs.Serving.{IsUnprobed};
@@ -14,10 +14,9 @@ ghost use Rattle.kmip_probe_command.specs.Midway.{TellsSome};
 
 use crate::lines::unfit_line;
 use crate::telling::{print_refusal, tell};
-use kmip_message_commands::{CommandFault, ExitStatus, Printed, Printer, finished};
 use kmip_probe::{MOST_MESSAGES, is_prefix};
 use kmip_protocol::Link;
-use kmip_report::Form;
+use kmip_report::{CommandFault, ExitStatus, Form, Printed, Printer, finished};
 use kmip_ttlv::NoMemory;
 use std::alloc::Global;
 use std::io::Write;

@@ -2,7 +2,7 @@
 ghost use Rattle.std.specs.Prelude.{◌≡◌, ◌≤◌, ◌+◌, ◌++◌, length, false, true, List, flat_map, IfErr, IfOk, OnOk, IsTrue};
 ghost use Rattle.std.specs.List.{All};
 ghost use Rattle.std.specs.Io.KnownBytes.{Appends};
-ghost use Rattle.kmip_message_commands.specs.Private.{Fails};
+ghost use Rattle.kmip_report.specs.Endings.{Fails};
 ghost use Rattle.kmip_protocol.specs.Past.{Names};
 ghost use Rattle.kmip_probe.specs.Answers.{IsLawful};
 ghost use Rattle.kmip_probe.specs.Asking.{is_free_at};
@@ -19,13 +19,12 @@ use crate::lines::{push_end, push_premise};
 use crate::looking::{making_text, unbegun_text};
 use crate::premise::{EARLY, EARLY_ANSWERS, LATE, LATE_ANSWERS, Premise, finding_of};
 use crate::wording::are_all_kept;
-use kmip_message_commands::{CommandFault, Printer};
 use kmip_probe::laws::the_profile_keeps_all;
 use kmip_probe::{
     Answer, Findings, LOOK_FIRST, LOOK_SECOND, LOOKS, MOST_MESSAGES, QUESTIONS, ask_on, findings_of,
 };
 use kmip_protocol::Link;
-use kmip_report::Form;
+use kmip_report::{CommandFault, Form, Printer};
 use kmip_ttlv::NoMemory;
 use std::alloc::Global;
 

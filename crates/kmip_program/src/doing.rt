@@ -5,11 +5,12 @@ use crate::simulating::simulate_in_json;
 use kmip_choices::{Choice, Detail, Format, Shell};
 use kmip_command_line::completions;
 use kmip_explaining::{tell_prolonging, tell_refusal, warn_of_usages};
-use kmip_message_commands::{ExitStatus, Form, run_answer, run_answer_stream, run_show};
+use kmip_message_commands::{Form, run_answer, run_answer_stream, run_show};
 use kmip_network::{look_at_server, probe_server, run_plan, serve};
 use kmip_plan::{Plan, PlanFault, prolongs, read_plan};
 use kmip_plan_commands::{SimInput, batch_of, run_sim};
 use kmip_plan_report::{run_check, run_check_after};
+use kmip_report::ExitStatus;
 use kmip_run_files::{PlanFile, list_progress, plan_at, plan_text_at, text_at};
 use kmip_trouble::{Trouble, plan_name, standard_input, standard_output, tell_of_terminal};
 use kmip_ttlv::NoMemory;
@@ -25,7 +26,7 @@ pub(crate) fn execute(rt: &HostRuntime, choice: Choice) -> Result<ExitStatus, Tr
     match choice {
         Choice::Answer => answer_input(rt),
         Choice::AnswerStream => answer_stream_input(rt),
-        Choice::Show(form) => show_input(rt, form),
+        Choice::Show { is_canonical } => show_input(rt, Form::of(is_canonical)),
         Choice::Check { plan, format } => check_plan(rt, plan.as_str(), format),
         Choice::CheckAfter {
             plan,

@@ -6,7 +6,7 @@ use crate::streams::open_closed_streams;
 use crate::wrong_address::WrongAddress;
 use kmip_choices::{Choice, Format};
 use kmip_command_line::{Environment, chosen, status_of};
-use kmip_message_commands::{CommandFault, ExitStatus};
+use kmip_report::{CommandFault, ExitStatus};
 use kmip_trouble::Trouble;
 use kmip_ttlv::NoMemory;
 use std::fmt::Display;

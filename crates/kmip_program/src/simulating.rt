@@ -2,10 +2,9 @@
 
 use kmip_choices::Detail;
 use kmip_json::push_sim_end;
-use kmip_message_commands::ExitStatus;
 use kmip_plan_commands::{SimEnd, SimInput, batch_of, sim_to_end};
 use kmip_plan_report::push_refused_plan;
-use kmip_report::Form;
+use kmip_report::{ExitStatus, Form};
 use kmip_trouble::{Trouble, print_documents};
 use kmip_ttlv::NoMemory;
 use std::alloc::Global;

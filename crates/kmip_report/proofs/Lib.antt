@@ -3,3 +3,5 @@ mod ReadingLemmas
 mod OneLineLemmas
 mod DocumentLemmas
 mod LineLemmas
+pub mod EndingLemmas
+pub mod PrinterLemmas

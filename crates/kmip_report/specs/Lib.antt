@@ -12,5 +12,7 @@ pub mod PieceViews
 pub mod Laws
 -- the documents of faults
 pub mod FaultLines
+-- how a command ends, and what it prints then
+pub mod Endings
 -- private: what only the clauses of private functions cite
 pub mod Private

@@ -7,7 +7,7 @@ ghost use Rattle.kmip_report.specs.Documents.{count, counts, document, numbers_o
 ghost use Rattle.kmip_report.specs.Private.{member_text};
 ghost use Rattle.kmip_report.specs.Members.{data_of, members_of};
 
-use crate::bytes::push_bytes;
+use crate::bytes::push_text;
 use crate::datum::Datum;
 use crate::member::Member;
 use kmip_ttlv::NoMemory;
@@ -27,9 +27,9 @@ pub fn push_document(
     ensures { OnOk result (text.new.items
         ≡ text.old.items ++ document (members_of members.now)) }
 {
-    push_bytes(b"{", text)?;
+    push_text(b"{", text)?;
     push_members(alloc, members, text)?;
-    push_bytes(b"\n", text)
+    push_text(b"\n", text)
 }
 
 /// Appends the members, a comma between two, and the brace that closes them.
@@ -43,7 +43,7 @@ fn push_members(alloc: Global, members: &[Member<'_>], text: &mut Vec<u8>) -> Re
         push_member(alloc, member, text)?;
         is_later = true;
     }
-    push_bytes(b"}", text)
+    push_text(b"}", text)
 }
 
 /// Appends a comma if a member or an item came before.
@@ -51,9 +51,9 @@ pub(crate) fn push_comma(is_later: bool, text: &mut Vec<u8>) -> Result<(), NoMem
     ensures { OnOk result (text.new.items ≡ text.old.items ++ comma_if is_later) }
 {
     if is_later {
-        push_bytes(b",", text)
+        push_text(b",", text)
     } else {
-        push_bytes(b"", text)
+        push_text(b"", text)
     }
 }
 
@@ -66,7 +66,7 @@ pub(crate) fn push_member(
     ensures { OnOk result (text.new.items ≡ text.old.items ++ member_text member.now) }
 {
     push_string(alloc, member.name, text)?;
-    push_bytes(b":", text)?;
+    push_text(b":", text)?;
     push_datum(alloc, &member.value, text)
 }
 
@@ -92,7 +92,7 @@ fn push_words(alloc: Global, words: &[&str], text: &mut Vec<u8>) -> Result<(), N
     ensures { OnOk result (text.new.items
         ≡ text.old.items ++ compact_text (words_of (map (λ word. word.now) words.now))) }
 {
-    push_bytes(b"[", text)?;
+    push_text(b"[", text)?;
     push_items(alloc, words, text)
 }
 
@@ -107,7 +107,7 @@ fn push_items(alloc: Global, words: &[&str], text: &mut Vec<u8>) -> Result<(), N
         push_string(alloc, word, text)?;
         is_later = true;
     }
-    push_bytes(b"]", text)
+    push_text(b"]", text)
 }
 
 /// Appends an array of numbers.
@@ -115,7 +115,7 @@ fn push_numbers(alloc: Global, numbers: &[u32], text: &mut Vec<u8>) -> Result<()
     ensures { OnOk result (text.new.items
         ≡ text.old.items ++ compact_text (numbers_of numbers.now)) }
 {
-    push_bytes(b"[", text)?;
+    push_text(b"[", text)?;
     push_counts(alloc, numbers, text)
 }
 
@@ -130,7 +130,7 @@ fn push_counts(alloc: Global, numbers: &[u32], text: &mut Vec<u8>) -> Result<(),
         push_count(alloc, *number, text)?;
         is_later = true;
     }
-    push_bytes(b"]", text)
+    push_text(b"]", text)
 }
 
 /// Appends a number from 0.
@@ -154,5 +154,5 @@ fn push_leaf(alloc: Global, value: &Value, text: &mut Vec<u8>) -> Result<(), NoM
     ensures { OnOk result (text.new.items ≡ text.old.items ++ compact_text (view value.now)) }
 {
     let written = value.to_vec(alloc)?;
-    push_bytes(written.as_slice(), text)
+    push_text(written.as_slice(), text)
 }

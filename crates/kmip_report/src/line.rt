@@ -7,7 +7,7 @@ ghost use Rattle.kmip_report.specs.Members.{pair_of, text_of};
 ghost use Rattle.kmip_report.specs.PieceViews.{piece_of, pieces_of};
 ghost use Rattle.kmip_report.specs.Pieces.{json_line, line_in, piece_members, piece_texts, text_line};
 
-use crate::bytes::push_bytes;
+use crate::bytes::push_text;
 use crate::document::{push_comma, push_member};
 use crate::form::Form;
 use crate::member::Member;
@@ -42,7 +42,7 @@ fn push_text_line(alloc: Global, pieces: &[Piece<'_>], text: &mut Vec<u8>) -> Re
         ≡ text.old.items ++ text_line (pieces_of pieces.now)) }
 {
     push_texts(alloc, pieces, text)?;
-    push_bytes(b"\n", text)
+    push_text(b"\n", text)
 }
 
 /// Appends the texts of pieces.
@@ -62,8 +62,8 @@ fn push_piece(alloc: Global, piece: &Piece<'_>, text: &mut Vec<u8>) -> Result<()
 {
     match piece {
         Piece::Told(front, member) => push_told(alloc, front, member, text),
-        Piece::Said(words) => push_bytes(words.as_bytes(), text),
-        Piece::Noted(_) => push_bytes(b"", text),
+        Piece::Said(words) => push_text(words.as_bytes(), text),
+        Piece::Noted(_) => push_text(b"", text),
     }
 }
 
@@ -77,7 +77,7 @@ fn push_told(
     ensures { OnOk result (text.new.items
         ≡ text.old.items ++ (front.now ++ text_of member.now.value)) }
 {
-    push_bytes(front.as_bytes(), text)?;
+    push_text(front.as_bytes(), text)?;
     push_shown(alloc, &member.value, text)
 }
 
@@ -86,9 +86,9 @@ fn push_json_line(alloc: Global, pieces: &[Piece<'_>], text: &mut Vec<u8>) -> Re
     ensures { OnOk result (text.new.items
         ≡ text.old.items ++ json_line (pieces_of pieces.now)) }
 {
-    push_bytes(b"{", text)?;
+    push_text(b"{", text)?;
     push_piece_members(alloc, pieces, text)?;
-    push_bytes(b"\n", text)
+    push_text(b"\n", text)
 }
 
 /// Appends the members of pieces, a comma between two, and the brace that closes them.
@@ -104,7 +104,7 @@ fn push_piece_members(
     for piece in pieces {
         is_later = push_noted(alloc, is_later, piece, text)?;
     }
-    push_bytes(b"}", text)
+    push_text(b"}", text)
 }
 
 /// Appends the member of a piece, if it has one, after a comma if a member came before. Returns true

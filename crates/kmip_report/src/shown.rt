@@ -5,7 +5,7 @@ ghost use Rattle.kmip_ttlv.specs.Showing.{plain_text, shown_truth};
 ghost use Rattle.kmip_report.specs.Members.{text_of};
 ghost use Rattle.kmip_report.specs.Pieces.{mask_digits, spaced, spaced_number, spaced_numbers, spaced_word};
 
-use crate::bytes::push_bytes;
+use crate::bytes::push_text;
 use crate::datum::Datum;
 use kmip_ttlv::{NoMemory, plain_text};
 use std::alloc::Global;
@@ -19,12 +19,12 @@ pub(crate) fn push_shown(
     ensures { OnOk result (text.new.items ≡ text.old.items ++ text_of datum.now) }
 {
     match datum {
-        Datum::Null(words) => push_bytes(words.as_bytes(), text),
+        Datum::Null(words) => push_text(words.as_bytes(), text),
         Datum::Truth(is_so) => push_truth(*is_so, text),
         Datum::Number(number) => push_number(alloc, *number, text),
         Datum::Signed(number) => push_signed(alloc, *number, text),
         Datum::Mask(mask) => push_mask(alloc, *mask, text),
-        Datum::Text(word) => push_bytes(word.as_bytes(), text),
+        Datum::Text(word) => push_text(word.as_bytes(), text),
         Datum::Shown(word) => push_plain(alloc, word, text),
         Datum::Words(words) => push_words(words, text),
         Datum::Numbers(numbers) => push_numbers(alloc, numbers, text),
@@ -36,9 +36,9 @@ fn push_truth(is_so: bool, text: &mut Vec<u8>) -> Result<(), NoMemory>
     ensures { OnOk result (text.new.items ≡ text.old.items ++ shown_truth is_so) }
 {
     if is_so {
-        push_bytes(b"true", text)
+        push_text(b"true", text)
     } else {
-        push_bytes(b"false", text)
+        push_text(b"false", text)
     }
 }
 
@@ -47,7 +47,7 @@ fn push_number(alloc: Global, number: u64, text: &mut Vec<u8>) -> Result<(), NoM
     ensures { OnOk result (text.new.items ≡ text.old.items ++ decimal number) }
 {
     let digits = format!(in alloc; "{number}")?;
-    push_bytes(digits.as_bytes(), text)
+    push_text(digits.as_bytes(), text)
 }
 
 /// Appends a number in decimal, with its sign.
@@ -55,7 +55,7 @@ fn push_signed(alloc: Global, number: i32, text: &mut Vec<u8>) -> Result<(), NoM
     ensures { OnOk result (text.new.items ≡ text.old.items ++ signed_decimal number) }
 {
     let digits = format!(in alloc; "{number}")?;
-    push_bytes(digits.as_bytes(), text)
+    push_text(digits.as_bytes(), text)
 }
 
 /// Appends a mask in eight hexadecimal digits.
@@ -63,7 +63,7 @@ fn push_mask(alloc: Global, mask: u32, text: &mut Vec<u8>) -> Result<(), NoMemor
     ensures { OnOk result (text.new.items ≡ text.old.items ++ mask_digits mask) }
 {
     let digits = hex::encode(alloc, &mask.to_be_bytes())?;
-    push_bytes(digits.as_bytes(), text)
+    push_text(digits.as_bytes(), text)
 }
 
 /// Appends a text in plain characters.
@@ -71,7 +71,7 @@ fn push_plain(alloc: Global, word: &str, text: &mut Vec<u8>) -> Result<(), NoMem
     ensures { OnOk result (text.new.items ≡ text.old.items ++ plain_text word.now) }
 {
     let plain = plain_text(alloc, word)?;
-    push_bytes(plain.as_bytes(), text)
+    push_text(plain.as_bytes(), text)
 }
 
 /// Appends texts, each after a space.
@@ -89,8 +89,8 @@ fn push_words(words: &[&str], text: &mut Vec<u8>) -> Result<(), NoMemory>
 fn push_word(word: &str, text: &mut Vec<u8>) -> Result<(), NoMemory>
     ensures { OnOk result (text.new.items ≡ text.old.items ++ spaced_word word.now) }
 {
-    push_bytes(b" ", text)?;
-    push_bytes(word.as_bytes(), text)
+    push_text(b" ", text)?;
+    push_text(word.as_bytes(), text)
 }
 
 /// Appends numbers in decimal, each after a space.
@@ -107,6 +107,6 @@ fn push_numbers(alloc: Global, numbers: &[u32], text: &mut Vec<u8>) -> Result<()
 fn push_spaced_number(alloc: Global, number: u64, text: &mut Vec<u8>) -> Result<(), NoMemory>
     ensures { OnOk result (text.new.items ≡ text.old.items ++ spaced_number number) }
 {
-    push_bytes(b" ", text)?;
+    push_text(b" ", text)?;
     push_number(alloc, number, text)
 }

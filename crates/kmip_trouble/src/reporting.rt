@@ -3,9 +3,8 @@ ghost use Rattle.std.specs.Prelude.{◌≡◌, ◌++◌, None, OnOk};
 ghost use Rattle.kmip_report.specs.FaultLines.{fault_line};
 
 use crate::told::standard_output;
-use kmip_message_commands::ExitStatus;
 use kmip_plan_report::print_report;
-use kmip_report::{Fault, Form, push_fault};
+use kmip_report::{ExitStatus, Fault, Form, push_fault};
 use kmip_ttlv::NoMemory;
 use std::alloc::Global;
 use std::fmt::Display;

@@ -7,8 +7,8 @@ use crate::writers::NotingWriter;
 use kmip_choices::{Choice, Detail};
 use kmip_command_line::chosen;
 use kmip_message_commands::{
-    CommandFault, ExitStatus, Form, answer, answer_bytes, answer_stream, answer_stream_bytes,
-    finished, run_answer, run_answer_stream, run_show, send, show_bytes, show_lines,
+    Form, answer, answer_bytes, answer_stream, answer_stream_bytes, run_answer, run_answer_stream,
+    run_show, show_bytes, show_lines,
 };
 use kmip_plan::{PlanFault, read_plan};
 use kmip_plan_commands::{SimInput, batch_of, run_sim, sim, sim_bytes};
@@ -16,7 +16,7 @@ use kmip_plan_report::{
     print_report, push_check, push_check_after, push_listing, push_refused_plan, run_check,
     run_check_after, run_list,
 };
-use kmip_report::Form as ReportForm;
+use kmip_report::{CommandFault, ExitStatus, Form as ReportForm, finished, send};
 use kmip_ttlv::NoMemory;
 use std::alloc::Global;
 use std::fs;
@@ -74,7 +74,7 @@ fn command_for(rt: &HostRuntime, choice: &Choice, input: &str) -> Result<Command
     match choice {
         Choice::Answer => Ok(Command::Answer),
         Choice::AnswerStream => Ok(Command::AnswerStream),
-        Choice::Show(form) => Ok(Command::Show(*form)),
+        Choice::Show { is_canonical } => Ok(Command::Show(Form::of(*is_canonical))),
         Choice::Check { plan, .. } => Ok(Command::Check(file_text(rt, plan.as_str(), input)?)),
         Choice::CheckAfter { plan, earlier, .. } => Ok(Command::CheckAfter {
             plan: file_text(rt, plan.as_str(), input)?,

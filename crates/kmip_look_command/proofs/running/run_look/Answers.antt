@@ -1,7 +1,7 @@
 -- What was made in memory was printed.
 use Rattle.std.proofs.Common.{ℕ, List, subst}
 use Rattle.std.specs.Io.KnownBytes.{Appends}
-use Rattle.kmip_message_commands.specs.Printing.{IfWhole}
+use Rattle.kmip_report.specs.Endings.{IfWhole}
 use Rattle.kmip_look_command.proofs.EndLemmas.{whole_told}
 use Rattle.kmip_look_command.proofs.running.run_look.Goals as goal
 

@@ -2,7 +2,8 @@
 use Rattle.kmip_message_commands.specs.Printing.{Prints, Tells}
 use Rattle.kmip_message_commands.specs.AnswerText.{answer_lines, answer_text}
 use Rattle.kmip_message_commands.specs.Judging.{has_refused_line}
-use Rattle.kmip_message_commands.proofs.FinishingLemmas.{finished_whole, finished_front}
+use Rattle.kmip_report.proofs.EndingLemmas.{finished_whole}
+use Rattle.kmip_message_commands.proofs.FinishingLemmas.{finished_front}
 use Rattle.kmip_message_commands.proofs.answering.run_answer.Goals as goal
 
 pub returns-clause-text : goal.returns-clause-text

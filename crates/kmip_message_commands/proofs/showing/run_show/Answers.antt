@@ -1,7 +1,8 @@
 -- What the command wrote, and then the line of a fault.
 use Rattle.kmip_message_commands.specs.Printing.{Prints, Tells}
 use Rattle.kmip_message_commands.specs.Showing.{shown_input, shown_lines, has_no_item}
-use Rattle.kmip_message_commands.proofs.FinishingLemmas.{finished_whole, finished_front}
+use Rattle.kmip_report.proofs.EndingLemmas.{finished_whole}
+use Rattle.kmip_message_commands.proofs.FinishingLemmas.{finished_front}
 use Rattle.kmip_message_commands.proofs.showing.run_show.Goals as goal
 
 pub returns-clause-text : goal.returns-clause-text

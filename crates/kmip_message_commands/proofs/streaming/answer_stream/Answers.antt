@@ -1,7 +1,7 @@
 -- The lines, and then the end of the stream.
 use Rattle.std.proofs.Common.{[], IfSome, rules, subst}
 use Rattle.std.specs.Io.KnownBytes.{Appends}
-use Rattle.kmip_message_commands.specs.Printing.{UnlessOutput}
+use Rattle.kmip_report.specs.Endings.{UnlessOutput}
 use Rattle.kmip_message_commands.specs.StreamText.{IsBrokenOff}
 use Rattle.kmip_message_commands.proofs.RespondingLemmas.{made_whole, at_fault, follows}
 use Rattle.kmip_message_commands.proofs.StreamingLemmas.{stream_written, stream_answered, broken_among, broken_first, broken_last}

@@ -2,9 +2,9 @@
 use Rattle.std.proofs.Common.{[], rules}
 use Rattle.std.specs.Io.KnownBytes.{Appends}
 use Rattle.std.proofs.KnownBytes.{Appends-trans}
-use Rattle.kmip_message_commands.specs.Printing.{fault_line}
-use Rattle.kmip_message_commands.proofs.FinishingLemmas.{finished_broken}
-use Rattle.kmip_message_commands.proofs.ForCallers.{fails_on_writer}
+use Rattle.kmip_report.specs.Endings.{fault_line}
+use Rattle.kmip_report.proofs.EndingLemmas.{finished_broken}
+use Rattle.kmip_report.proofs.PrinterLemmas.{fails_on_writer}
 use Rattle.kmip_plan_commands.proofs.running.run_plan.Goals as goal
 
 pub returns : goal.returns

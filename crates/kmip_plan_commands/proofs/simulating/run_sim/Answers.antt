@@ -5,8 +5,8 @@ use Rattle.std.specs.Io.KnownBytes.{Appends}
 use Rattle.std.proofs.KnownBytes.{Appends-trans}
 use Rattle.kmip_plan.specs.declared.key.Key.{Key}
 use Rattle.kmip_choices.specs.declared.detail.Detail.{Detail}
-use Rattle.kmip_message_commands.specs.Printing.{fault_line}
-use Rattle.kmip_message_commands.proofs.FinishingLemmas.{finished_whole, finished_broken}
+use Rattle.kmip_report.specs.Endings.{fault_line}
+use Rattle.kmip_report.proofs.EndingLemmas.{finished_whole, finished_broken}
 use Rattle.kmip_plan.specs.Reading.{plan_read}
 use Rattle.kmip_plan.specs.declared.plan_fault.PlanFault.{PlanFault}
 use Rattle.kmip_plan_commands.specs.Simulating.{BreaksOffSim, WritesSim}

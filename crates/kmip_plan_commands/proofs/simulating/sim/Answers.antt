@@ -6,10 +6,10 @@ use Rattle.std.proofs.KnownBytes.{Appends-nil}
 use Rattle.std.proofs.lemmas.Result.{IfOk-from_err, err_from_is_err_and}
 use Rattle.kmip_plan.specs.declared.key.Key.{Key}
 use Rattle.kmip_choices.specs.declared.detail.Detail.{Detail}
-use Rattle.kmip_message_commands.specs.Printing.{UnlessOutput}
-use Rattle.kmip_message_commands.specs.declared.command_fault.CommandFault.{CommandFault}
-use Rattle.kmip_message_commands.specs.declared.command_fault.CommandFault.TheVariants.{Output}
-use Rattle.kmip_message_commands.proofs.FinishingLemmas.{unless, unless_output}
+use Rattle.kmip_report.specs.Endings.{UnlessOutput}
+use Rattle.kmip_report.specs.declared.command_fault.CommandFault.{CommandFault}
+use Rattle.kmip_report.specs.declared.command_fault.CommandFault.TheVariants.{Output}
+use Rattle.kmip_report.proofs.EndingLemmas.{unless, unless_output}
 use Rattle.kmip_plan.specs.declared.plan_fault.PlanFault.{PlanFault}
 use Rattle.kmip_ttlv.specs.declared.no_memory.NoMemory.{NoMemory}
 use Rattle.kmip_plan_commands.specs.Simulating.{BreaksOffSim, TellsSim, WritesSim}

@@ -5,5 +5,5 @@ use Rattle.kmip_report.proofs.document.push_document.Goals as goal
 
 pub returns : goal.returns
 returns c =
-    whole c.push_bytes-2.result c.args.text.now.items c.push_bytes.new.text.items c.push_members.new.text.items c.push_bytes-2.new.text.items (members_of c.args.members.now)
-    c.in_ok-push_bytes.ensures c.in_ok-push_members.ensures c.push_bytes-2.ensures
+    whole c.push_text-2.result c.args.text.now.items c.push_text.new.text.items c.push_members.new.text.items c.push_text-2.new.text.items (members_of c.args.members.now)
+    c.in_ok-push_text.ensures.ok c.in_ok-push_members.ensures c.push_text-2.ensures.ok

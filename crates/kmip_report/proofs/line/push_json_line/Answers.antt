@@ -7,5 +7,5 @@ use Rattle.kmip_report.proofs.line.push_json_line.Goals as goal
 
 pub returns : goal.returns
 returns c =
-    whole c.push_bytes-2.result c.args.text.now.items c.push_bytes.new.text.items c.push_piece_members.new.text.items c.push_bytes-2.new.text.items
-    (members (piece_members (pieces_of c.args.pieces.now))) c.in_ok-push_bytes.ensures c.in_ok-push_piece_members.ensures c.push_bytes-2.ensures
+    whole c.push_text-2.result c.args.text.now.items c.push_text.new.text.items c.push_piece_members.new.text.items c.push_text-2.new.text.items
+    (members (piece_members (pieces_of c.args.pieces.now))) c.in_ok-push_text.ensures.ok c.in_ok-push_piece_members.ensures c.push_text-2.ensures.ok

@@ -1,9 +1,9 @@
 //! A text in memory, which grows at its end.
-ghost use Rattle.kmip_message_commands.specs.declared.command_fault.CommandFault.{CommandFault};
+ghost use Rattle.kmip_report.specs.declared.command_fault.CommandFault.{CommandFault};
 
+use crate::bytes::push_text;
 use crate::command_fault::CommandFault;
 use crate::printer::Printer;
-use crate::replies::push_text;
 
 /// A text in memory, which grows at its end. It fails by `NoMemory`, and is as it was then.
 #[derive(Drop)]
@@ -13,7 +13,7 @@ pub struct Printed {
 
 impl Printer for Printed {
     ghost use Rattle.std.specs.Prelude.{Some};
-    ghost use Rattle.kmip_message_commands.specs.declared.command_fault.CommandFault.TheVariants.{NoMemory};
+    ghost use Rattle.kmip_report.specs.declared.command_fault.CommandFault.TheVariants.{NoMemory};
 
     ghost contents = { λ printed. Some printed.text.items };
 

@@ -1,6 +1,6 @@
 //! How the program ends.
 ghost use Rattle.std.specs.Prelude.{◌≡◌};
-ghost use Rattle.kmip_message_commands.specs.Printing.{code_of};
+ghost use Rattle.kmip_report.specs.Endings.{code_of};
 
 use crate::command_fault::CommandFault;
 

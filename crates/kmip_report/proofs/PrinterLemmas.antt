@@ -2,10 +2,10 @@
 use Rattle.std.proofs.Common.{◌≡◌, ◌≢◌, List, ℕ, [], Option, Some, Result, Ok, Err, IfErr, sym, ◌∙◌, inl, inr}
 use Rattle.std.specs.Io.KnownBytes.{Appends}
 use Rattle.std.proofs.KnownBytes.{Appends-kept, Appends-nil}
-use Rattle.kmip_message_commands.specs.Private.{Fails}
-use Rattle.kmip_message_commands.specs.Printing.{UnlessOutput}
-use Rattle.kmip_message_commands.specs.declared.command_fault.CommandFault.{CommandFault}
-use Rattle.kmip_message_commands.specs.declared.command_fault.CommandFault.TheVariants.{Input, Output, NoMemory}
+use Rattle.kmip_report.specs.Endings.{Fails}
+use Rattle.kmip_report.specs.Endings.{UnlessOutput}
+use Rattle.kmip_report.specs.declared.command_fault.CommandFault.{CommandFault}
+use Rattle.kmip_report.specs.declared.command_fault.CommandFault.TheVariants.{Input, Output, NoMemory}
 
 fails_at_writer : (fault : CommandFault) (Whole : Type 0) (old new : Option (List ℕ)) → Fails fault Output Whole old new → UnlessOutput fault (Appends old new [])
 fails_at_writer fault Whole old new (inl (is, kept)) = rw is (Appends-kept old old new [] (Appends-nil old) kept)
@@ -26,8 +26,3 @@ pub no_input : {A : Type 0} (result : Result A CommandFault) (Whole : Type 0) (o
     → IfErr result (λ fault. Fails fault Output Whole old new) → IfErr result (λ fault. fault ≢ Input)
 no_input (Ok a) Whole old new fails = tt
 no_input (Err fault) Whole old new fails = no_input_at fault Whole old new fails
-
--- in memory nothing was written
-pub fails_in_memory : (fault : CommandFault) (old new : List ℕ) → Fails fault NoMemory (Unit {0}) (Some old) (Some new) → new ≡ old
-fails_in_memory fault old new (inl (is, kept)) = kept
-fails_in_memory fault old new (inr (is, kept)) = kept tt

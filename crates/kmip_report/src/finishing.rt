@@ -1,12 +1,12 @@
 //! The end of a command: its exit status, and the line of a fault.
 ghost use Rattle.std.specs.Prelude.{◌≡◌, OnOk, IfErr};
 ghost use Rattle.std.specs.Io.KnownBytes.{Appends};
-ghost use Rattle.kmip_message_commands.specs.declared.command_fault.CommandFault.TheVariants.{Output};
-ghost use Rattle.kmip_message_commands.specs.Printing.{Finishes, UnlessOutput, fault_line};
+ghost use Rattle.kmip_report.specs.declared.command_fault.CommandFault.TheVariants.{Output};
+ghost use Rattle.kmip_report.specs.Endings.{Finishes, UnlessOutput, fault_line};
 
 use crate::command_fault::CommandFault;
 use crate::exit_status::ExitStatus;
-use crate::replies::{send, write_text};
+use crate::writing::{send, write_text};
 use std::io::Write;
 
 /// How the program ends after a command: `Done`, `Refused` where the command says so, and `Failed`

@@ -1,10 +1,10 @@
 //! Where the text of a command goes: to a writer, or into memory, which fails only where there is none.
 ghost use Rattle.std.specs.Prelude.{◌≡◌, ℕ, List, Option, OnOk, OnErr, IfErr};
 ghost use Rattle.std.specs.Io.KnownBytes.{Appends, Keeps};
-ghost use Rattle.kmip_message_commands.specs.declared.command_fault.CommandFault.{CommandFault};
+ghost use Rattle.kmip_report.specs.declared.command_fault.CommandFault.{CommandFault};
 
 use crate::command_fault::CommandFault;
-use crate::replies::send;
+use crate::writing::send;
 use std::io::Write;
 
 /// What a command prints its text on: a writer, or a text in memory (`Printed`).
@@ -35,7 +35,7 @@ pub trait Printer {
 
 /// Every writer. It fails by `Output`, and may have taken any part of the text.
 impl<W: Write> Printer for W {
-    ghost use Rattle.kmip_message_commands.specs.declared.command_fault.CommandFault.TheVariants.{Output};
+    ghost use Rattle.kmip_report.specs.declared.command_fault.CommandFault.TheVariants.{Output};
 
     ghost contents = { λ writer. W.contents writer };
 

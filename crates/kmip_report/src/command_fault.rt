@@ -1,7 +1,7 @@
 //! Why a command ends before its input does.
 ghost use Rattle.std.specs.Prelude.{◌≡◌};
-ghost use Rattle.kmip_message_commands.specs.Printing.{command_fault_text};
-ghost use Rattle.kmip_message_commands.specs.declared.command_fault.CommandFault.TheVariants as faults;
+ghost use Rattle.kmip_report.specs.Endings.{command_fault_text};
+ghost use Rattle.kmip_report.specs.declared.command_fault.CommandFault.TheVariants as faults;
 
 use kmip_ttlv::NoMemory;
 use std::alloc::{AllocError, AllocFailed};
