@@ -10,7 +10,7 @@ use kmip_batch_items::{Operation, Outcome, Reply};
 use kmip_choices::RunOptions;
 use kmip_client::{Client, Part};
 use kmip_plan::{Key, Plan, place_of};
-use kmip_plan_commands::{RunTally, begin, progress_line};
+use kmip_run_command::{RunTally, begin, progress_line};
 use kmip_trace::{operation_word, push_replies};
 use kmip_ttlv::NoMemory;
 use std::alloc::Global;

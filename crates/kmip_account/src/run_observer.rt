@@ -7,9 +7,10 @@ use crate::findings::Findings;
 use crate::silence::Silence;
 use kmip_batch_items::Reply;
 use kmip_client::{Client, Listener, Part};
-use kmip_plan_commands::RunTally;
+use kmip_run_command::{Counting, RunTally, Unanswered};
 use kmip_runs::{ExchangeNews, NoReplyReason, Observer};
 use kmip_ttlv::NoMemory;
+use std::alloc::Global;
 
 /// Gives each exchange of a run to its account, which reports it, and to its findings.
 #[derive(Drop)]
@@ -18,6 +19,8 @@ pub struct RunObserver<'a> {
     findings: &'a mut Findings,
     /// What the message under way asks.
     asked: Asked,
+    /// Why a look before the run got no answer, if it got none.
+    unanswered: Option<Unanswered>,
 }
 
 impl<'a> RunObserver<'a> {
@@ -27,6 +30,7 @@ impl<'a> RunObserver<'a> {
             account,
             findings,
             asked: Asked::none(),
+            unanswered: None,
         }
     }
 
@@ -35,13 +39,9 @@ impl<'a> RunObserver<'a> {
         self.findings
     }
 
-    /// What is counted of the run, which has come so far as the client knows.
-    ///
-    /// # Errors
-    /// If memory runs out.
-    pub fn tally(&mut self, client: &Client<'_>) -> Result<RunTally, NoMemory> {
-        self.findings.know_all(client);
-        self.account.tally(self.findings)
+    /// Notes why a look before the run got no answer.
+    pub fn note_unanswered(&mut self, unanswered: Option<Unanswered>) {
+        self.unanswered = unanswered;
     }
 
     /// The exchange that was under way brought these replies, or none for this reason.
@@ -55,6 +55,17 @@ impl<'a> RunObserver<'a> {
         };
         account.report(&exchange, self.findings);
         self.findings.hear(account.rt().alloc(), &exchange);
+    }
+}
+
+impl<'a> Counting for RunObserver<'a> {
+    fn tally(&mut self, _alloc: Global, client: &Client<'_>) -> Result<RunTally, NoMemory> {
+        self.findings.know_all(client);
+        let tally = self.account.tally(self.findings)?;
+        Ok(RunTally {
+            unanswered: self.unanswered,
+            ..tally
+        })
     }
 }
 

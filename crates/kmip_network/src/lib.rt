@@ -12,7 +12,6 @@
 mod agreeing;
 mod connection;
 mod disagreeing;
-mod ending;
 mod exchange;
 mod hearing;
 mod last_answer;

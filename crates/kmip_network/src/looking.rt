@@ -10,10 +10,10 @@ use kmip_client::Verdict;
 use kmip_look::{Looked, look};
 use kmip_look_command::{push_looked, run_look};
 use kmip_plan::{Key, Plan};
-use kmip_plan_commands::batch_of;
 use kmip_plan_report::print_report;
 use kmip_protocol::Link;
-use kmip_report::{CommandFault, ExitStatus, Form, Printer};
+use kmip_report::{ExitStatus, Form};
+use kmip_run_command::batch_of;
 use kmip_run_files::{LookMetricsFile, plan_at};
 use kmip_runs::Observed;
 use kmip_trouble::{Cannot, Trouble, standard_output};
@@ -117,24 +117,6 @@ fn print_looked(
         Err(NoMemory) => Err(NoMemory),
     };
     print_report(form, made, text.as_slice(), &mut standard_output(rt))
-}
-
-/// Prints a text that was made, and says whether something in it is refused.
-///
-/// # Errors
-/// If memory ran out, or the printer fails.
-pub(crate) fn printed<P: Printer>(
-    made: Result<bool, NoMemory>,
-    text: &[u8],
-    printer: &mut P,
-) -> Result<bool, CommandFault> {
-    match made {
-        Ok(is_refused) => {
-            printer.print(text)?;
-            Ok(is_refused)
-        }
-        Err(NoMemory) => Err(CommandFault::NoMemory),
-    }
 }
 
 /// How many keys have which status.

@@ -4,29 +4,28 @@ ghost use Rattle.kmip_messages.specs.Members.{may_have};
 
 use crate::agreeing::Agreeing;
 use crate::disagreeing::{contradiction, report_unanswered};
-use crate::ending::push_end;
 use crate::last_answer::LastAnswer;
 use crate::look_pause::LookPause;
 use crate::look_watcher::LookWatcher;
-use crate::looking::{MARK_BYTES, new_mark, printed, tell_given_up};
+use crate::looking::{MARK_BYTES, new_mark, tell_given_up};
 use crate::repeating::Repeating;
 use crate::running::{first_wait, tell_end};
 use crate::until_run::UntilRun;
 use kmip_account::{Account, Findings, RunObserver};
-use kmip_choices::{Format, RunOptions};
+use kmip_choices::RunOptions;
 use kmip_look::{Pause, Why};
-use kmip_plan_commands::{RunEnd, RunInput, Unanswered, begin, push_run_end};
+use kmip_plan_report::print_report;
 use kmip_protocol::Link;
 use kmip_refresh::{
     Agreement, Beginning, KeyLook, Refresh, RefreshOutcome, Refreshed, run_refreshed,
 };
-use kmip_report::{CommandFault, ExitStatus, finished};
+use kmip_report::ExitStatus;
+use kmip_run_command::{RunEnd, RunInput, Unanswered, begin, push_run_end};
 use kmip_run_files::{MachineKeeper, Start};
 use kmip_runs::{Observed, Pace};
-use kmip_trouble::{Obstacle, Trouble, print_documents, standard_output};
+use kmip_trouble::{Obstacle, Trouble, standard_output};
 use kmip_ttlv::NoMemory;
 use std::cell::Cell;
-use std::io::BufWriter;
 
 /// What a run that first looks is given.
 #[derive(Clone, Copy)]
@@ -54,20 +53,20 @@ impl<'a> Refreshing<'a> {
         }
         let refreshed = match ended {
             Ok(refreshed) => refreshed,
-            Err(NoMemory) => return self.out_of_memory(),
+            Err(NoMemory) => return Ok(self.out_of_memory(input)),
         };
         let looks = refreshed.looks.as_slice();
         match &refreshed.outcome {
             RefreshOutcome::Contradicted => Err(self.contradiction(looks)?),
             RefreshOutcome::Unanswered(end) => {
-                let unanswered = unanswered(looks);
-                let status = self.print(input, keeper, observer, end, unanswered)?;
+                observer.note_unanswered(unanswered(looks));
+                let status = self.print(input, keeper, observer, end);
                 report_unanswered(self.account, looks);
                 Ok(status)
             }
-            RefreshOutcome::NotBegun => self.out_of_memory(), // why it was not begun is told above
+            RefreshOutcome::NotBegun => Ok(self.out_of_memory(input)), // why it was not begun is told above
             RefreshOutcome::Ran(end) => {
-                let status = self.print(input, keeper, observer, end, None)?;
+                let status = self.print(input, keeper, observer, end);
                 let findings = observer.findings();
                 tell_end(self.account, keeper, findings, has_given_up, status);
                 Ok(status)
@@ -87,54 +86,24 @@ impl<'a> Refreshing<'a> {
         Ok(Trouble::from(Obstacle::Contradicted(contradiction)))
     }
 
-    /// Prints the end of a run, and of the look before it, in the form that was asked for.
+    /// Prints the end of a run.
     fn print(
         &self,
         input: &RunInput<'_>,
         keeper: &MachineKeeper<'_>,
         observer: &mut RunObserver<'_>,
         end: &RunEnd<'_>,
-        unanswered: Option<Unanswered>,
-    ) -> Result<ExitStatus, Trouble> {
+    ) -> ExitStatus {
         let rt = self.account.rt();
         let mut text = Vec::new(rt.alloc());
-        match self.options.format {
-            Format::Text => {
-                let made = push_run_end(rt.alloc(), input.report, input.path, end, &mut text);
-                let mut writer = BufWriter::new(rt.alloc(), standard_output(rt))?;
-                let made = match made {
-                    Ok(()) => Ok(end.is_refused()),
-                    Err(NoMemory) => Err(NoMemory),
-                };
-                let ended = printed(made, text.as_slice(), &mut writer);
-                Ok(finished(ended, &mut writer))
-            }
-            Format::Json => {
-                let failure = keeper.failure();
-                let made = push_end(
-                    rt.alloc(),
-                    observer,
-                    input.path,
-                    failure,
-                    end,
-                    unanswered,
-                    &mut text,
-                );
-                Ok(print_documents(rt, made, text.as_slice()))
-            }
-        }
+        let made = push_run_end(rt.alloc(), input, end, keeper, observer, &mut text);
+        print_report(input.form, made, text.as_slice(), &mut standard_output(rt))
     }
 
-    /// Memory ran out.
-    fn out_of_memory(&self) -> Result<ExitStatus, Trouble> {
+    /// Prints that memory ran out.
+    fn out_of_memory(&self, input: &RunInput<'_>) -> ExitStatus {
         let rt = self.account.rt();
-        match self.options.format {
-            Format::Text => {
-                let mut writer = BufWriter::new(rt.alloc(), standard_output(rt))?;
-                Ok(finished(Err(CommandFault::NoMemory), &mut writer))
-            }
-            Format::Json => Ok(print_documents(rt, Err(NoMemory), &[])),
-        }
+        print_report(input.form, Err(NoMemory), &[], &mut standard_output(rt))
     }
 }
 

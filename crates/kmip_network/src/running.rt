@@ -1,30 +1,24 @@
 //! The program `run`, over sockets and a file.
-ghost use Rattle.std.specs.Prelude.{IsTrue};
-ghost use Rattle.kmip_messages.specs.Members.{may_have};
 
-use crate::ending::push_end;
 use crate::linking::{loopback, tcp_link, unix_link};
 use crate::refreshing::{Refreshing, run_after_look};
 use kmip_account::{Account, Findings, RunObserver};
-use kmip_choices::{Format, Peer, RunOptions};
+use kmip_choices::{Peer, RunOptions};
 use kmip_files::ProgressFile;
-use kmip_plan_commands::{RunInput, batch_of, run_to_end};
 use kmip_protocol::Link;
 use kmip_report::ExitStatus;
+use kmip_run_command::{RunInput, batch_of, run};
 use kmip_run_files::{
     MachineKeeper, MetricsFile, PlanFile, Start, check_progress, locked, plan_at,
     progress_to_begin_with,
 };
 use kmip_runs::Pace;
-use kmip_trouble::{Trouble, print_documents, standard_output};
-use kmip_ttlv::NoMemory;
-use std::alloc::Global;
-use std::io::BufWriter;
+use kmip_trouble::{Trouble, standard_output};
 use std::time::Duration;
 
 /// The command `run`: the plan is read first, and the progress is checked. Then the lock is taken, the progress is
-/// read, and the server is asked by `kmip_plan_commands::run_to_end`, or by `kmip_refresh::run_refreshed` if it is
-/// asked about the progress first.
+/// read, and the server is asked by `kmip_run_command::run`, or by `kmip_refresh::run_refreshed` if it is asked about
+/// the progress first.
 ///
 /// No clause says that the link over sockets is honest, or that this machine's disk keeps the rules of one.
 /// Both are premises.
@@ -96,6 +90,7 @@ fn run_over<L: Link + Drop>(
     link: L,
 ) -> Result<ExitStatus, Trouble> {
     let input = RunInput {
+        form: options.format.form(),
         report: options.report,
         path: options.progress.as_str(),
         limit: options.limit as usize,
@@ -116,10 +111,16 @@ fn run_over<L: Link + Drop>(
     let mut link = link;
     let mut pace = Pace::new(account.rt(), first_wait(options), options.give_up);
     let mut observer = RunObserver::new(account, findings);
-    let status = match options.format {
-        Format::Text => run_in_text(&input, &mut link, keeper, &mut pace, &mut observer)?,
-        Format::Json => run_in_json(&input, &mut link, keeper, &mut pace, &mut observer),
-    };
+    let status = run(
+        account.rt().alloc(),
+        account.plan(),
+        &input,
+        &mut link,
+        keeper,
+        &mut pace,
+        &mut observer,
+        &mut standard_output(account.rt()),
+    );
     tell_end(
         account,
         keeper,
@@ -128,59 +129,6 @@ fn run_over<L: Link + Drop>(
         status,
     );
     Ok(status)
-}
-
-/// Carries out the plan, and prints in lines how that ended.
-fn run_in_text<L: Link>(
-    input: &RunInput<'_>,
-    link: &mut L,
-    keeper: &mut MachineKeeper<'_>,
-    pace: &mut Pace<&HostRuntime>,
-    observer: &mut RunObserver<'_>,
-) -> Result<ExitStatus, Trouble>
-    requires { IsTrue (may_have input.now.batch) }
-{
-    let account = keeper.account();
-    let (rt, plan) = (account.rt(), account.plan());
-    let mut writer = BufWriter::new(rt.alloc(), standard_output(rt))?;
-    Ok(kmip_plan_commands::run_plan(
-        rt.alloc(),
-        plan,
-        input,
-        link,
-        keeper,
-        pace,
-        observer,
-        &mut writer,
-    ))
-}
-
-/// Carries out the plan, and prints in documents how that ended.
-fn run_in_json<L: Link>(
-    input: &RunInput<'_>,
-    link: &mut L,
-    keeper: &mut MachineKeeper<'_>,
-    pace: &mut Pace<&HostRuntime>,
-    observer: &mut RunObserver<'_>,
-) -> ExitStatus
-    requires { IsTrue (may_have input.now.batch) }
-{
-    let account = keeper.account();
-    let (rt, plan) = (account.rt(), account.plan());
-    let mut documents = Vec::new(rt.alloc());
-    let made = match run_to_end(rt.alloc(), plan, input, link, keeper, pace, observer) {
-        Ok(end) => push_end(
-            rt.alloc(),
-            observer,
-            input.path,
-            keeper.failure(),
-            &end,
-            None,
-            &mut documents,
-        ),
-        Err(NoMemory) => Err(NoMemory),
-    };
-    print_documents(rt, made, documents.as_slice())
 }
 
 /// Reports why keys are not finished, and that the run was given up, if it was. Nothing if the progress could not

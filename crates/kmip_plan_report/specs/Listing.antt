@@ -1,7 +1,7 @@
 -- What `list` reports for a plan and what was read of a progress, and `run` of what its client knows.
 -- Source: own (text): what the program prints.
 use Rattle.std.specs.Prelude.{Bool, true, false, List, [], ◌∷◌, ◌++◌, length, map, codes, Result, Ok, Err}
-use Rattle.kmip_report.specs.Pieces.{Piece, number, shown_or, word}
+use Rattle.kmip_report.specs.Pieces.{Piece, number, shown_or, told_if, word}
 use Rattle.kmip_plan.specs.TargetWords.{target_word}
 use Rattle.kmip_plan.specs.declared.key.Key.{Key}
 use Rattle.kmip_progress.specs.declared.progress_fault.ProgressFault.{ProgressFault}
@@ -14,16 +14,21 @@ use Rattle.kmip_client.specs.declared.verdict.Verdict.{Verdict}
 use Rattle.kmip_plan_report.specs.Refusals.{progress_refusal}
 use Rattle.kmip_plan_report.specs.Standings.{Standing, standings}
 
--- The line of a key: its name, its target, how many of its steps are done, the verdict and the identifier.
-unfoldable pub key_line : Standing → List Piece
-key_line standing =
+-- The line of a key: its name, its target, the number of its steps that are done, the verdict and the identifier. The
+-- identifier is told in text only if the Bool is true.
+unfoldable pub key_line_with : Bool → Standing → List Piece
+key_line_with is_told standing =
     word (codes "") (codes "key") standing.key.attrs.name
     ∷ word (codes " ") (codes "target") (target_word standing.key.target)
     ∷ number (codes " ") (codes "done") standing.known.done
     ∷ number (codes "/") (codes "of") (chain_length standing.key)
     ∷ word (codes " ") (codes "verdict") (verdict_word standing.verdict)
-    ∷ shown_or (codes " ") (codes "identifier") (codes " -") standing.known.identifier
+    ∷ told_if is_told (shown_or (codes " ") (codes "identifier") (codes " -") standing.known.identifier)
     ∷ []
+
+-- The line of a key in a listing.
+abbrev pub key_line : Standing → List Piece
+key_line standing = key_line_with true standing
 
 -- The last line: how many keys are finished, and how many there are.
 unfoldable pub finished_line : List Key → List Verdict → List Piece

@@ -12,6 +12,7 @@ ghost use Rattle.kmip_plan_report.specs.Listing.{
   finished_line,
   is_progress_refused,
   key_line,
+  key_line_with,
   list_lines_by,
   progress_listing,
   saved_listing,
@@ -187,13 +188,13 @@ fn push_key(
     ensures { OnOk result (text.new.items
         ≡ text.old.items ++ line_in form (key_line (standing_of standing.now))) }
 {
-    push_line(alloc, form, &pieces_of_key(standing), text)
+    push_line(alloc, form, &pieces_of_key(standing, true), text)
 }
 
-/// The line of a key: its name, its target, how many of its steps are done, the verdict and its
-/// identifier.
-pub fn pieces_of_key<'a>(standing: &'a KeyStanding<'a>) -> [Piece<'a>; 6]
-    ensures { pieces_of result ≡ key_line (standing_of standing.now) }
+/// The line of a key: its name, its target, the number of its steps that are done, the verdict and its
+/// identifier. Text says the identifier only if `is_told`.
+pub fn pieces_of_key<'a>(standing: &'a KeyStanding<'a>, is_told: bool) -> [Piece<'a>; 6]
+    ensures { pieces_of result ≡ key_line_with is_told (standing_of standing.now) }
 {
     let KeyStanding {
         key,
@@ -206,7 +207,7 @@ pub fn pieces_of_key<'a>(standing: &'a KeyStanding<'a>) -> [Piece<'a>; 6]
         Piece::number(" ", "done", known.done as u64),
         Piece::number("/", "of", chain_length(key) as u64),
         Piece::word(" ", "verdict", verdict.word()),
-        Piece::shown_or(" ", "identifier", " -", text_of(&known.identifier)),
+        Piece::shown_or(" ", "identifier", " -", text_of(&known.identifier)).told_if(is_told),
     ]
 }
 

@@ -20,9 +20,9 @@ use Rattle.kmip_protocol.specs.Seen.{Seen}
 use Rattle.kmip_look.specs.Moments.{IsLater}
 use Rattle.kmip_look.specs.Looks.{AsksLooks, IsFresh, IsSaid, IsToldOf, Looks, Sends}
 use Rattle.kmip_look.specs.declared.looked.Looked.{Looked}
-use Rattle.kmip_plan_commands.specs.RunEnds.{begin_knowns}
-use Rattle.kmip_plan_commands.specs.Runs.{CameOf, RunChange, RunStart, RunsPlan, call_to_end}
-use Rattle.kmip_plan_commands.specs.declared.run_end.RunEnd.{RunEnd}
+use Rattle.kmip_run_command.specs.RunEnds.{begin_knowns}
+use Rattle.kmip_run_command.specs.Runs.{CameOf, RunChange, RunStart, RunsPlan}
+use Rattle.kmip_run_command.specs.declared.run_end.RunEnd.{RunEnd}
 use Rattle.kmip_refresh.specs.Agreements.{judgement_of}
 use Rattle.kmip_refresh.specs.KnownKeys.{KnownKey, keys_known, keys_of, known_at_start, known_from, known_keys, looks_judged}
 use Rattle.kmip_refresh.specs.Moments.{FinishedSince, StoodSince}
@@ -174,7 +174,7 @@ none_read [] read fault is = refl
 none_read (key ∷ keys) read fault is = ap (λ r. known_keys (key ∷ keys) (known_at_start r)) is
 
 made_later : (keys : List Key) (start : RunStart) (change : RunChange) (end : RunEnd) (knowns : List Knowledge)
-    → begin_knowns keys start.saved ≡ Ok knowns → RunsPlan keys start change (call_to_end (Ok end)) → change.before.link.honest (is_planned keys)
+    → begin_knowns keys start.saved ≡ Ok knowns → RunsPlan keys start change (Ok end) → change.before.link.honest (is_planned keys)
     → IsLater (is_planned keys) change.before.link.past change.after.link.past
 made_later keys start change end knowns is runs honest =
     let (first, come) = ends_come change.untouched (CameOf start change keys) keys start.limit (begin_knowns keys start.saved) knowns end is runs.text in
@@ -191,7 +191,7 @@ nothing_stood names old new (k ∷ known) looks none is = absurd cc
 -- what was so between is so at the end
 stood_since : (keys : List Key) (start : RunStart) (change : RunChange) (old : Past) (looks : List KeyLook) (read : Result (List Knowledge) ProgressFault)
     → begin_knowns keys start.saved ≡ read → looks ≡ looks_judged (keys_known keys start.saved) (lookeds_of looks) → (end : RunEnd)
-    → RunsPlan keys start change (call_to_end (Ok end)) → change.before.link.honest (is_planned keys)
+    → RunsPlan keys start change (Ok end) → change.before.link.honest (is_planned keys)
     → AllZip (StoodSince (is_planned keys) old change.before.link.past) (keys_known keys start.saved) looks
     → AllZip (StoodSince (is_planned keys) old change.after.link.past) (keys_known keys start.saved) looks
 stood_since keys start change old looks (Ok knowns) is are end runs honest so =

@@ -13,10 +13,10 @@ use Rattle.kmip_runs.specs.declared.stop.Stop.TheVariants as stops
 use Rattle.kmip_look.specs.Looks.{IsSaid}
 use Rattle.kmip_look.specs.Moments as moments
 use Rattle.kmip_look.specs.Moments.{IsLater}
-use Rattle.kmip_plan_commands.specs.Course.{Came, RunState}
-use Rattle.kmip_plan_commands.specs.RunEnds.{EndsFrom, Outcome}
-use Rattle.kmip_plan_commands.specs.declared.run_end.RunEnd.{RunEnd}
-use Rattle.kmip_plan_commands.specs.declared.run_end.RunEnd.TheVariants.{Refused, Stopped, Unwritten}
+use Rattle.kmip_run_command.specs.Course.{Came, RunState}
+use Rattle.kmip_run_command.specs.RunEnds.{EndsFrom, Outcome}
+use Rattle.kmip_run_command.specs.declared.run_end.RunEnd.{RunEnd}
+use Rattle.kmip_run_command.specs.declared.run_end.RunEnd.TheVariants.{Refused, Stopped, Unwritten}
 use Rattle.kmip_client.specs.Clients.{ClientState}
 use Rattle.kmip_refresh.specs.Agreements.{agreement}
 use Rattle.kmip_refresh.specs.KnownKeys.{KnownKey, judged_look, keys_of, looks_judged}

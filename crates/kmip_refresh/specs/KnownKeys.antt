@@ -8,7 +8,7 @@ use Rattle.kmip_progress.specs.declared.progress_fault.ProgressFault.{ProgressFa
 use Rattle.kmip_client.specs.Saving.{known_of}
 use Rattle.kmip_client.specs.declared.knowledge.Knowledge.{Knowledge}
 use Rattle.kmip_look.specs.declared.looked.Looked.{Looked}
-use Rattle.kmip_plan_commands.specs.RunEnds.{begin_knowns}
+use Rattle.kmip_run_command.specs.RunEnds.{begin_knowns}
 use Rattle.kmip_refresh.specs.Agreements.{agreement}
 use Rattle.kmip_refresh.specs.declared.key_look.KeyLook.{KeyLook}
 

@@ -8,10 +8,10 @@ use Rattle.kmip_protocol.specs.Seen.{Seen}
 use Rattle.kmip_runs.specs.declared.stop.Stop.TheVariants as stops
 use Rattle.kmip_look.specs.Looks.{Looks, Sends}
 use Rattle.kmip_look.specs.declared.looked.Looked.{Looked}
-use Rattle.kmip_plan_commands.specs.RunEnds.{begin_knowns}
-use Rattle.kmip_plan_commands.specs.Runs.{RunChange, RunStart, RunsPlan, call_to_end}
-use Rattle.kmip_plan_commands.specs.declared.run_end.RunEnd.{RunEnd}
-use Rattle.kmip_plan_commands.specs.declared.run_end.RunEnd.TheVariants.{Refused, Stopped, Unwritten}
+use Rattle.kmip_run_command.specs.RunEnds.{begin_knowns}
+use Rattle.kmip_run_command.specs.Runs.{RunChange, RunStart, RunsPlan}
+use Rattle.kmip_run_command.specs.declared.run_end.RunEnd.{RunEnd}
+use Rattle.kmip_run_command.specs.declared.run_end.RunEnd.TheVariants.{Refused, Stopped, Unwritten}
 use Rattle.kmip_refresh.specs.Agreements.{judgement_of}
 use Rattle.kmip_refresh.specs.KnownKeys.{KnownKey, keys_of, looks_judged}
 use Rattle.kmip_refresh.specs.declared.judgement.Judgement.{Judgement}
@@ -65,9 +65,9 @@ IsStill change =
 -- or it ran out in the run.
 abbrev pub FollowsLook : List Key → RunStart → RunChange → Result Refreshed NoMemory → Type 0
 FollowsLook keys start change (Ok refreshed) =
-    ComesOf (IsStill change) (IsUnmade keys start) (λ end. RunsPlan keys start change (call_to_end (Ok end)))
+    ComesOf (IsStill change) (IsUnmade keys start) (λ end. RunsPlan keys start change (Ok end))
     (judgement_of refreshed.looks.items) refreshed.outcome
-FollowsLook keys start change (Err fault) = IsStill change ⊎ RunsPlan keys start change (call_to_end (Err fault))
+FollowsLook keys start change (Err fault) = IsStill change ⊎ RunsPlan keys start change (Err fault)
 
 -- A look at the known keys, and then what followed. `between` is the link after the look.
 pub record Refreshes {L : Type 0} (seen : L → Seen) (known : List KnownKey) (mark : List ℕ) (old : L) (result : Result Refreshed NoMemory) (Follows : L → Type 0) : Type 0 where

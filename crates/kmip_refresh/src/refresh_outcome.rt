@@ -1,6 +1,6 @@
 //! What came of a run that first asked the server.
 
-use kmip_plan_commands::RunEnd;
+use kmip_run_command::RunEnd;
 
 /// What came of a run that first asked the server.
 #[derive(Drop)]

@@ -4,13 +4,14 @@ use Rattle.std.specs.Prelude.{ℕ, List, [], ◌∷◌, codes, option_map}
 use Rattle.serde_json.specs.Data.{string}
 use Rattle.kmip_report.specs.Documents.{document, members, text_or_null, words_of}
 use Rattle.kmip_report.specs.declared.cause.Cause.{Cause}
-use Rattle.kmip_report.specs.declared.cause.Cause.TheVariants.{Unreachable, Refused, Conflict}
+use Rattle.kmip_report.specs.declared.cause.Cause.TheVariants.{Unreachable, Unanswered, Refused, Conflict}
 use Rattle.kmip_report.specs.declared.fault.Fault.{Fault}
 use Rattle.kmip_report.specs.Pieces.{Piece, word}
 
 -- The word for a cause.
 abbrev pub cause_word : Cause → List ℕ
 cause_word Unreachable = codes "unreachable"
+cause_word Unanswered = codes "unanswered"
 cause_word Refused = codes "refused"
 cause_word Conflict = codes "conflict"
 

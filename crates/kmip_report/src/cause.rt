@@ -5,8 +5,10 @@ ghost use Rattle.kmip_report.specs.FaultLines.{cause_word};
 /// What stands in the way of a run.
 #[derive(Clone, Copy)]
 pub enum Cause {
-    /// The server is not reached, or does not answer.
+    /// The server is not reached: no request was answered.
     Unreachable,
+    /// Some requests got no reply, and others did.
+    Unanswered,
     /// The server refuses a question.
     Refused,
     /// A key on the server is not as the plan says.
@@ -20,6 +22,7 @@ impl Cause {
     {
         match self {
             Cause::Unreachable => "unreachable",
+            Cause::Unanswered => "unanswered",
             Cause::Refused => "refused",
             Cause::Conflict => "conflict",
         }

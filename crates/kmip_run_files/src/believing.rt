@@ -10,8 +10,8 @@ use kmip_client::Client;
 use kmip_explaining::RefusedProgress;
 use kmip_files::{MOST_PROGRESS_BYTES, ProgressFile};
 use kmip_plan::{Step, chain};
-use kmip_plan_commands::begin;
 use kmip_progress::ProgressFault;
+use kmip_run_command::begin;
 use kmip_trouble::{Obstacle, Trouble, plan_name};
 use kmip_ttlv::NoMemory;
 

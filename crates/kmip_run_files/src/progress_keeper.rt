@@ -2,8 +2,10 @@
 use crate::has_failures::HasFailures;
 use kmip_account::Account;
 use kmip_files::{MachineDisk, ProgressFile};
+use kmip_run_command::Unsaved;
 use kmip_runs::{FileKeeper, Keeper, SaveFault};
 use kmip_trouble::{Cannot, tell_cause};
+use kmip_ttlv::NoMemory;
 use std::alloc::Global;
 use std::io::Error;
 
@@ -46,11 +48,6 @@ impl<'a, K: HasFailures> ProgressKeeper<'a, K> {
         self.account
     }
 
-    /// Why the file could not be written, the last time.
-    pub fn failure(&self) -> Option<&Error> {
-        self.keeper.save_failure()
-    }
-
     /// Reports why the file could not be written.
     fn report_save(&self) {
         if let Some(error) = self.keeper.save_failure() {
@@ -75,6 +72,15 @@ impl<'a, K: HasFailures> ProgressKeeper<'a, K> {
         match self.file.folder_beside() {
             Some(folder) => tell_cause(rt, folder, cannot, error),
             None => tell_cause(rt, self.file.given_path(), cannot, error),
+        }
+    }
+}
+
+impl<'a, K: HasFailures> Unsaved for ProgressKeeper<'a, K> {
+    fn why(&self, alloc: Global) -> Result<Option<String>, NoMemory> {
+        match self.keeper.save_failure() {
+            Some(error) => Ok(Some(format!(in alloc; "{error}")?)),
+            None => Ok(None),
         }
     }
 }

@@ -9,8 +9,8 @@ use crate::short::{Tally, push_short};
 use crate::watching::{Count, Patient, Stopped};
 use kmip_client::Client;
 use kmip_plan::{Plan, read_plan};
-use kmip_plan_commands::{Report, RunInput, Spent, begin, progress_line, run_plan};
-use kmip_report::ExitStatus;
+use kmip_report::{ExitStatus, Form};
+use kmip_run_command::{Report, RunInput, Spent, Unsaved, begin, progress_line, run};
 use kmip_runs::{Keeper, Pace, SaveFault, Stop, carry_out, next_wait};
 use kmip_scripted::Scripted;
 use kmip_server::ListStore;
@@ -238,7 +238,7 @@ fn run_in_short(
 }
 
 /// Runs `run` over the link of the case, with this keeper and this writer.
-fn run_with<K: Keeper, W: Write>(
+fn run_with<K: Keeper + Unsaved, W: Write>(
     alloc: Global,
     order: &Order<'_>,
     case: &mut Case<'_>,
@@ -248,6 +248,7 @@ fn run_with<K: Keeper, W: Write>(
     requires { IsTrue (may_have order.now.batch) }
 {
     let input = RunInput {
+        form: Form::Text,
         report: order.report,
         path: "over there",
         limit: order.limit,
@@ -255,7 +256,7 @@ fn run_with<K: Keeper, W: Write>(
         saved: order.saved,
     };
     let (link, patience, count) = (&mut case.link, &mut case.patience, &mut case.count);
-    run_plan(
+    run(
         alloc, order.plan, &input, link, keeper, patience, count, writer,
     )
 }

@@ -2,7 +2,7 @@
 ghost use Rattle.std.specs.Prelude.{IfOk, IsTrue};
 ghost use Rattle.kmip_messages.specs.Members.{may_have};
 
-use kmip_plan_commands::Report;
+use kmip_run_command::Report;
 use std::test::Fail;
 
 /// What a run is given beside its link and what it begins with.

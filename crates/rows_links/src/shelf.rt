@@ -3,8 +3,9 @@ ghost use Rattle.std.specs.Prelude.{◌≡◌, ◌≤◌};
 ghost use Rattle.kmip_runs.specs.Refusals.{HasRisen};
 
 use kmip_disk::{MemoryDisk, MemoryFault, WholeFile};
+use kmip_run_command::Unsaved;
 use kmip_runs::{Keeper, SaveFault};
-use kmip_ttlv::Bytes;
+use kmip_ttlv::{Bytes, NoMemory};
 use std::alloc::Global;
 use std::str::from_utf8;
 use std::test::Fail;
@@ -102,5 +103,12 @@ impl Keeper for Shelf {
                 Err(SaveFault::Output)
             }
         }
+    }
+}
+
+/// The system says nothing of it.
+impl Unsaved for Shelf {
+    fn why(&self, _alloc: Global) -> Result<Option<String>, NoMemory> {
+        Ok(None)
     }
 }

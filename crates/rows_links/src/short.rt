@@ -1,6 +1,8 @@
 //! How much a run wrote and kept, and the ends of that, where the whole is long.
 
+use kmip_run_command::Unsaved;
 use kmip_runs::{Keeper, SaveFault};
+use kmip_ttlv::NoMemory;
 use std::alloc::{AllocError, Global};
 use std::str::from_utf8;
 use std::test::Fail;
@@ -77,4 +79,11 @@ fn checksum(text: &[u8]) -> u64 {
         sum = sum.wrapping_mul(31).wrapping_add(u64::from(*byte));
     }
     sum
+}
+
+/// The system says nothing of it.
+impl Unsaved for Tally {
+    fn why(&self, _alloc: Global) -> Result<Option<String>, NoMemory> {
+        Ok(None)
+    }
 }

@@ -2,7 +2,10 @@
 
 use kmip_batch_items::Reply;
 use kmip_client::{Client, Listener, Part};
+use kmip_run_command::{Counting, RunTally};
 use kmip_runs::{ExchangeNews, NoReplyReason, Observer, Pace, Patience};
+use kmip_ttlv::NoMemory;
+use std::alloc::Global;
 use std::cell::Cell;
 use std::io;
 use std::time::{Clock, Duration};
@@ -72,6 +75,20 @@ impl Observer for Count {
 
     fn ended(&mut self) {
         self.ends = self.ends.saturating_add(1);
+    }
+}
+
+impl Counting for Count {
+    fn tally(&mut self, alloc: Global, _client: &Client<'_>) -> Result<RunTally, NoMemory> {
+        Ok(RunTally {
+            exchanges: 0,
+            lost: 0,
+            unreadable: 0,
+            refused: 0,
+            milliseconds: 0,
+            steps: Vec::new(alloc),
+            unanswered: None,
+        })
     }
 }
 

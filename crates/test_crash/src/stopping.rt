@@ -5,7 +5,8 @@ use kmip_client::NoListener;
 use kmip_disk::{Disk, MemoryDisk};
 use kmip_objects::KeyState;
 use kmip_plan::read_plan;
-use kmip_plan_commands::{Report, RunInput, run_to_end};
+use kmip_report::Form;
+use kmip_run_command::{Report, RunInput, run_to_end};
 use kmip_runs::{FileKeeper, Tireless};
 use kmip_scripted::{Scripted, read_script};
 use kmip_server::Server;
@@ -59,6 +60,7 @@ fn run(
     disk.restart(calls);
     let mut keeper = FileKeeper::new(disk, saved.is_none());
     let input = RunInput {
+        form: Form::Text,
         report: Report::Plain,
         path: "progress",
         limit: 100,

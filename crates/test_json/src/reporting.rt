@@ -5,7 +5,7 @@ use crate::asserting::{PLAN, assert_lines, key};
 use kmip_client::Client;
 use kmip_json::push_run;
 use kmip_plan::{Plan, PlanFault, Target, read_plan};
-use kmip_plan_commands::RunTally;
+use kmip_run_command::RunTally;
 use kmip_plan_report::{
     push_check_after, push_check_lines, push_list, push_plan_refusal, push_progress_refusal,
 };

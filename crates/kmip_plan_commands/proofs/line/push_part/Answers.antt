@@ -1,8 +1,0 @@
--- A part stands behind the line where that has room for it: answered so that a wrong body fails at once.
-use Rattle.std.proofs.Common.{rules}
-use Rattle.kmip_plan_commands.specs.ProgressLineText.{with_part}
-use Rattle.kmip_plan_commands.proofs.line.push_part.Goals as goal
-
-pub returns-in_ok-push_str : goal.returns-in_ok-push_str
-unfolding with_part
-returns-in_ok-push_str c = search rules

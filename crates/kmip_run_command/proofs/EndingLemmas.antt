@@ -1,0 +1,87 @@
+-- The report of an end that was made in memory is what is printed.
+use Rattle.std.proofs.Common.{◌≡◌, ◌++◌, Bool, true, false, List, ℕ, Option, Some, Result, Ok, Err, IfOk, OnOk, [], sym, ap, subst, ◌∙◌}
+use Rattle.std.specs.Io.KnownBytes.{Appends}
+use Rattle.kmip_report.specs.Endings.{IfWhole}
+use Rattle.kmip_report.specs.Pieces.{Piece, report_in}
+use Rattle.kmip_report.specs.declared.exit_status.ExitStatus.{ExitStatus}
+use Rattle.kmip_report.specs.declared.exit_status.ExitStatus.TheVariants as statuses
+use Rattle.kmip_ttlv.specs.declared.no_memory.NoMemory.{NoMemory}
+use Rattle.kmip_run_command.specs.RunReport.{TellsEnd, WritesEnd, end_line_of, is_end_refused}
+use Rattle.kmip_run_command.specs.declared.run_end.RunEnd.{RunEnd}
+use Rattle.kmip_run_command.specs.declared.run_end.RunEnd.TheVariants.{Refused, Unwritten, Stopped}
+use Rattle.kmip_run_command.specs.declared.run_input.RunInput.{RunInput}
+use Rattle.kmip_run_command.specs.declared.run_tally.RunTally.{RunTally}
+use Rattle.kmip_report.specs.declared.cause.Cause.{Cause}
+
+-- what follows of a success
+pub on_ok : {T E P Q : Type 0} (result : Result T E) → (P → Q) → OnOk result P → OnOk result Q
+on_ok (Ok value) f p = f p
+on_ok (Err fault) f p = tt
+
+-- a last line of the same words and counts
+pub end_as : {e e' s s' : List ℕ} {f f' : ℕ} {k k' : Option Cause} (of : ℕ) (tally : RunTally) → e ≡ e' → f ≡ f' → s ≡ s' → k ≡ k'
+    → end_line_of e f of s tally k ≡ end_line_of e' f' of s' tally k'
+end_as {e} {e'} {s} {s'} {f} {f'} {k} {k'} of tally same_end same_count same_stop same_cause =
+    ap (λ x. end_line_of x f of s tally k) same_end
+    ∙ ap (λ x. end_line_of e' x of s tally k) same_count
+    ∙ ap (λ x. end_line_of e' f' of x tally k) same_stop
+    ∙ ap (λ x. end_line_of e' f' of s' tally x) same_cause
+
+-- what follows of the report follows of what is told
+told_by : (input : RunInput) (end : RunEnd) (P Q : List (List Piece) → Type 0) → ((lines : List (List Piece)) → P lines → Q lines) → TellsEnd input end P → TellsEnd input end Q
+told_by input (Refused fault) P Q f holds = f _ holds
+told_by input Unwritten P Q f told = (told.0, f _ told.1)
+told_by input (Stopped client stop exchanges) P Q f told = (told.0, f _ told.1)
+
+-- an end that was told in memory
+pub made_end : (input : RunInput) (ends : RunEnd → Type 0) (end : RunEnd) (result : Result Bool NoMemory) (old new : List ℕ) → ends end
+    → IfOk result (λ r. r ≡ is_end_refused end) → OnOk result (TellsEnd input end (λ lines. new ≡ old ++ report_in input.form lines))
+    → IfOk result (λ refused. WritesEnd input refused ends (Some old) (Some new))
+made_end input ends end (Ok refused) old new holds is told = record {
+  end = end;
+  ended = holds;
+  refused_is = is;
+  written = told;
+}
+made_end input ends end (Err want) old new holds is told = tt
+
+-- what was made in memory was written
+written_as : (input : RunInput) (ends : RunEnd → Type 0) (refused : Bool) (report : List ℕ) (old new : Option (List ℕ))
+    → Appends old new report → WritesEnd input refused ends (Some []) (Some report) → WritesEnd input refused ends old new
+written_as input ends refused report old new printed w = record {
+  end = w.end;
+  ended = w.ended;
+  refused_is = w.refused_is;
+  written =
+      told_by input w.end (λ lines. report ≡ report_in input.form lines) (λ lines. Appends old new (report_in input.form lines))
+      (λ lines is. subst (Appends old new) is printed) w.written;
+}
+
+abbrev made_as : Result Bool NoMemory → Result Bool NoMemory
+made_as r = r
+
+-- what holds of a report that was made holds of how it was printed
+same_refusal : (x y : Bool) → made_as (Ok x) ≡ made_as (Ok y) → x ≡ y
+same_refusal x y e = cc
+
+of_made : (P : Bool → Type 0) (made : Result Bool NoMemory) (r : Bool) → made ≡ Ok r → IfOk made P → P r
+of_made P (Ok x) r is p = subst P (same_refusal x r is) p
+of_made P (Err want) r is p = absurd cc
+
+pub printed_end : (input : RunInput) (ends : RunEnd → Type 0) (status : ExitStatus) (made : Result Bool NoMemory) (report : List ℕ) (old new : Option (List ℕ))
+    → IfWhole status (λ r. Appends old new report) → IfWhole status (λ r. made ≡ Ok r)
+    → IfOk made (λ refused. WritesEnd input refused ends (Some []) (Some report))
+    → IfWhole status (λ refused. WritesEnd input refused ends old new)
+printed_end input ends statuses.Done made report old new printed is w =
+    written_as input ends false report old new printed (of_made (λ refused. WritesEnd input refused ends (Some []) (Some report)) made false is w)
+printed_end input ends statuses.Refused made report old new printed is w =
+    written_as input ends true report old new printed (of_made (λ refused. WritesEnd input refused ends (Some []) (Some report)) made true is w)
+printed_end input ends (statuses.Failed fault) made report old new printed is w = tt
+printed_end input ends statuses.Usage made report old new printed is w = absurd printed
+
+-- the same of what holds only if the run did not fail
+pub printed_if : (P : Type 0) (status : ExitStatus) (made : Result Bool NoMemory) → IfWhole status (λ r. made ≡ Ok r) → IfOk made (λ r. P) → IfWhole status (λ r. P)
+printed_if P statuses.Done made is p = of_made (λ r. P) made false is p
+printed_if P statuses.Refused made is p = of_made (λ r. P) made true is p
+printed_if P (statuses.Failed fault) made is p = tt
+printed_if P statuses.Usage made is p = absurd is

@@ -1,0 +1,4 @@
+pub mod CourseLemmas
+mod ProgressLineLemmas
+mod TrueTextLemmas
+mod EndingLemmas

@@ -1,0 +1,11 @@
+-- What was made in memory is what was printed.
+use Rattle.kmip_run_command.proofs.EndingLemmas.{printed_end, printed_if}
+use Rattle.kmip_run_command.proofs.running.run.Goals as goal
+
+pub returns-clause-text : goal.returns-clause-text
+returns-clause-text g c =
+    printed_end _ _ c.print_report.result c.push_run-made.result _ _ _ c.print_report.ensures.text c.print_report.ensures.refused c.push_run-made.ensures.text
+
+pub returns-clause-few : goal.returns-clause-few
+returns-clause-few g c = λ honest.
+    printed_if _ c.print_report.result c.push_run-made.result c.print_report.ensures.refused (c.push_run-made.ensures.few honest)

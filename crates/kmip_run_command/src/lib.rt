@@ -1,0 +1,36 @@
+//! The command `run`.
+//!
+//! `run` carries out a plan over a link, has its progress saved, and prints how that ended. `run_to_end` does
+//! the work alone, and `push_run_end` makes the report.
+#![tactic(auto)]
+
+mod batch;
+mod beginning;
+mod carrying_out;
+mod causes;
+mod counting;
+mod ending;
+pub mod laws;
+mod line;
+mod run_end;
+mod run_input;
+mod run_tally;
+mod running;
+mod spent;
+mod unanswered;
+mod unsaved;
+
+pub use batch::batch_of;
+pub use beginning::begin;
+pub use carrying_out::run_to_end;
+pub use counting::Counting;
+pub use ending::push_run_end;
+pub use kmip_choices::Report;
+pub use line::progress_line;
+pub use run_end::RunEnd;
+pub use run_input::RunInput;
+pub use run_tally::RunTally;
+pub use running::run;
+pub use spent::Spent;
+pub use unanswered::Unanswered;
+pub use unsaved::Unsaved;

@@ -1,0 +1,125 @@
+//! The command `run`: a plan is carried out over a link, and how that ended is printed.
+ghost use Rattle.std.specs.Prelude.{IfOk, IsTrue, Some};
+ghost use Rattle.std.specs.Io.KnownBytes.{Appends};
+ghost use Rattle.kmip_messages.specs.Members.{may_have};
+ghost use Rattle.kmip_protocol.specs.Past.{is_planned};
+ghost use Rattle.kmip_report.specs.Endings.{IfFailed, IfWhole, UnlessOutput};
+ghost use Rattle.kmip_report.specs.FaultLines.{no_memory};
+ghost use Rattle.kmip_report.specs.Pieces.{line_in};
+ghost use Rattle.kmip_run_command.specs.Course.{AreUntouched, AsksFew, IsGoodStart, KeepsSafe, LeavesTrue, run_state};
+ghost use Rattle.kmip_run_command.specs.RunReport.{WritesEnd};
+ghost use Rattle.kmip_run_command.specs.Runs.{Ends, run_change, saved_text, start_of};
+
+use crate::carrying_out::run_to_end;
+use crate::counting::Counting;
+use crate::ending::push_run_end;
+use crate::run_input::RunInput;
+use crate::unsaved::Unsaved;
+use kmip_plan::Plan;
+use kmip_plan_report::print_report;
+use kmip_protocol::Link;
+use kmip_report::ExitStatus;
+use kmip_runs::{Keeper, Observer, Patience};
+use kmip_ttlv::NoMemory;
+use std::alloc::Global;
+use std::io::Write;
+
+/// Carries out a plan over the link, from nothing or from what the text of a saved progress says, and prints how
+/// that ended. The keeper is given the text of what is known after each exchange. `patience` waits before each
+/// further exchange, and says if it is made. `observer` is told of each exchange, and counts them.
+///
+/// The report is made in memory, and printed once the run has ended. It says how each key stands, why the run
+/// stopped, and after how many exchanges. If what was known could not be saved, it is one line that says so. If the
+/// progress is refused, it is the line of that; then nothing was asked, and nothing was saved.
+///
+/// Returns `Done` if nothing was refused, unsaved or left unfinished, else `Refused`. Returns `Failed` if memory ran
+/// out, and then the line of that is printed instead, or if the writer failed. What the keeper was given stays.
+pub fn run<L: Link, K: Keeper + Unsaved, E: Patience, O: Observer + Counting, W: Write>(
+    alloc: Global,
+    plan: &Plan,
+    input: &RunInput<'_>,
+    link: &mut L,
+    keeper: &mut K,
+    patience: &mut E,
+    observer: &mut O,
+    writer: &mut W,
+) -> ExitStatus
+    // The `batch` of the input is a number from 1 to 8.
+    requires batch { IsTrue (may_have input.now.batch) }
+    // Let the link be honest among others of the plan, let all that has happened over it be sound, and let the
+    // progress, if any, be true. Then all of that holds of the link after the run too, however it ends.
+    ensures safe { IsGoodStart (saved_text input.now) (L.seen link.old) plan.now
+        → KeepsSafe plan.now (L.seen link.old) (L.seen link.new) }
+    // Let that be so, and let the keeper's disk keep the rules of one. Then whatever a crash at any time during
+    // the run leaves is what it might have left before, or a whole text that is true.
+    ensures any_moment { IsGoodStart (saved_text input.now) (L.seen link.old) plan.now
+        → LeavesTrue (L.seen link.new).past.objects plan.now
+        (K.kept keeper.old).disk (K.kept keeper.new).disk }
+    // Over a link that is honest for the names of the plan, each message asked about keys of the plan, each once,
+    // and about no more than the input says. Nothing is said of this if the run failed.
+    ensures few { (L.seen link.old).honest (is_planned plan.now) → IfWhole result (λ _.
+        AsksFew plan.now input.now.batch (L.seen link.old).past (L.seen link.new).past) }
+    // If it ends with `Done` or `Refused`, exactly the report of how it ended is written. It ends with `Refused`
+    // exactly if something was refused, unsaved or left unfinished. How it ended came of its exchanges (`Came`).
+    ensures text { IfWhole result (λ refused. WritesEnd input.now refused
+        (Ends plan.now (start_of input.now) (run_change
+        (run_state (L.seen link.old) (K.kept keeper.old) (E.has_given_up patience.old)
+        (E.asked patience.old))
+        (run_state (L.seen link.new) (K.kept keeper.new) (E.has_given_up patience.new)
+        (E.asked patience.new))
+        (AreUntouched link.old link.new keeper.old keeper.new)))
+        (W.contents writer.old) (W.contents writer.new)) }
+    // If it ends with `Failed`, exactly the line for running out of memory is written, unless the writer failed.
+    ensures broken { IfFailed result (λ fault. UnlessOutput fault
+        (Appends (W.contents writer.old) (W.contents writer.new)
+        (line_in input.now.form no_memory))) }
+{
+    let mut report = Vec::new(alloc);
+    let made = push_run(
+        alloc,
+        plan,
+        input,
+        link,
+        keeper,
+        patience,
+        observer,
+        &mut report,
+    );
+    print_report(input.form, made, report.as_slice(), writer)
+}
+
+/// Carries out a plan as `run` does, and appends the report. Returns true if something was refused, unsaved or left
+/// unfinished.
+///
+/// # Errors
+/// If memory runs out. A part may have been appended then.
+fn push_run<L: Link, K: Keeper + Unsaved, E: Patience, O: Observer + Counting>(
+    alloc: Global,
+    plan: &Plan,
+    input: &RunInput<'_>,
+    link: &mut L,
+    keeper: &mut K,
+    patience: &mut E,
+    observer: &mut O,
+    text: &mut Vec<u8>,
+) -> Result<bool, NoMemory>
+    requires batch { IsTrue (may_have input.now.batch) }
+    ensures safe { IsGoodStart (saved_text input.now) (L.seen link.old) plan.now
+        → KeepsSafe plan.now (L.seen link.old) (L.seen link.new) }
+    ensures any_moment { IsGoodStart (saved_text input.now) (L.seen link.old) plan.now
+        → LeavesTrue (L.seen link.new).past.objects plan.now
+        (K.kept keeper.old).disk (K.kept keeper.new).disk }
+    ensures few { (L.seen link.old).honest (is_planned plan.now) → IfOk result (λ _.
+        AsksFew plan.now input.now.batch (L.seen link.old).past (L.seen link.new).past) }
+    ensures text { IfOk result (λ refused. WritesEnd input.now refused
+        (Ends plan.now (start_of input.now) (run_change
+        (run_state (L.seen link.old) (K.kept keeper.old) (E.has_given_up patience.old)
+        (E.asked patience.old))
+        (run_state (L.seen link.new) (K.kept keeper.new) (E.has_given_up patience.new)
+        (E.asked patience.new))
+        (AreUntouched link.old link.new keeper.old keeper.new)))
+        (Some text.old.items) (Some text.new.items)) }
+{
+    let end = run_to_end(alloc, plan, input, link, keeper, patience, observer)?;
+    push_run_end(alloc, input, &end, keeper, observer, text)
+}
