@@ -7,10 +7,10 @@ use Rattle.std.specs.List.{flat_map}
 use Rattle.serde_json.specs.Data.{Data, null, boolean, string, Members}
 use Rattle.kmip_ttlv.specs.Showing.{plain_text, shown_truth}
 use Rattle.kmip_report.specs.declared.datum.Datum.{Datum}
-use Rattle.kmip_report.specs.declared.datum.Datum.TheVariants.{Null, Truth, Number, Signed, Mask, Text, Shown, Words, Numbers}
+use Rattle.kmip_report.specs.declared.datum.Datum.TheVariants.{Null, Truth, Number, Signed, Mask, Text, Shown, Words, Lines, Numbers}
 use Rattle.kmip_report.specs.declared.member.Member.{Member}
 use Rattle.kmip_report.specs.Documents.{count, members, numbers_of, words_of}
-use Rattle.kmip_report.specs.Pieces.{mask_digits, spaced, spaced_numbers}
+use Rattle.kmip_report.specs.Pieces.{fed_lines, mask_digits, spaced, spaced_numbers}
 
 -- The value in JSON.
 abbrev pub data_of : Datum → Data
@@ -22,6 +22,7 @@ data_of (Mask n) = count n
 data_of (Text word) = string word.now
 data_of (Shown word) = string word.now
 data_of (Words words) = words_of (map (λ word. word.now) words.now)
+data_of (Lines texts) = words_of (map (λ text. text.now) texts.now)
 data_of (Numbers numbers) = numbers_of numbers.now
 
 -- The value in text.
@@ -34,6 +35,7 @@ text_of (Mask n) = mask_digits n
 text_of (Text word) = word.now
 text_of (Shown word) = plain_text word.now
 text_of (Words words) = spaced (map (λ word. word.now) words.now)
+text_of (Lines texts) = fed_lines (map (λ text. text.now) texts.now)
 text_of (Numbers numbers) = spaced_numbers numbers.now
 
 -- The name of a member, and its value.

@@ -36,6 +36,14 @@ spaced_word word = codes " " ++ word
 abbrev pub spaced : List (List ℕ) → List ℕ
 spaced words = flat_map spaced_word words
 
+-- A line feed and a line.
+abbrev pub fed_line : List ℕ → List ℕ
+fed_line line = codes "\n" ++ line
+
+-- Lines, each after a line feed.
+abbrev pub fed_lines : List (List ℕ) → List ℕ
+fed_lines texts = flat_map fed_line texts
+
 -- A space and a number in decimal.
 abbrev pub spaced_number : ℕ → List ℕ
 spaced_number n = codes " " ++ decimal n
@@ -99,6 +107,10 @@ truth front name is_so = told front name (shown_truth is_so) (boolean is_so)
 -- Texts: in text each after a space, in JSON an array.
 abbrev pub words : List ℕ → List ℕ → List (List ℕ) → Piece
 words front name texts = told front name (spaced texts) (words_of texts)
+
+-- Lines: in text each after a line feed, in JSON an array.
+abbrev pub listed : List ℕ → List ℕ → List (List ℕ) → Piece
+listed front name texts = told front name (fed_lines texts) (words_of texts)
 
 -- The piece if it is to be told in text, else its members in JSON alone.
 abbrev pub told_if : Bool → Piece → Piece

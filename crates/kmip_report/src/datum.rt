@@ -21,6 +21,8 @@ pub enum Datum<'a> {
     Shown(&'a str),
     /// Texts: an array in JSON; in text each one after a space.
     Words(&'a [&'a str]),
+    /// Lines: an array in JSON; in text each one after a line feed.
+    Lines(&'a [&'a str]),
     /// Numbers from 0: an array in JSON; in text each one after a space.
     Numbers(&'a [u32]),
 }

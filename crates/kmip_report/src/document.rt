@@ -83,6 +83,7 @@ fn push_datum(alloc: Global, datum: &Datum<'_>, text: &mut Vec<u8>) -> Result<()
         Datum::Text(word) => push_string(alloc, word, text),
         Datum::Shown(word) => push_string(alloc, word, text),
         Datum::Words(words) => push_words(alloc, words, text),
+        Datum::Lines(lines) => push_words(alloc, lines, text),
         Datum::Numbers(numbers) => push_numbers(alloc, numbers, text),
     }
 }

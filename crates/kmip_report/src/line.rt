@@ -63,6 +63,7 @@ fn push_piece(alloc: Global, piece: &Piece<'_>, text: &mut Vec<u8>) -> Result<()
     match piece {
         Piece::Told(front, member) => push_told(alloc, front, member, text),
         Piece::Said(words) => push_text(words.as_bytes(), text),
+        Piece::Raw(bytes) => push_text(bytes, text),
         Piece::Noted(_) => push_text(b"", text),
     }
 }
@@ -123,6 +124,7 @@ fn push_noted(
     match piece {
         Piece::Told(_, member) => push_later(alloc, is_later, member, text),
         Piece::Said(_) => Ok(is_later),
+        Piece::Raw(_) => Ok(is_later),
         Piece::Noted(member) => push_later(alloc, is_later, member, text),
     }
 }

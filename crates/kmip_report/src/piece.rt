@@ -4,6 +4,7 @@ ghost use Rattle.kmip_report.specs.Members.{data_of, text_of};
 ghost use Rattle.kmip_report.specs.PieceViews.{piece_of};
 ghost use Rattle.kmip_report.specs.Pieces.{
   absent,
+  listed,
   mask,
   number,
   number_or,
@@ -29,6 +30,8 @@ pub enum Piece<'a> {
     Told(&'static str, Member<'a>),
     /// Words in text alone.
     Said(&'a str),
+    /// Bytes in text alone, which may not be UTF-8.
+    Raw(&'a [u8]),
     /// A member in JSON alone.
     Noted(Member<'a>),
 }
@@ -146,6 +149,14 @@ impl<'a> Piece<'a> {
         Piece::told(front, name, Datum::Words(texts))
     }
 
+    /// Lines: in text each one after a line feed, in JSON an array.
+    pub fn lines(front: &'static str, name: &'static str, texts: &'a [&'a str]) -> Self
+        ensures { piece_of result
+            ≡ listed front.now name.now (map (λ text. text.now) texts.now) }
+    {
+        Piece::told(front, name, Datum::Lines(texts))
+    }
+
     /// The piece if it is to be told in text, else its member in JSON alone.
     pub fn told_if(self, is_told: bool) -> Self
         ensures { piece_of result ≡ told_if is_told (piece_of self.entry) }
@@ -156,6 +167,7 @@ impl<'a> Piece<'a> {
         match self {
             Piece::Told(_, member) => Piece::Noted(member),
             Piece::Said(_) => Piece::Said(""),
+            Piece::Raw(_) => Piece::Said(""),
             Piece::Noted(member) => Piece::Noted(member),
         }
     }

@@ -3,7 +3,15 @@ ghost use Rattle.std.specs.Prelude.{◌≡◌, ◌++◌, OnOk, map};
 ghost use Rattle.std.specs.Fmt.{decimal, signed_decimal};
 ghost use Rattle.kmip_ttlv.specs.Showing.{plain_text, shown_truth};
 ghost use Rattle.kmip_report.specs.Members.{text_of};
-ghost use Rattle.kmip_report.specs.Pieces.{mask_digits, spaced, spaced_number, spaced_numbers, spaced_word};
+ghost use Rattle.kmip_report.specs.Pieces.{
+  fed_line,
+  fed_lines,
+  mask_digits,
+  spaced,
+  spaced_number,
+  spaced_numbers,
+  spaced_word,
+};
 
 use crate::bytes::push_text;
 use crate::datum::Datum;
@@ -27,6 +35,7 @@ pub(crate) fn push_shown(
         Datum::Text(word) => push_text(word.as_bytes(), text),
         Datum::Shown(word) => push_plain(alloc, word, text),
         Datum::Words(words) => push_words(words, text),
+        Datum::Lines(lines) => push_lines(lines, text),
         Datum::Numbers(numbers) => push_numbers(alloc, numbers, text),
     }
 }
@@ -91,6 +100,25 @@ fn push_word(word: &str, text: &mut Vec<u8>) -> Result<(), NoMemory>
 {
     push_text(b" ", text)?;
     push_text(word.as_bytes(), text)
+}
+
+/// Appends lines, each after a line feed.
+fn push_lines(lines: &[&str], text: &mut Vec<u8>) -> Result<(), NoMemory>
+    ensures { OnOk result (text.new.items
+        ≡ text.old.items ++ fed_lines (map (λ line. line.now) lines.now)) }
+{
+    for line in lines {
+        push_fed_line(line, text)?;
+    }
+    Ok(())
+}
+
+/// Appends a line feed and a line.
+fn push_fed_line(line: &str, text: &mut Vec<u8>) -> Result<(), NoMemory>
+    ensures { OnOk result (text.new.items ≡ text.old.items ++ fed_line line.now) }
+{
+    push_text(b"\n", text)?;
+    push_text(line.as_bytes(), text)
 }
 
 /// Appends numbers in decimal, each after a space.
