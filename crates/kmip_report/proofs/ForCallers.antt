@@ -1,15 +1,18 @@
 -- Members one by one are pairs one by one, and a document of members is that of their pairs. Pieces one by one are a
 -- line, and lines one by one are a report.
-use Rattle.std.proofs.Common.{◌≡◌, ℕ, List, [], ◌∷◌, ◌++◌, map, Result, Ok, Err, OnOk, sym, ap, ap₂, subst, ◌∙◌, append_assoc, append-nil}
+use Rattle.std.proofs.Common.{◌≡◌, ℕ, List, [], ◌∷◌, ◌++◌, true, map, codes, Result, Ok, Err, OnOk, sym, ap, ap₂, subst, ◌∙◌, append_assoc, append-nil, arith}
+use Rattle.std.proofs.lemmas.Fmt.{decimal_digit}
 use Rattle.std.proofs.lemmas.List.{map-append}
 use Rattle.serde_json.specs.Data.{Data}
+use Rattle.serde_json.specs.Written.{members_text}
+use Rattle.serde_json.proofs.OnLiterals.{serde_json_on_literals}
 use Rattle.kmip_report.specs.declared.form.Form.{Form}
 use Rattle.kmip_report.specs.declared.member.Member.{Member}
 use Rattle.kmip_report.specs.declared.piece.Piece as code
 use Rattle.kmip_report.specs.Documents.{document, members}
 use Rattle.kmip_report.specs.Members.{pair_of}
 use Rattle.kmip_report.specs.PieceViews.{piece_of}
-use Rattle.kmip_report.specs.Pieces.{Piece, line_in, report_in}
+use Rattle.kmip_report.specs.Pieces.{Piece, json_line, line_in, noted, piece_members, report_in}
 
 -- a pair before others
 pub more : {p q : List ℕ × Data} {ps qs : List (List ℕ × Data)} → p ≡ q → ps ≡ qs → p ∷ ps ≡ q ∷ qs
@@ -42,11 +45,21 @@ then_pieces one others = ap₂ (λ (p : Piece) (ps : List Piece). p ∷ ps) one 
 pub last_piece : {p q : Piece} → p ≡ q → p ∷ [] ≡ q ∷ []
 last_piece one = ap (λ (p : Piece). p ∷ []) one
 
+-- a piece in JSON alone, of a member that is this pair
+pub noted_piece : {p q : List ℕ × Data} → p ≡ q → noted p.0 p.1 ≡ noted q.0 q.1
+noted_piece is = ap (λ (pair : List ℕ × Data). noted pair.0 pair.1) is
+
 -- one piece more at the end
 pub pushed_piece : (ps more : List code.Piece) (p : code.Piece) (line : List Piece) (piece : Piece) → map piece_of ps ≡ line → piece_of p ≡ piece
     → more ≡ ps ++ p ∷ [] → map piece_of more ≡ line ++ piece ∷ []
 pushed_piece ps more p line piece is last longer =
     ap (map piece_of) longer ∙ map-append piece_of ps (p ∷ []) ∙ ap₂ (λ (xs : List Piece) (x : Piece). xs ++ x ∷ []) is last
+
+-- the document of pieces: how each document begins, their members, and a line feed
+pub opened_line : (ps : List Piece) → json_line ps ≡ codes "{\"version\":1" ++ (members_text true (members (piece_members ps)) ++ codes "\n")
+unfolding serde_json_on_literals document
+opened_line ps =
+    ap (λ (one : List ℕ). codes "{\"version\":" ++ ((one ++ members_text true (members (piece_members ps))) ++ codes "\n")) (decimal_digit 1 (omega arith))
 
 -- the line of pieces that are these
 pub line_of : {T E : Type 0} (result : Result T E) (form : Form) (old new : List ℕ) {ps qs : List Piece} → ps ≡ qs

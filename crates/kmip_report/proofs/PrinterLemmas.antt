@@ -1,5 +1,5 @@
 -- What a failure on a printer is on a writer, and in memory. For the crates above.
-use Rattle.std.proofs.Common.{◌≡◌, ◌≢◌, List, ℕ, [], Option, Some, Result, Ok, Err, IfErr, sym, ◌∙◌, inl, inr}
+use Rattle.std.proofs.Common.{◌≡◌, ◌≢◌, List, ℕ, [], Option, Result, Ok, Err, IfErr, sym, ◌∙◌, inl, inr}
 use Rattle.std.specs.Io.KnownBytes.{Appends}
 use Rattle.std.proofs.KnownBytes.{Appends-kept, Appends-nil}
 use Rattle.kmip_report.specs.Endings.{Fails}

@@ -1,9 +1,8 @@
 -- What the values and the members of the code are in text and in JSON.
 -- Source: own (text): what the program prints.
-use Rattle.std.specs.Prelude.{ℕ, List, ◌∷◌, map, codes}
+use Rattle.std.specs.Prelude.{ℕ, List, map}
 use Rattle.std.specs.Fmt.{decimal, signed_decimal}
 use Rattle.std.specs.Int.{w32, cast_unsigned}
-use Rattle.std.specs.List.{flat_map}
 use Rattle.serde_json.specs.Data.{Data, null, boolean, string, Members}
 use Rattle.kmip_ttlv.specs.Showing.{plain_text, shown_truth}
 use Rattle.kmip_report.specs.declared.datum.Datum.{Datum}

@@ -129,9 +129,17 @@ piece_members pieces = flat_map (λ (piece : Piece). piece.members) pieces
 unfoldable pub text_line : List Piece → List ℕ
 text_line pieces = piece_texts pieces ++ codes "\n"
 
--- The line of pieces in JSON: the object of their members and a line feed.
+-- The version of the documents. It changes if a member changes its meaning or goes. Own (text).
+abbrev pub format_version : ℕ
+format_version = 1
+
+-- The first member of each document.
+abbrev pub version_member : List ℕ × Data
+version_member = (codes "version", count format_version)
+
+-- The line of pieces in JSON: the object of the version and then their members, and a line feed.
 abbrev pub json_line : List Piece → List ℕ
-json_line pieces = document (members (piece_members pieces))
+json_line pieces = document (members (version_member ∷ piece_members pieces))
 
 -- The line of pieces in a form.
 abbrev pub line_in : Form → List Piece → List ℕ

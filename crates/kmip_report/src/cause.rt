@@ -5,9 +5,9 @@ ghost use Rattle.kmip_report.specs.FaultLines.{cause_word};
 /// What stands in the way of a run.
 #[derive(Clone, Copy)]
 pub enum Cause {
-    /// The server is not reached: no request was answered.
+    /// No request was answered. This may be temporary.
     Unreachable,
-    /// Some requests got no reply, and others did.
+    /// Some requests were answered, and others got no reply. This may be temporary.
     Unanswered,
     /// The server refuses a question.
     Refused,

@@ -47,7 +47,7 @@ fn push_members(alloc: Global, members: &[Member<'_>], text: &mut Vec<u8>) -> Re
 }
 
 /// Appends a comma if a member or an item came before.
-pub(crate) fn push_comma(is_later: bool, text: &mut Vec<u8>) -> Result<(), NoMemory>
+fn push_comma(is_later: bool, text: &mut Vec<u8>) -> Result<(), NoMemory>
     ensures { OnOk result (text.new.items ≡ text.old.items ++ comma_if is_later) }
 {
     if is_later {

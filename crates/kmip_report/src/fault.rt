@@ -7,10 +7,12 @@ use crate::cause::Cause;
 pub struct Fault<'a> {
     /// What went wrong.
     pub fault: &'a str,
-    /// The path or the address at which it went wrong, where there is one.
+    /// What text says between that and the place, such as a space.
+    pub between: &'static str,
+    /// The place: the path or the address at which it went wrong, if there is one.
     pub at: Option<&'a str>,
-    /// Why, where the machine or the server says so.
+    /// Why, if the machine or the server says so. Only JSON says it.
     pub why: Option<&'a str>,
-    /// What stands in the way, where that is known.
+    /// What stands in the way, if that is known. Only JSON says it.
     pub cause: Option<Cause>,
 }

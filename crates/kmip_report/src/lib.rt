@@ -31,7 +31,7 @@ pub use datum::Datum;
 pub use document::push_document;
 pub use exit_status::ExitStatus;
 pub use fault::Fault;
-pub use faults::{no_memory_line, push_contradiction, push_fault};
+pub use faults::{no_memory_line, pieces_of_fault, push_contradiction, push_fault};
 pub use finishing::finished;
 pub use form::Form;
 pub use line::push_line;

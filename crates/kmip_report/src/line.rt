@@ -1,5 +1,5 @@
 //! The writers of lines.
-ghost use Rattle.std.specs.Prelude.{◌≡◌, ◌∷◌, ◌++◌, ℕ, List, IfOk, OnOk, false};
+ghost use Rattle.std.specs.Prelude.{◌≡◌, ◌∷◌, ◌++◌, ℕ, List, OnOk, true};
 ghost use Rattle.serde_json.specs.Data.{Data};
 ghost use Rattle.serde_json.specs.Written.{members_text};
 ghost use Rattle.kmip_report.specs.Documents.{members};
@@ -8,13 +8,16 @@ ghost use Rattle.kmip_report.specs.PieceViews.{piece_of, pieces_of};
 ghost use Rattle.kmip_report.specs.Pieces.{json_line, line_in, piece_members, piece_texts, text_line};
 
 use crate::bytes::push_text;
-use crate::document::{push_comma, push_member};
+use crate::document::push_member;
 use crate::form::Form;
 use crate::member::Member;
 use crate::piece::Piece;
 use crate::shown::push_shown;
 use kmip_ttlv::NoMemory;
 use std::alloc::Global;
+
+/// How each document begins: the brace, and the version of the documents.
+const OPENING: &[u8] = b"{\"version\":1";
 
 /// Appends the line of these pieces in this form, with its line feed.
 ///
@@ -82,65 +85,52 @@ fn push_told(
     push_shown(alloc, &member.value, text)
 }
 
-/// Appends the line of these pieces in JSON.
+/// Appends the line of these pieces in JSON: the version of the documents, and then their members.
 fn push_json_line(alloc: Global, pieces: &[Piece<'_>], text: &mut Vec<u8>) -> Result<(), NoMemory>
     ensures { OnOk result (text.new.items
         ≡ text.old.items ++ json_line (pieces_of pieces.now)) }
 {
-    push_text(b"{", text)?;
+    push_text(OPENING, text)?;
     push_piece_members(alloc, pieces, text)?;
     push_text(b"\n", text)
 }
 
-/// Appends the members of pieces, a comma between two, and the brace that closes them.
+/// Appends the members of pieces, a comma before each, and the brace that closes them.
 fn push_piece_members(
     alloc: Global,
     pieces: &[Piece<'_>],
     text: &mut Vec<u8>,
 ) -> Result<(), NoMemory>
     ensures { OnOk result (text.new.items
-        ≡ text.old.items ++ members_text false (members (piece_members (pieces_of pieces.now)))) }
+        ≡ text.old.items ++ members_text true (members (piece_members (pieces_of pieces.now)))) }
 {
-    let mut is_later = false;
     for piece in pieces {
-        is_later = push_noted(alloc, is_later, piece, text)?;
+        push_noted(alloc, piece, text)?;
     }
     push_text(b"}", text)
 }
 
-/// Appends the member of a piece, if it has one, after a comma if a member came before. Returns true
-/// if a member came before the next one.
-fn push_noted(
-    alloc: Global,
-    is_later: bool,
-    piece: &Piece<'_>,
-    text: &mut Vec<u8>,
-) -> Result<bool, NoMemory>
+/// Appends the member of a piece, if it has one, after a comma.
+fn push_noted(alloc: Global, piece: &Piece<'_>, text: &mut Vec<u8>) -> Result<(), NoMemory>
     // Whatever members follow, the piece's member comes before them.
-    ensures { IfOk result (λ later. (rest : List (List ℕ × Data))
-        → text.new.items ++ members_text later (members rest) ≡ text.old.items
-        ++ members_text is_later (members ((piece_of piece.now).members ++ rest))) }
+    ensures { OnOk result ((rest : List (List ℕ × Data))
+        → text.new.items ++ members_text true (members rest) ≡ text.old.items
+        ++ members_text true (members ((piece_of piece.now).members ++ rest))) }
 {
     match piece {
-        Piece::Told(_, member) => push_later(alloc, is_later, member, text),
-        Piece::Said(_) => Ok(is_later),
-        Piece::Raw(_) => Ok(is_later),
-        Piece::Noted(member) => push_later(alloc, is_later, member, text),
+        Piece::Told(_, member) => push_next(alloc, member, text),
+        Piece::Said(_) => Ok(()),
+        Piece::Raw(_) => Ok(()),
+        Piece::Noted(member) => push_next(alloc, member, text),
     }
 }
 
-/// Appends a member, after a comma if a member came before. Returns true.
-fn push_later(
-    alloc: Global,
-    is_later: bool,
-    member: &Member<'_>,
-    text: &mut Vec<u8>,
-) -> Result<bool, NoMemory>
-    ensures { IfOk result (λ later. (rest : List (List ℕ × Data))
-        → text.new.items ++ members_text later (members rest) ≡ text.old.items
-        ++ members_text is_later (members (pair_of member.now ∷ rest))) }
+/// Appends a comma and a member.
+fn push_next(alloc: Global, member: &Member<'_>, text: &mut Vec<u8>) -> Result<(), NoMemory>
+    ensures { OnOk result ((rest : List (List ℕ × Data))
+        → text.new.items ++ members_text true (members rest) ≡ text.old.items
+        ++ members_text true (members (pair_of member.now ∷ rest))) }
 {
-    push_comma(is_later, text)?;
-    push_member(alloc, member, text)?;
-    Ok(true)
+    push_text(b",", text)?;
+    push_member(alloc, member, text)
 }
