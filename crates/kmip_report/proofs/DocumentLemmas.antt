@@ -1,23 +1,11 @@
 -- The text of a document is made of its parts.
-use Rattle.std.proofs.Common.{◌≡◌, ℕ, ◌+◌, ◌<◌, List, ◌∷◌, ◌++◌, Bool, true, false, length, get_or, drop, map, codes, Result, Ok, Err, OnOk, sym, ap, ◌∙◌, append_assoc}
-use Rattle.std.proofs.lemmas.List.{drop_more}
-use Rattle.serde_json.specs.Data.{Data, string, Members}
+use Rattle.std.proofs.Common.{◌≡◌, ℕ, List, ◌∷◌, ◌++◌, Bool, true, codes, Result, Ok, Err, OnOk, ap, ◌∙◌, append_assoc}
+use Rattle.serde_json.specs.Data.{Data, string}
 use Rattle.serde_json.specs.Written.{comma_if, compact_text, members_text}
 use Rattle.kmip_report.specs.declared.member.Member.{Member}
-use Rattle.kmip_report.specs.Documents.{document, members}
-use Rattle.kmip_report.specs.Members.{data_of, members_of, pair_of}
+use Rattle.kmip_report.specs.Documents.{members}
+use Rattle.kmip_report.specs.Members.{data_of, pair_of}
 use Rattle.kmip_report.specs.Private.{member_text}
-
--- a brace, the members with the brace that closes them, and a line feed are the document
-pub whole : {T E : Type 0} (result : Result T E) (old opened joined ended : List ℕ) (ms : Members) → opened ≡ old ++ codes "{"
-    → joined ≡ opened ++ members_text false ms → OnOk result (ended ≡ joined ++ codes "\n") → OnOk result (ended ≡ old ++ document ms)
-unfolding document
-whole (Err fault) old opened joined ended ms first then last = tt
-whole (Ok value) old opened joined ended ms first then last =
-    let inner = members_text false ms in
-    last
-    ∙ ap (λ t. t ++ codes "\n") (then ∙ ap (λ t. t ++ inner) first ∙ append_assoc old (codes "{") inner)
-    ∙ append_assoc old (codes "{" ++ inner) (codes "\n")
 
 -- a name, a colon and a value are a member
 pub member_is : {T E : Type 0} (result : Result T E) (old named marked ended : List ℕ) (m : Member) → named ≡ old ++ compact_text (string m.name.now)
@@ -47,11 +35,3 @@ member_next old comma next later m rest first then =
     ∙ append_assoc (old ++ comma_if later) (member_text m) behind
     ∙ append_assoc old (comma_if later) (member_text m ++ behind)
     ∙ ap (λ t. old ++ (comma_if later ++ t)) (regroup name value behind)
-
--- one member more
-pub member_more : (text comma next : List ℕ) (later : Bool) (ms : List Member) (i : ℕ) (d : Member) → i < length ms → comma ≡ text ++ comma_if later
-    → next ≡ comma ++ member_text (get_or ms i d)
-    → next ++ members_text true (members_of (drop (i + 1) ms)) ≡ text ++ members_text later (members_of (drop i ms))
-member_more text comma next later ms i d below first then =
-    member_next text comma next later (get_or ms i d) (map pair_of (drop (i + 1) ms)) first then
-    ∙ ap (λ xs. text ++ members_text later (members_of xs)) (sym (drop_more ms i d below))

@@ -69,3 +69,9 @@ Finishes (Err fault) status old new =
 -- printer, which then holds what it held if it takes all or nothing.
 abbrev pub Fails : CommandFault → CommandFault → Type 0 → Option (List ℕ) → Option (List ℕ) → Type 0
 Fails fault own_fault IsWhole old new = ((fault ≡ NoMemory) × Keeps old new) ⊎ ((fault ≡ own_fault) × (IsWhole → Keeps old new))
+
+-- A report was not printed. Memory ran out, and exactly the line of that was printed; or its printer failed, which
+-- then holds what it held if it takes all or nothing.
+abbrev pub FailsToPrint : List ℕ → CommandFault → CommandFault → Type 0 → Option (List ℕ) → Option (List ℕ) → Type 0
+FailsToPrint line fault own_fault IsWhole old new =
+    ((fault ≡ NoMemory) × Appends old new line) ⊎ ((fault ≡ own_fault) × (IsWhole → Keeps old new))

@@ -40,7 +40,3 @@ text_of (Numbers numbers) = spaced_numbers numbers.now
 -- The name of a member, and its value.
 abbrev pub pair_of : Member → List ℕ × Data
 pair_of m = (m.name.now, data_of m.value)
-
--- The members of an object that these are, in their order.
-abbrev pub members_of : List Member → Members
-members_of ms = members (map pair_of ms)

@@ -1,11 +1,11 @@
-//! The writer of documents of JSON.
+//! The writer of members of documents of JSON.
 ghost use Rattle.std.specs.Prelude.{◌≡◌, ◌++◌, OnOk, false, map};
 ghost use Rattle.serde_json.specs.Data.{string};
 ghost use Rattle.serde_json.specs.View.{view};
 ghost use Rattle.serde_json.specs.Written.{comma_if, compact_text, has_float, items_text, members_text};
-ghost use Rattle.kmip_report.specs.Documents.{count, counts, document, numbers_of, strings, words_of};
+ghost use Rattle.kmip_report.specs.Documents.{count, counts, numbers_of, strings, words_of};
 ghost use Rattle.kmip_report.specs.Private.{member_text};
-ghost use Rattle.kmip_report.specs.Members.{data_of, members_of};
+ghost use Rattle.kmip_report.specs.Members.{data_of};
 
 use crate::bytes::push_text;
 use crate::datum::Datum;
@@ -13,38 +13,6 @@ use crate::member::Member;
 use kmip_ttlv::NoMemory;
 use serde_json::Value;
 use std::alloc::Global;
-
-/// Appends a document: the object of these members, in this order, and a line feed.
-///
-/// # Errors
-/// If memory runs out. A part of the document may have been appended then.
-pub fn push_document(
-    alloc: Global,
-    members: &[Member<'_>],
-    text: &mut Vec<u8>,
-) -> Result<(), NoMemory>
-    // What is appended is exactly the document of these members.
-    ensures { OnOk result (text.new.items
-        ≡ text.old.items ++ document (members_of members.now)) }
-{
-    push_text(b"{", text)?;
-    push_members(alloc, members, text)?;
-    push_text(b"\n", text)
-}
-
-/// Appends the members, a comma between two, and the brace that closes them.
-fn push_members(alloc: Global, members: &[Member<'_>], text: &mut Vec<u8>) -> Result<(), NoMemory>
-    ensures { OnOk result (text.new.items
-        ≡ text.old.items ++ members_text false (members_of members.now)) }
-{
-    let mut is_later = false;
-    for member in members {
-        push_comma(is_later, text)?;
-        push_member(alloc, member, text)?;
-        is_later = true;
-    }
-    push_text(b"}", text)
-}
 
 /// Appends a comma if a member or an item came before.
 fn push_comma(is_later: bool, text: &mut Vec<u8>) -> Result<(), NoMemory>
