@@ -5,12 +5,13 @@
 //! suit the algorithm of their key.
 //!
 //! All is safe and total. `tell_refusal`, `tell_prolonging`, `warn_of_usages` and `RefusedProgress` have no
-//! clause, as std tells a contract nothing of the bytes of standard error. Nor has `line_of_fault`, which finds by the
-//! reader of TOML at which line of a plan a fault is. `make faults` wants the line of each fault of a
+//! clause, as std tells a contract nothing of the bytes of standard error. Nor has `explained`, which finds by the
+//! reader of TOML at which line of a plan a fault is, and why it is one. `make faults` wants the line of each fault of a
 //! plan, and `make causes` those of a progress file.
 #![tactic(auto)]
 
 mod comparing;
+mod explanation;
 mod lawful;
 mod mended;
 mod placing;
@@ -21,6 +22,7 @@ mod suiting;
 mod valuing;
 
 pub use comparing::tell_prolonging;
+pub use explanation::Explanation;
 pub use refused_progress::RefusedProgress;
-pub use refusing::{line_of_fault, tell_refusal};
+pub use refusing::{explained, tell_refusal};
 pub use suiting::warn_of_usages;

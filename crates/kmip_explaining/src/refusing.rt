@@ -1,5 +1,6 @@
 //! Why a text is no plan, in one line: where it is wrong, what stands there, and what may stand there.
 
+use crate::explanation::Explanation;
 use crate::lawful::{
     ALGORITHMS, NAMES, REASONS, TARGETS, TOO_MANY, USAGES, is_never_revoked, lengths_of, no_usage,
     twice,
@@ -78,25 +79,28 @@ fn refusal_line(alloc: Global, path: &str, plan: &str) -> Result<Option<String>,
     Ok(Some(line))
 }
 
-/// The line of a text, from 1, at which it has this fault, by which it is no plan; none where it cannot be
-/// told.
+/// Finds at which line a text has this fault, by which it is not a plan, and says why it is one.
 ///
 /// # Errors
-/// Where there is no memory.
-pub fn line_of_fault(
-    alloc: Global,
-    plan: &str,
-    fault: &PlanFault,
-) -> Result<Option<usize>, NoMemory> {
-    match toml::table_from_str(alloc, plan) {
-        Ok(table) => Refused {
-            table: &table,
-            fault,
+/// If memory runs out.
+pub fn explained(alloc: Global, plan: &str, fault: &PlanFault) -> Result<Explanation, NoMemory> {
+    let mut why = String::new(alloc);
+    let line = match toml::table_from_str(alloc, plan) {
+        Ok(table) => {
+            let refused = Refused {
+                table: &table,
+                fault,
+            };
+            refused.push_why(&mut why)?;
+            refused.line(alloc, plan)?
         }
-        .line(alloc, plan),
-        Err(fault) if fault.is_memory() => Err(NoMemory),
-        Err(fault) => Ok(line_misread(alloc, &fault)?),
-    }
+        Err(fault) if fault.is_memory() => return Err(NoMemory),
+        Err(fault) => {
+            why.push_str(fault.message())?;
+            line_misread(alloc, &fault)?
+        }
+    };
+    Ok(Explanation { line, why })
 }
 
 /// The line at which a text is no TOML.

@@ -1,9 +1,9 @@
 -- What `sim` says of the end of a simulation, as documents: its runs, what was asked, and the objects at the end.
 -- Source: own (text), over RFC 8259: what the program prints. The words are those of `SimText` of kmip_simulation.
-use Rattle.std.specs.Prelude.{ℕ, List, [], ◌∷◌, map, codes, string_bytes, None}
+use Rattle.std.specs.Prelude.{ℕ, List, [], ◌∷◌, map, codes, string_bytes, Some, None}
 use Rattle.std.specs.Str.Lines.{lines}
 use Rattle.std.specs.Str.Lossy.{utf8_lossy}
-use Rattle.serde_json.specs.Data.{null, string}
+use Rattle.serde_json.specs.Data.{string}
 use Rattle.kmip_objects.specs.Objects.{Object}
 use Rattle.kmip_batch_items.specs.declared.request.Request.{Request}
 use Rattle.kmip_runs.specs.Stops.{stop_name}
@@ -15,7 +15,8 @@ use Rattle.kmip_simulation.specs.declared.simulation.Simulation.{Simulation}
 use Rattle.kmip_plan_commands.specs.declared.sim_end.SimEnd.{SimEnd}
 use Rattle.kmip_plan_commands.specs.declared.sim_end.SimEnd.TheVariants.{PlanRefused, ProlongsNot, ScriptRefused, CrashRefused, Ran}
 use Rattle.kmip_report.specs.Documents.{count, document, members, words_of}
-use Rattle.kmip_plan_report.specs.Refusals.{plan_refusal}
+use Rattle.kmip_plan_report.specs.Refusals.{plan_refusal, site}
+use Rattle.kmip_report.specs.FaultLines.{fault_pieces}
 use Rattle.kmip_report.specs.Pieces.{line_in}
 use Rattle.kmip_report.specs.declared.form.Form.TheVariants as forms
 
@@ -68,12 +69,8 @@ simulation_lines s = told_sim sim_documents s.end s.link
 
 -- The line of a further plan that does not prolong the plan.
 unfoldable pub prolongs_not_line : List ℕ
-prolongs_not_line = document (members (
-    (codes "fault", string (codes "plan refused"))
-    ∷ (codes "at", null)
-    ∷ (codes "why", string (codes "it does not prolong the plan before"))
-    ∷ (codes "cause", null)
-    ∷ []))
+prolongs_not_line =
+    line_in forms.Json (fault_pieces (codes "plan refused") (codes "") None (Some (codes "it does not prolong the plan before")) None)
 
 -- The line of a script that is refused for this line.
 unfoldable pub script_fault_line : ℕ → List ℕ
@@ -91,7 +88,7 @@ crash_fault_line number = document (members (
 
 -- What `sim` says of the end of a simulation: why a plan or the script is refused, or the simulation.
 abbrev pub sim_end_lines : SimEnd → List ℕ
-sim_end_lines (PlanRefused fault) = line_in forms.Json (plan_refusal fault None)
+sim_end_lines (PlanRefused fault) = line_in forms.Json (plan_refusal fault None (site None None))
 sim_end_lines ProlongsNot = prolongs_not_line
 sim_end_lines (ScriptRefused line) = script_fault_line line
 sim_end_lines (CrashRefused number) = crash_fault_line number

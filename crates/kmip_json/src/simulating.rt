@@ -40,7 +40,15 @@ pub fn push_sim_end(alloc: Global, end: &SimEnd, text: &mut Vec<u8>) -> Result<(
     ensures { OnOk result (text.new.items ≡ text.old.items ++ sim_end_lines end.now) }
 {
     match end {
-        SimEnd::PlanRefused(fault) => push_plan_refusal(alloc, Form::Json, fault, None, text),
+        SimEnd::PlanRefused(fault) => push_plan_refusal(
+            alloc,
+            Form::Json,
+            fault,
+            None,
+            None,
+            None,
+            text,
+        ),
         SimEnd::ProlongsNot => push_prolongs_not(alloc, text),
         SimEnd::ScriptRefused(line) => push_script_fault(alloc, *line, text),
         SimEnd::CrashRefused(number) => push_crash_fault(alloc, *number, text),
@@ -54,11 +62,12 @@ fn push_prolongs_not(alloc: Global, text: &mut Vec<u8>) -> Result<(), NoMemory>
 {
     let fault = Fault {
         fault: "plan refused",
+        between: "",
         at: None,
         why: Some("it does not prolong the plan before"),
         cause: None,
     };
-    push_fault(alloc, &fault, text)
+    push_fault(alloc, Form::Json, &fault, text)
 }
 
 /// Appends the line of a script that is refused for this line.

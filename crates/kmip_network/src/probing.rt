@@ -8,7 +8,7 @@ use kmip_probe_command::{probe, run_probe};
 use kmip_protocol::Link;
 use kmip_report::{CommandFault, ExitStatus, Form};
 use kmip_runs::Observed;
-use kmip_trouble::{Trouble, print_documents, standard_output};
+use kmip_trouble::{Trouble, print_made, standard_output};
 use kmip_ttlv::NoMemory;
 use std::io::BufWriter;
 use std::time::Duration;
@@ -61,7 +61,7 @@ fn status_in_json(rt: &HostRuntime, ended: Result<bool, CommandFault>) -> ExitSt
     match ended {
         Ok(false) => ExitStatus::Done,
         Ok(true) => ExitStatus::Refused,
-        Err(CommandFault::NoMemory) => print_documents(rt, Err(NoMemory), &[]),
+        Err(CommandFault::NoMemory) => print_made(rt, Form::Json, Err(NoMemory), &[]),
         Err(fault) => ExitStatus::Failed(fault),
     }
 }

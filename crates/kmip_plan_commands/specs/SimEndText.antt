@@ -12,7 +12,7 @@ use Rattle.kmip_simulation.specs.Tracing.{trace_text}
 use Rattle.kmip_simulation.specs.declared.simulation.Simulation.{Simulation}
 use Rattle.kmip_report.specs.Pieces.{line_in}
 use Rattle.kmip_report.specs.declared.form.Form.TheVariants as forms
-use Rattle.kmip_plan_report.specs.Refusals.{plan_refusal}
+use Rattle.kmip_plan_report.specs.Refusals.{plan_refusal, site}
 use Rattle.kmip_plan_commands.specs.declared.sim_end.SimEnd.{SimEnd}
 use Rattle.kmip_plan_commands.specs.declared.sim_end.SimEnd.TheVariants.{PlanRefused, ProlongsNot, ScriptRefused, CrashRefused, Ran}
 
@@ -40,7 +40,7 @@ simulation_text Diagram (Some want) s = sim_text s.end s.link
 
 -- What is printed of the end of a simulation in a detail: why a plan or the script is refused, or the simulation.
 abbrev pub sim_end_text : Detail → SimEnd → List ℕ
-sim_end_text detail (PlanRefused fault) = line_in forms.Text (plan_refusal fault None)
+sim_end_text detail (PlanRefused fault) = line_in forms.Text (plan_refusal fault None (site None None))
 sim_end_text detail ProlongsNot = prolongs_not_text
 sim_end_text detail (ScriptRefused line) = script_refusal_text line
 sim_end_text detail (CrashRefused number) = crash_refusal_text number

@@ -32,7 +32,9 @@ pub fn push_sim_end(
     ensures { OnOk result (text.new.items ≡ text.old.items ++ sim_end_text detail end.now) }
 {
     match end {
-        SimEnd::PlanRefused(fault) => push_plan_refusal(alloc, Form::Text, fault, None, text),
+        SimEnd::PlanRefused(fault) => {
+            push_plan_refusal(alloc, Form::Text, fault, None, None, None, text)
+        }
         SimEnd::ProlongsNot => push_text(PROLONGS_NOT.as_bytes(), text),
         SimEnd::ScriptRefused(line) => push_script_refusal(alloc, *line, text),
         SimEnd::CrashRefused(number) => push_crash_refusal(alloc, *number, text),

@@ -11,7 +11,7 @@ use Rattle.kmip_plan.specs.Words.{algorithm_word}
 use Rattle.kmip_plan.specs.TargetWords.{target_word}
 use Rattle.kmip_plan.specs.declared.plan_fault.PlanFault.{PlanFault}
 use Rattle.kmip_plan.specs.declared.key.Key.{Key}
-use Rattle.kmip_plan_report.specs.Refusals.{plan_refusal}
+use Rattle.kmip_plan_report.specs.Refusals.{Site, plan_refusal}
 
 -- The line of a key: its name, its algorithm, its length in bits, its usage mask, its target, and the steps to it.
 unfoldable pub check_line : Key → List Piece
@@ -28,10 +28,11 @@ check_line key =
 abbrev pub check_lines : List Key → List (List Piece)
 check_lines keys = map check_line keys
 
--- The report for what was read of a plan: the lines of its keys, or the line of its fault at this line of the text.
-abbrev pub check_report : Result (List Key) PlanFault → Option ℕ → List (List Piece)
-check_report (Ok keys) line = check_lines keys
-check_report (Err fault) line = plan_refusal fault line ∷ []
+-- The report for what was read of a plan: the lines of its keys, or the line of the fault of the text at this path,
+-- which is found there.
+abbrev pub check_report : Result (List Key) PlanFault → Option (List ℕ) → Site → List (List Piece)
+check_report (Ok keys) at found = check_lines keys
+check_report (Err fault) at found = plan_refusal fault at found ∷ []
 
 -- True if no plan was read.
 abbrev pub is_plan_refused : Result (List Key) PlanFault → Bool
@@ -48,10 +49,10 @@ abbrev pub prolongs_line : Bool → List Piece
 prolongs_line does_prolong = said (prolongs_words does_prolong) ∷ noted (codes "prolongs") (boolean does_prolong) ∷ []
 
 -- The report for a plan and what was read of an earlier one, by whether it is refused: the lines of the plan's keys
--- and whether it prolongs the earlier one, or the line of the fault at this line of the text.
-abbrev pub check_after_report : Bool → List Key → Result (List Key) PlanFault → Option ℕ → List (List Piece)
-check_after_report refused keys (Ok earlier) line = check_lines keys ++ prolongs_line (not refused) ∷ []
-check_after_report refused keys (Err fault) line = plan_refusal fault line ∷ []
+-- and whether it prolongs the earlier one, or the line of the fault of the earlier text, which is at this path.
+abbrev pub check_after_report : Bool → List Key → Result (List Key) PlanFault → Option (List ℕ) → Site → List (List Piece)
+check_after_report refused keys (Ok earlier) at found = check_lines keys ++ prolongs_line (not refused) ∷ []
+check_after_report refused keys (Err fault) at found = plan_refusal fault at found ∷ []
 
 -- What was read is not a plan, or the plan does not prolong that one.
 abbrev pub IsRefusedAfter : List Key → Result (List Key) PlanFault → Type 0

@@ -1,6 +1,6 @@
 -- What `list` reports for a plan and what was read of a progress, and `run` of what its client knows.
 -- Source: own (text): what the program prints.
-use Rattle.std.specs.Prelude.{Bool, true, false, List, [], ◌∷◌, ◌++◌, length, map, codes, Result, Ok, Err}
+use Rattle.std.specs.Prelude.{ℕ, Bool, true, false, List, [], ◌∷◌, ◌++◌, length, map, codes, Option, None, Result, Ok, Err}
 use Rattle.kmip_report.specs.Pieces.{Piece, number, shown_or, told_if, word}
 use Rattle.kmip_plan.specs.TargetWords.{target_word}
 use Rattle.kmip_plan.specs.declared.key.Key.{Key}
@@ -49,10 +49,11 @@ client_listing client = list_lines_by (verdicts_of client.keys client.knowns) cl
 abbrev pub saved_listing : List Key → List Known → List (List Piece)
 saved_listing keys saved = client_listing (resume keys saved)
 
--- The report for what was read of a progress of the plan: the listing, or the line of the fault.
-abbrev pub progress_listing : List Key → Result (List Known) ProgressFault → List (List Piece)
-progress_listing keys (Ok saved) = saved_listing keys saved
-progress_listing keys (Err fault) = progress_refusal fault ∷ []
+-- The report for what was read of a progress of the plan: the listing, or the line of the fault of the text at this
+-- path.
+abbrev pub progress_listing : List Key → Option (List ℕ) → Result (List Known) ProgressFault → List (List Piece)
+progress_listing keys at (Ok saved) = saved_listing keys saved
+progress_listing keys at (Err fault) = progress_refusal fault at None ∷ []
 
 -- True if no progress was read.
 abbrev pub is_progress_refused : Result (List Known) ProgressFault → Bool

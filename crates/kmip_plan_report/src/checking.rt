@@ -1,5 +1,5 @@
 //! The command `check`: what a plan asks for.
-ghost use Rattle.std.specs.Prelude.{◌≡◌, ◌++◌, ℕ, Option, IfOk, OnOk, map};
+ghost use Rattle.std.specs.Prelude.{◌≡◌, ◌++◌, IfOk, OnOk, map, option_map};
 ghost use Rattle.std.specs.Io.KnownBytes.{Appends};
 ghost use Rattle.kmip_objects.specs.Lifecycle.{step_word};
 ghost use Rattle.kmip_plan.specs.Chains.{chain};
@@ -9,6 +9,7 @@ ghost use Rattle.kmip_report.specs.FaultLines.{no_memory};
 ghost use Rattle.kmip_report.specs.PieceViews.{pieces_of};
 ghost use Rattle.kmip_report.specs.Pieces.{line_in, report_in};
 ghost use Rattle.kmip_plan_report.specs.Checking.{check_line, check_lines, check_report, is_plan_refused};
+ghost use Rattle.kmip_plan_report.specs.Refusals.{Site};
 
 use crate::printing::print_report;
 use crate::refusing::push_refused_plan;
@@ -19,14 +20,20 @@ use kmip_ttlv::NoMemory;
 use std::alloc::Global;
 use std::io::Write;
 
-/// Runs `check` on the text of a plan: prints the report, or that memory ran out. Returns how the
-/// program ends.
-pub fn run_check<W: Write>(alloc: Global, form: Form, plan: &str, writer: &mut W) -> ExitStatus
-    // If it ends with `Done` or `Refused`, exactly the report of the text is written, by some line of
-    // the text if that is not a plan. It never ends with `Usage`.
-    ensures text { IfWhole result (λ _. (line : Option ℕ)
-        × Appends (W.contents writer.old) (W.contents writer.new)
-        (report_in form (check_report (plan_read plan.now) line))) }
+/// Runs `check` on the text of a plan, which is that of the file at this path: prints the report, or
+/// that memory ran out. Returns how the program ends.
+pub fn run_check<W: Write>(
+    alloc: Global,
+    form: Form,
+    plan: &str,
+    at: Option<&str>,
+    writer: &mut W,
+) -> ExitStatus
+    // If it ends with `Done` or `Refused`, exactly the report of the text is written, with some site of
+    // the fault if that is not a plan. It never ends with `Usage`.
+    ensures text { IfWhole result (λ _. (found : Site)
+        × Appends (W.contents writer.old) (W.contents writer.new) (report_in form
+        (check_report (plan_read plan.now) (option_map (λ path. path.now) at.entry) found))) }
     // It ends with `Refused`, not `Done`, exactly if the text is not a plan.
     ensures refused { IfWhole result (λ r. r ≡ is_plan_refused (plan_read plan.now)) }
     // If it ends with `Failed`, exactly the line for running out of memory is written, unless the
@@ -35,12 +42,12 @@ pub fn run_check<W: Write>(alloc: Global, form: Form, plan: &str, writer: &mut W
         (Appends (W.contents writer.old) (W.contents writer.new) (line_in form no_memory))) }
 {
     let mut text = Vec::new(alloc);
-    let made = push_check(alloc, form, plan, &mut text);
+    let made = push_check(alloc, form, plan, at, &mut text);
     print_report(form, made, text.as_slice(), writer)
 }
 
-/// Appends the report of the text of a plan: a line for each key, or the line of its first fault.
-/// Returns true if the text is not a plan.
+/// Appends the report of the text of a plan, which is that of the file at this path: a line for each
+/// key, or the line of its first fault. Returns true if the text is not a plan.
 ///
 /// # Errors
 /// If memory runs out. A part may have been appended then.
@@ -48,11 +55,13 @@ pub fn push_check(
     alloc: Global,
     form: Form,
     plan: &str,
+    at: Option<&str>,
     text: &mut Vec<u8>,
 ) -> Result<bool, NoMemory>
-    // What is appended is exactly the report of the text, by some line of it if it is not a plan.
-    ensures text { OnOk result ((line : Option ℕ) × (text.new.items
-        ≡ text.old.items ++ report_in form (check_report (plan_read plan.now) line))) }
+    // What is appended is exactly the report of the text, with some site of the fault if it is not a
+    // plan.
+    ensures text { OnOk result ((found : Site) × (text.new.items ≡ text.old.items ++ report_in form
+        (check_report (plan_read plan.now) (option_map (λ path. path.now) at.entry) found))) }
     // It is refused exactly if the text is not a plan.
     ensures refused { IfOk result (λ r. r ≡ is_plan_refused (plan_read plan.now)) }
 {
@@ -62,7 +71,7 @@ pub fn push_check(
             Ok(false)
         }
         Err(fault) => {
-            push_refused_plan(alloc, form, plan, &fault, text)?;
+            push_refused_plan(alloc, form, plan, &fault, at, text)?;
             Ok(true)
         }
     }

@@ -1,5 +1,5 @@
 //! The command `check --after`: what a plan asks for, and whether it prolongs an earlier one.
-ghost use Rattle.std.specs.Prelude.{◌≡◌, ◌++◌, ◌↔◌, ℕ, IsTrue, Ok, Option, IfOk, OnOk, not};
+ghost use Rattle.std.specs.Prelude.{◌≡◌, ◌++◌, ◌↔◌, IsTrue, IfOk, OnOk, not, option_map};
 ghost use Rattle.std.specs.Io.KnownBytes.{Appends};
 ghost use Rattle.kmip_plan.specs.Reading.{plan_read};
 ghost use Rattle.kmip_report.specs.Endings.{IfFailed, IfWhole, UnlessOutput};
@@ -8,6 +8,7 @@ ghost use Rattle.kmip_report.specs.PieceViews.{pieces_of};
 ghost use Rattle.kmip_report.specs.Pieces.{line_in, report_in};
 ghost use Rattle.kmip_plan_report.specs.Checking.{IsRefusedAfter, check_after_report, prolongs_line};
 ghost use Rattle.kmip_plan_report.specs.Private.{JudgesAfter};
+ghost use Rattle.kmip_plan_report.specs.Refusals.{Site};
 
 use crate::checking::push_check_lines;
 use crate::printing::print_report;
@@ -18,20 +19,22 @@ use kmip_ttlv::NoMemory;
 use std::alloc::Global;
 use std::io::Write;
 
-/// Runs `check --after` on a plan and the text of an earlier one: prints the report, or that memory
-/// ran out. Returns how the program ends.
+/// Runs `check --after` on a plan and the text of an earlier one, which is that of the file at this
+/// path: prints the report, or that memory ran out. Returns how the program ends.
 pub fn run_check_after<W: Write>(
     alloc: Global,
     form: Form,
     plan: &Plan,
     earlier: &str,
+    at: Option<&str>,
     writer: &mut W,
 ) -> ExitStatus
-    // If it ends with `Done` or `Refused`, exactly the report of the two is written, by some line of
-    // the text if that is not a plan. It never ends with `Usage`.
-    ensures text { IfWhole result (λ r. (line : Option ℕ)
+    // If it ends with `Done` or `Refused`, exactly the report of the two is written, with some site of
+    // the fault if the text is not a plan. It never ends with `Usage`.
+    ensures text { IfWhole result (λ r. (found : Site)
         × Appends (W.contents writer.old) (W.contents writer.new)
-        (report_in form (check_after_report r plan.now (plan_read earlier.now) line))) }
+        (report_in form (check_after_report r plan.now (plan_read earlier.now)
+        (option_map (λ path. path.now) at.entry) found))) }
     // It ends with `Refused`, not `Done`, exactly if the text is not a plan, or the plan does not
     // prolong that one.
     ensures refused { IfWhole result (λ r.
@@ -42,13 +45,14 @@ pub fn run_check_after<W: Write>(
         (Appends (W.contents writer.old) (W.contents writer.new) (line_in form no_memory))) }
 {
     let mut text = Vec::new(alloc);
-    let made = push_check_after(alloc, form, plan, earlier, &mut text);
+    let made = push_check_after(alloc, form, plan, earlier, at, &mut text);
     print_report(form, made, text.as_slice(), writer)
 }
 
-/// Appends the report of a plan and of the text of an earlier one: a line for each key of the plan and
-/// one that says whether it prolongs the earlier plan, or the line of the first fault of the text.
-/// Returns true if the text is not a plan, or the plan does not prolong it.
+/// Appends the report of a plan and of the text of an earlier one, which is that of the file at this
+/// path: a line for each key of the plan and one that says whether it prolongs the earlier plan, or the
+/// line of the first fault of the text. Returns true if the text is not a plan, or the plan does not
+/// prolong it.
 ///
 /// # Errors
 /// If memory runs out. A part may have been appended then.
@@ -57,12 +61,14 @@ pub fn push_check_after(
     form: Form,
     plan: &Plan,
     earlier: &str,
+    at: Option<&str>,
     text: &mut Vec<u8>,
 ) -> Result<bool, NoMemory>
-    // What is appended is exactly the report of the two, by some line of the text if that is not a
-    // plan.
-    ensures text { IfOk result (λ r. (line : Option ℕ) × (text.new.items ≡ text.old.items
-        ++ report_in form (check_after_report r plan.now (plan_read earlier.now) line))) }
+    // What is appended is exactly the report of the two, with some site of the fault if the text is not
+    // a plan.
+    ensures text { IfOk result (λ r. (found : Site) × (text.new.items ≡ text.old.items
+        ++ report_in form (check_after_report r plan.now (plan_read earlier.now)
+        (option_map (λ path. path.now) at.entry) found))) }
     // It is refused exactly if the text is not a plan, or the plan does not prolong that one.
     ensures refused { IfOk result (λ r.
         IsTrue r ↔ IsRefusedAfter plan.now (plan_read earlier.now)) }
@@ -70,7 +76,7 @@ pub fn push_check_after(
     match read_plan(alloc, earlier) {
         Ok(earlier) => push_comparison(alloc, form, plan, &earlier, text),
         Err(fault) => {
-            push_refused_plan(alloc, form, earlier, &fault, text)?;
+            push_refused_plan(alloc, form, earlier, &fault, at, text)?;
             Ok(true)
         }
     }
@@ -84,7 +90,7 @@ fn push_comparison(
     earlier: &Plan,
     text: &mut Vec<u8>,
 ) -> Result<bool, NoMemory>
-    ensures { JudgesAfter form plan.now (Ok earlier.now) result text.old.items text.new.items }
+    ensures { JudgesAfter form plan.now earlier.now result text.old.items text.new.items }
 {
     push_check_lines(alloc, form, plan.keys(), text)?;
     let is_refused = !prolongs(plan, earlier);

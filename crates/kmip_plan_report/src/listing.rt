@@ -1,5 +1,5 @@
 //! The command `list`: what a progress says of each key of its plan.
-ghost use Rattle.std.specs.Prelude.{◌≡◌, [], ◌∷◌, ◌++◌, IfOk, OnOk, map, option_map};
+ghost use Rattle.std.specs.Prelude.{◌≡◌, ◌++◌, IfOk, OnOk, map, option_map};
 ghost use Rattle.std.specs.Io.KnownBytes.{Appends};
 ghost use Rattle.kmip_progress.specs.Reading.{read_text};
 ghost use Rattle.kmip_progress.specs.Suiting.{Suits};
@@ -17,7 +17,6 @@ ghost use Rattle.kmip_plan_report.specs.Listing.{
   progress_listing,
   saved_listing,
 };
-ghost use Rattle.kmip_plan_report.specs.Refusals.{progress_refusal};
 ghost use Rattle.kmip_plan_report.specs.Standings.{standing_of};
 
 use crate::key_standing::{KeyStanding, standings};
@@ -31,19 +30,21 @@ use kmip_ttlv::{NoMemory, Text};
 use std::alloc::Global;
 use std::io::Write;
 
-/// Runs `list` on a plan and the text of a progress: prints the report, or that memory ran out.
-/// Returns how the program ends.
+/// Runs `list` on a plan and the text of a progress, which is that of the file at this path: prints the
+/// report, or that memory ran out. Returns how the program ends.
 pub fn run_list<W: Write>(
     alloc: Global,
     form: Form,
     plan: &Plan,
     progress: &str,
+    at: Option<&str>,
     writer: &mut W,
 ) -> ExitStatus
     // If it ends with `Done` or `Refused`, exactly the listing or the line of the fault is written. It
     // never ends with `Usage`.
     ensures text { IfWhole result (λ _. Appends (W.contents writer.old) (W.contents writer.new)
-        (report_in form (progress_listing plan.now (read_text plan.now progress.now)))) }
+        (report_in form (progress_listing plan.now (option_map (λ path. path.now) at.entry)
+        (read_text plan.now progress.now)))) }
     // It ends with `Refused`, not `Done`, exactly if the text is not a progress of the plan.
     ensures refused { IfWhole result (λ r.
         r ≡ is_progress_refused (read_text plan.now progress.now)) }
@@ -53,14 +54,14 @@ pub fn run_list<W: Write>(
         (Appends (W.contents writer.old) (W.contents writer.new) (line_in form no_memory))) }
 {
     let mut text = Vec::new(alloc);
-    let made = push_listing(alloc, form, plan, progress, &mut text);
+    let made = push_listing(alloc, form, plan, progress, at, &mut text);
     print_report(form, made, text.as_slice(), writer)
 }
 
-/// Appends in this form what the text of a progress says of each key of a plan: a line for each key
-/// with its name, its target, how many of its steps are done, the verdict and its identifier, and a
-/// line that counts the finished keys. If the progress is refused it is one line, which says why.
-/// Returns true if it is refused.
+/// Appends in this form what the text of a progress, which is that of the file at this path, says of
+/// each key of a plan: a line for each key with its name, its target, how many of its steps are done,
+/// the verdict and its identifier, and a line that counts the finished keys. If the progress is refused
+/// it is one line, which says so. Returns true if it is refused.
 ///
 /// # Errors
 /// If memory runs out. A part may have been appended then.
@@ -69,11 +70,13 @@ pub fn push_listing(
     form: Form,
     plan: &Plan,
     progress: &str,
+    at: Option<&str>,
     text: &mut Vec<u8>,
 ) -> Result<bool, NoMemory>
     // What is appended is exactly the listing, or the line of the fault.
     ensures text { OnOk result (text.new.items ≡ text.old.items
-        ++ report_in form (progress_listing plan.now (read_text plan.now progress.now))) }
+        ++ report_in form (progress_listing plan.now (option_map (λ path. path.now) at.entry)
+        (read_text plan.now progress.now))) }
     // It is refused exactly if the text is not a progress of the plan.
     ensures refused { IfOk result (λ r.
         r ≡ is_progress_refused (read_text plan.now progress.now)) }
@@ -85,23 +88,10 @@ pub fn push_listing(
         }
         Err(ProgressFault::NoMemory) => Err(NoMemory),
         Err(fault) => {
-            push_refused(alloc, form, fault, text)?;
+            push_progress_refusal(alloc, form, fault, at, None, text)?;
             Ok(true)
         }
     }
-}
-
-/// Appends the report of a progress that is refused.
-fn push_refused(
-    alloc: Global,
-    form: Form,
-    fault: ProgressFault,
-    text: &mut Vec<u8>,
-) -> Result<(), NoMemory>
-    ensures { OnOk result (text.new.items
-        ≡ text.old.items ++ report_in form (progress_refusal fault ∷ [])) }
-{
-    push_progress_refusal(alloc, form, fault, text)
 }
 
 /// Appends the listing of a progress.

@@ -1,48 +1,56 @@
 //! The lines of a plan or a progress that is refused.
-ghost use Rattle.std.specs.Prelude.{◌≡◌, [], ◌∷◌, ◌++◌, ℕ, false, Option, OnOk};
+ghost use Rattle.std.specs.Prelude.{◌≡◌, [], ◌∷◌, ◌++◌, false, OnOk, option_map};
 ghost use Rattle.kmip_report.specs.Pieces.{line_in, report_in};
-ghost use Rattle.kmip_plan_report.specs.Refusals.{is_memory, plan_refusal, progress_refusal};
+ghost use Rattle.kmip_plan_report.specs.Refusals.{Site, is_memory, plan_refusal, progress_refusal, site};
 
-use kmip_explaining::line_of_fault;
+use kmip_explaining::explained;
 use kmip_plan::PlanFault;
 use kmip_progress::ProgressFault;
 use kmip_report::{Form, Member, Piece, push_line};
 use kmip_ttlv::NoMemory;
 use std::alloc::Global;
 
-/// Appends the line of a plan that is refused: the number and the name of the fault, the field, the
-/// place of the key from 1, and in JSON also the line of the text, from 1.
+/// Appends the line of a plan that is refused: the number and the name of the fault, the field, and the
+/// place of the key from 1. JSON also has the line of the text, from 1, the path of the file, and why
+/// the plan is refused.
 ///
 /// # Errors
 /// If memory runs out, and if the fault is that it ran out. A part may have been appended then.
-pub fn push_plan_refusal(
+pub fn push_plan_refusal<'a>(
     alloc: Global,
     form: Form,
-    fault: &PlanFault,
+    fault: &'a PlanFault,
+    at: Option<&'a str>,
     line: Option<usize>,
+    why: Option<&'a str>,
     text: &mut Vec<u8>,
 ) -> Result<(), NoMemory>
     // At success the fault is not that memory ran out.
     ensures known { OnOk result (is_memory fault.now ≡ false) }
     // What is appended is exactly the line of the fault.
-    ensures text { OnOk result (text.new.items
-        ≡ text.old.items ++ line_in form (plan_refusal fault.now line)) }
+    ensures text { OnOk result (text.new.items ≡ text.old.items
+        ++ line_in form (plan_refusal fault.now (option_map (λ path. path.now) at.entry)
+        (site line (option_map (λ words. words.now) why.entry)))) }
 {
     if let PlanFault::NoMemory = fault {
         return Err(NoMemory);
     }
-    let pieces = [
+    let pieces: [Piece<'a>; 9] = [
         Piece::word("", "fault", "plan refused"),
         Piece::number(": ", "number", u64::from(fault.number())),
         Piece::word(" ", "name", fault.name()),
         Piece::shown_or(" ", "field", "", fault.field()),
         Piece::number_or(" at key ", "key", "", fault.place()),
         Piece::Noted(Member::count_or_null("line", line)),
+        Piece::Noted(Member::text_or_null("at", at)),
+        Piece::Noted(Member::text_or_null("why", why)),
+        Piece::Noted(Member::text_or_null("cause", None)),
     ];
     push_line(alloc, form, &pieces, text)
 }
 
-/// Appends the report of a text that is refused as a plan. In JSON it finds the line of the fault.
+/// Appends the report of a text that is refused as a plan, which is that of the file at this path. In
+/// JSON it finds the line of the fault, and says why it is one.
 ///
 /// # Errors
 /// If memory runs out, and if the fault is that it ran out. A part may have been appended then.
@@ -51,49 +59,50 @@ pub fn push_refused_plan(
     form: Form,
     plan: &str,
     fault: &PlanFault,
+    at: Option<&str>,
     text: &mut Vec<u8>,
 ) -> Result<(), NoMemory>
     // At success the fault is not that memory ran out.
     ensures known { OnOk result (is_memory fault.now ≡ false) }
-    // What is appended is exactly the line of the fault, by some line of the text.
-    ensures text { OnOk result ((line : Option ℕ) × (text.new.items
-        ≡ text.old.items ++ report_in form (plan_refusal fault.now line ∷ []))) }
+    // What is appended is exactly the line of the fault, with some site of it.
+    ensures text { OnOk result ((found : Site) × (text.new.items ≡ text.old.items ++ report_in form
+        (plan_refusal fault.now (option_map (λ path. path.now) at.entry) found ∷ []))) }
 {
-    let line = line_in_json(alloc, form, plan, fault)?;
-    push_plan_refusal(alloc, form, fault, line, text)
-}
-
-/// Returns the line of a text at which it has a fault, for the form that has it.
-fn line_in_json(
-    alloc: Global,
-    form: Form,
-    plan: &str,
-    fault: &PlanFault,
-) -> Result<Option<usize>, NoMemory> {
     match form {
-        Form::Text => Ok(None),
-        Form::Json => line_of_fault(alloc, plan, fault),
+        Form::Text => push_plan_refusal(alloc, form, fault, at, None, None, text),
+        Form::Json => {
+            let found = explained(alloc, plan, fault)?;
+            let why = found.why.as_str();
+            push_plan_refusal(alloc, form, fault, at, found.line, Some(why), text)
+        }
     }
 }
 
-/// Appends the line of a progress that is refused.
+/// Appends the line of a progress that is refused. JSON also has the path of the file, and why it is
+/// refused.
 ///
 /// # Errors
 /// If memory runs out. A part may have been appended then.
-pub fn push_progress_refusal(
+pub fn push_progress_refusal<'a>(
     alloc: Global,
     form: Form,
     fault: ProgressFault,
+    at: Option<&'a str>,
+    why: Option<&'a str>,
     text: &mut Vec<u8>,
 ) -> Result<(), NoMemory>
     // What is appended is exactly that line.
-    ensures { OnOk result (text.new.items
-        ≡ text.old.items ++ line_in form (progress_refusal fault)) }
+    ensures { OnOk result (text.new.items ≡ text.old.items
+        ++ line_in form (progress_refusal fault (option_map (λ path. path.now) at.entry)
+        (option_map (λ words. words.now) why.entry))) }
 {
-    let pieces = [
+    let pieces: [Piece<'a>; 6] = [
         Piece::word("", "fault", "progress refused"),
         Piece::number(": ", "number", u64::from(fault.number())),
         Piece::word(" ", "name", fault.name()),
+        Piece::Noted(Member::text_or_null("at", at)),
+        Piece::Noted(Member::text_or_null("why", why)),
+        Piece::Noted(Member::text_or_null("cause", None)),
     ];
     push_line(alloc, form, &pieces, text)
 }

@@ -21,15 +21,15 @@ kept_text =
 -- In JSON.
 abbrev pub kept_json : List ℕ
 kept_json =
-    codes "{\"premise\":\"names are unique\",\"finding\":\"kept\",\"flaw\":null,\"risk\":null}\n"
-    ++ codes "{\"premise\":\"names stay used after Destroy\",\"finding\":\"kept\",\"flaw\":null,\"risk\":null}\n"
-    ++ codes "{\"premise\":\"a step made twice changes nothing\",\"finding\":\"kept\",\"flaw\":null,\"risk\":null}\n"
-    ++ codes "{\"premise\":\"an active object is not destroyed\",\"finding\":\"kept\",\"flaw\":null,\"risk\":null}\n"
-    ++ codes "{\"premise\":\"Locate finds objects by their names\",\"finding\":\"kept\",\"flaw\":null,\"risk\":null}\n"
-    ++ codes "{\"premise\":\"Locate finds destroyed objects\",\"finding\":\"kept\",\"flaw\":null,\"risk\":null}\n"
-    ++ codes "{\"premise\":\"Get Attributes tells all six attributes\",\"finding\":\"kept\",\"flaw\":null,\"risk\":null}\n"
-    ++ codes "{\"premise\":\"the batch id is echoed\",\"finding\":\"kept\",\"flaw\":null,\"risk\":null}\n"
-    ++ codes "{\"reasons\":[53,67],\"sum\":\"the promise holds here: each key is made once, and its steps are made once and in order\"}\n"
+    codes "{\"version\":1,\"premise\":\"names are unique\",\"finding\":\"kept\",\"flaw\":null,\"risk\":null}\n"
+    ++ codes "{\"version\":1,\"premise\":\"names stay used after Destroy\",\"finding\":\"kept\",\"flaw\":null,\"risk\":null}\n"
+    ++ codes "{\"version\":1,\"premise\":\"a step made twice changes nothing\",\"finding\":\"kept\",\"flaw\":null,\"risk\":null}\n"
+    ++ codes "{\"version\":1,\"premise\":\"an active object is not destroyed\",\"finding\":\"kept\",\"flaw\":null,\"risk\":null}\n"
+    ++ codes "{\"version\":1,\"premise\":\"Locate finds objects by their names\",\"finding\":\"kept\",\"flaw\":null,\"risk\":null}\n"
+    ++ codes "{\"version\":1,\"premise\":\"Locate finds destroyed objects\",\"finding\":\"kept\",\"flaw\":null,\"risk\":null}\n"
+    ++ codes "{\"version\":1,\"premise\":\"Get Attributes tells all six attributes\",\"finding\":\"kept\",\"flaw\":null,\"risk\":null}\n"
+    ++ codes "{\"version\":1,\"premise\":\"the batch id is echoed\",\"finding\":\"kept\",\"flaw\":null,\"risk\":null}\n"
+    ++ codes "{\"version\":1,\"reasons\":[53,67],\"sum\":\"the promise holds here: each key is made once, and its steps are made once and in order\"}\n"
 
 -- In a form.
 abbrev pub kept_lines : Form → List ℕ

@@ -30,7 +30,7 @@ const UNFIT_TEXT: &str =
 
 /// The same line in JSON, as the line of a fault.
 const UNFIT_JSON: &str =
-    "{\"fault\":\"prefix refused\",\"at\":null,\"why\":\"it is not 1 to 62 printable ASCII characters without a space\",\"cause\":null}\n";
+    "{\"version\":1,\"fault\":\"prefix refused\",\"at\":null,\"why\":\"it is not 1 to 62 printable ASCII characters without a space\",\"cause\":null}\n";
 
 /// Returns the line of a prefix that can't begin names. It takes no memory.
 pub fn unfit_line(form: Form) -> &'static str

@@ -102,7 +102,8 @@ fn show_input(rt: &HostRuntime, form: Form) -> Result<ExitStatus, Trouble> {
 fn check_plan(rt: &HostRuntime, path: &str, format: Format) -> Result<ExitStatus, Trouble> {
     let plan = plan_text_at(rt, path)?;
     let mut output = standard_output(rt);
-    let status = run_check(rt.alloc(), format.form(), plan.as_str(), &mut output);
+    let at = Some(plan_name(path));
+    let status = run_check(rt.alloc(), format.form(), plan.as_str(), at, &mut output);
     match status {
         ExitStatus::Refused => tell_refusal(rt, plan_name(path), plan.as_str()),
         ExitStatus::Done => warn_of_usages(rt, plan_name(path), plan.as_str())?,
@@ -126,6 +127,7 @@ fn check_plan_after(
         format.form(),
         &plan,
         earlier.as_str(),
+        Some(plan_name(earlier_path)),
         &mut output,
     );
     if status == ExitStatus::Refused {

@@ -5,7 +5,7 @@ use kmip_json::push_sim_end;
 use kmip_plan_commands::{SimEnd, SimInput, batch_of, sim_to_end};
 use kmip_plan_report::push_refused_plan;
 use kmip_report::{ExitStatus, Form};
-use kmip_trouble::{Trouble, print_documents};
+use kmip_trouble::{Trouble, print_made};
 use kmip_ttlv::NoMemory;
 use std::alloc::Global;
 
@@ -30,17 +30,17 @@ pub(crate) fn simulate_in_json(
     let mut documents = Vec::new(rt.alloc());
     push_simulated(rt.alloc(), further.unwrap_or(plan), &end, &mut documents)?;
     match end.outcome() {
-        Ok(is_refused) => Ok(print_documents(rt, Ok(is_refused), documents.as_slice())),
+        Ok(is_refused) => Ok(print_made(rt, Form::Json, Ok(is_refused), documents.as_slice())),
         Err(NoMemory) => Ok(print_runs_before(rt, documents.as_slice())),
     }
 }
 
 /// Prints the documents of the runs before memory ran out in one, and then the document of that.
 fn print_runs_before(rt: &HostRuntime, documents: &[u8]) -> ExitStatus {
-    match print_documents(rt, Ok(true), documents) {
+    match print_made(rt, Form::Json, Ok(true), documents) {
         ExitStatus::Failed(fault) => ExitStatus::Failed(fault),
         ExitStatus::Done | ExitStatus::Refused | ExitStatus::Usage => {
-            print_documents(rt, Err(NoMemory), &[])
+            print_made(rt, Form::Json, Err(NoMemory), &[])
         }
     }
 }
@@ -56,7 +56,7 @@ fn push_simulated(
     text: &mut Vec<u8>,
 ) -> Result<(), NoMemory> {
     match end {
-        SimEnd::PlanRefused(fault) => push_refused_plan(alloc, Form::Json, last, fault, text),
+        SimEnd::PlanRefused(fault) => push_refused_plan(alloc, Form::Json, last, fault, None, text),
         SimEnd::ProlongsNot | SimEnd::ScriptRefused(_) | SimEnd::CrashRefused(_) | SimEnd::Ran(_) =>
             { push_sim_end(alloc, end, text) }
     }

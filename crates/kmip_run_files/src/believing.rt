@@ -69,7 +69,8 @@ pub fn check_progress(
                 text: text.as_str(),
             };
             refused.explain(rt);
-            Err(Trouble::from(Obstacle::NoProgress(fault)))
+            let path = String::from_str(rt.alloc(), path)?;
+            Err(Trouble::from(Obstacle::NoProgress(path, fault)))
         }
     }
 }

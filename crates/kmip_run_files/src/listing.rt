@@ -32,6 +32,7 @@ pub fn list_progress(rt: &HostRuntime, options: &ListOptions) -> Result<ExitStat
         options.format.form(),
         &plan.plan,
         saved.as_str(),
+        Some(path),
         &mut standard_output(rt),
     );
     if status == ExitStatus::Refused {

@@ -1,5 +1,10 @@
 //! A progress file that was saved against another server.
-use crate::reporting::push_reason;
+ghost use Rattle.std.specs.Prelude.{◌≡◌, ◌++◌, OnOk};
+ghost use Rattle.kmip_report.specs.Pieces.{line_in};
+ghost use Rattle.kmip_trouble.specs.ObstacleLines.{another_server_line};
+
+use crate::reporting::push_at;
+use kmip_report::Form;
 use kmip_ttlv::NoMemory;
 use std::alloc::Global;
 
@@ -42,14 +47,26 @@ impl AnotherServer {
         }
     }
 
-    /// Appends the document that says which two servers.
+    /// Appends its line, which says in JSON which two servers.
     ///
     /// # Errors
-    /// Where there is no memory for it.
-    pub(crate) fn push_document(&self, alloc: Global, text: &mut Vec<u8>) -> Result<(), NoMemory> {
-        let (before, now) = (&self.before, &self.now);
-        let why = format_args!("it was saved against {before}; this run is to use {now}");
-        let fault = "progress of another server";
-        push_reason(alloc, fault, self.path.as_str(), why, text)
+    /// If memory runs out. A part may have been appended then.
+    pub(crate) fn push_line(
+        &self,
+        alloc: Global,
+        form: Form,
+        text: &mut Vec<u8>,
+    ) -> Result<(), NoMemory>
+        // What is appended is exactly that line.
+        ensures { OnOk result (text.new.items
+            ≡ text.old.items ++ line_in form (another_server_line self.now)) }
+    {
+        let mut why = String::new(alloc);
+        why.push_str("it was saved against ")?;
+        why.push_str(self.before.as_str())?;
+        why.push_str("; this run is to use ")?;
+        why.push_str(self.now.as_str())?;
+        let (fault, why) = ("progress of another server", Some(why.as_str()));
+        push_at(alloc, form, fault, ": ", self.path.as_str(), why, text)
     }
 }

@@ -1,7 +1,10 @@
 //! A progress file that the server of a run contradicts.
+ghost use Rattle.std.specs.Prelude.{◌≡◌, ◌++◌, IfOk, OnOk, map};
+ghost use Rattle.kmip_report.specs.Pieces.{line_in};
+ghost use Rattle.kmip_trouble.specs.ObstacleLines.{contradicted_line, names_of};
 
 use crate::disagreement::Disagreement;
-use kmip_report::push_contradiction;
+use kmip_report::{Form, push_contradiction};
 use kmip_ttlv::NoMemory;
 use std::alloc::Global;
 
@@ -38,23 +41,39 @@ impl Contradiction {
         ));
     }
 
-    /// Appends its document.
+    /// Appends its line, which has in JSON the names of all keys.
     ///
     /// # Errors
-    /// If memory runs out.
-    pub(crate) fn push_document(&self, alloc: Global, text: &mut Vec<u8>) -> Result<(), NoMemory> {
-        let mut names = Vec::with_capacity(alloc, self.keys.len())?;
-        for key in &self.keys {
-            names.push(key.name.as_str())?;
-        }
-        let server = &self.server;
-        let why = format!(in alloc; "{server} contradicts what it says")?;
-        push_contradiction(
-            alloc,
-            self.path.as_str(),
-            why.as_str(),
-            names.as_slice(),
-            text,
-        )
+    /// If memory runs out. A part may have been appended then.
+    pub(crate) fn push_line(
+        &self,
+        alloc: Global,
+        form: Form,
+        text: &mut Vec<u8>,
+    ) -> Result<(), NoMemory>
+        // What is appended is exactly that line.
+        ensures { OnOk result (text.new.items
+            ≡ text.old.items ++ line_in form (contradicted_line self.now)) }
+    {
+        let names = names_of(alloc, self.keys.as_slice())?;
+        let mut why = String::new(alloc);
+        why.push_str(self.server.as_str())?;
+        why.push_str(" contradicts what it says")?;
+        let (path, why) = (self.path.as_str(), why.as_str());
+        push_contradiction(alloc, form, path, why, names.as_slice(), text)
     }
+}
+
+/// The names of the keys about which a server contradicts a progress.
+///
+/// # Errors
+/// If memory runs out.
+fn names_of(alloc: Global, keys: &[Disagreement]) -> Result<Vec<&str>, NoMemory>
+    ensures { IfOk result (λ names. map (λ name. name.now) names.items ≡ names_of keys.now) }
+{
+    let mut names = Vec::with_capacity(alloc, keys.len())?;
+    for key in keys {
+        names.push(key.name.as_str())?;
+    }
+    Ok(names)
 }

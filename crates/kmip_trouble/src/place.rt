@@ -1,4 +1,5 @@
 //! A file that a command could not use.
+ghost use Rattle.std.specs.Prelude.{◌≡◌, string_bytes};
 
 /// A file that a command could not use: the path that the command was given, and the path of the file, if it is
 /// another one next to it.
@@ -23,7 +24,9 @@ impl Place {
     }
 
     /// The path that was given, which standard output and JSON name.
-    pub(crate) fn given(&self) -> &str {
+    pub(crate) fn given(&self) -> &str
+        ensures { result.now ≡ string_bytes self.now.given }
+    {
         self.given.as_str()
     }
 

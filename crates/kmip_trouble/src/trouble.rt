@@ -105,15 +105,11 @@ impl Trouble {
     }
 
     /// Prints in this form why the command ends, and tells on standard error what there is to say of it.
-    /// Answers how the program ends.
+    /// Returns how the program ends.
     pub fn tell(self, rt: &HostRuntime, format: Format) -> ExitStatus {
-        match (self, format) {
-            (Trouble::Refused(obstacle), Format::Text) => match obstacle.tell_in_text(rt) {
-                Ok(()) => ExitStatus::Refused,
-                Err(error) => failed(rt, format, error),
-            },
-            (Trouble::Refused(obstacle), Format::Json) => obstacle.tell_in_json(rt),
-            (Trouble::Io(error), _) => failed(rt, format, error),
+        match self {
+            Trouble::Refused(obstacle) => obstacle.tell(rt, format.form()),
+            Trouble::Io(error) => failed(rt, format, error),
         }
     }
 }

@@ -141,15 +141,29 @@ impl Command {
             Command::Answer => run_answer(alloc, reader, writer),
             Command::AnswerStream => run_answer_stream(alloc, reader, writer),
             Command::Show(form) => run_show(alloc, *form, reader, writer),
-            Command::Check(plan) => run_check(alloc, ReportForm::Text, plan.as_str(), writer),
+            Command::Check(plan) => run_check(alloc, ReportForm::Text, plan.as_str(), None, writer),
             Command::CheckAfter { plan, earlier } => match read_plan(alloc, plan.as_str()) {
                 Ok(plan) => {
-                    run_check_after(alloc, ReportForm::Text, &plan, earlier.as_str(), writer)
+                    run_check_after(
+                        alloc,
+                        ReportForm::Text,
+                        &plan,
+                        earlier.as_str(),
+                        None,
+                        writer,
+                    )
                 }
                 Err(fault) => refuse(alloc, plan.as_str(), &fault, writer),
             },
             Command::List { plan, progress } => match read_plan(alloc, plan.as_str()) {
-                Ok(plan) => run_list(alloc, ReportForm::Text, &plan, progress.as_str(), writer),
+                Ok(plan) => run_list(
+                    alloc,
+                    ReportForm::Text,
+                    &plan,
+                    progress.as_str(),
+                    None,
+                    writer,
+                ),
                 Err(fault) => refuse(alloc, plan.as_str(), &fault, writer),
             },
             Command::Simulate(case) => {
@@ -221,14 +235,14 @@ impl Command {
         let form = ReportForm::Text;
         match self {
             Command::CheckAfter { plan, earlier } => match read_plan(alloc, plan.as_str()) {
-                Ok(plan) => push_check_after(alloc, form, &plan, earlier.as_str(), text),
+                Ok(plan) => push_check_after(alloc, form, &plan, earlier.as_str(), None, text),
                 Err(fault) => push_refused(alloc, plan.as_str(), &fault, text),
             },
             Command::List { plan, progress } => match read_plan(alloc, plan.as_str()) {
-                Ok(plan) => push_listing(alloc, form, &plan, progress.as_str(), text),
+                Ok(plan) => push_listing(alloc, form, &plan, progress.as_str(), None, text),
                 Err(fault) => push_refused(alloc, plan.as_str(), &fault, text),
             },
-            Command::Check(plan) => push_check(alloc, form, plan.as_str(), text),
+            Command::Check(plan) => push_check(alloc, form, plan.as_str(), None, text),
             Command::Answer | Command::AnswerStream | Command::Show(_) | Command::Simulate(_) => Ok(
                 false,
             ),
@@ -243,7 +257,7 @@ fn push_refused(
     fault: &PlanFault,
     text: &mut Vec<u8>,
 ) -> Result<bool, NoMemory> {
-    push_refused_plan(alloc, ReportForm::Text, plan, fault, text)?;
+    push_refused_plan(alloc, ReportForm::Text, plan, fault, None, text)?;
     Ok(true)
 }
 

@@ -1,7 +1,7 @@
 -- The pieces are those of the fault.
 use Rattle.std.proofs.Common.{codes, ap, ◌∙◌}
 use Rattle.kmip_report.specs.Pieces.{number, word}
-use Rattle.kmip_report.proofs.ForCallers.{last_piece, line_of, then_pieces}
+use Rattle.kmip_report.proofs.ForCallers.{last_piece, line_of, noted_piece, then_pieces}
 use Rattle.kmip_plan_report.specs.Refusals.{progress_refusal}
 use Rattle.kmip_plan_report.proofs.refusing.push_progress_refusal.Goals as goal
 
@@ -11,5 +11,8 @@ returns c =
     let said =
     then_pieces c.word.ensures
     (then_pieces (c.number-2.ensures ∙ ap (number (codes ": ") (codes "number")) (c.from.ensures ∙ c.number.ensures))
-    (last_piece (c.word-2.ensures ∙ ap (word (codes " ") (codes "name")) c.name.ensures))) in
+    (then_pieces (c.word-2.ensures ∙ ap (word (codes " ") (codes "name")) c.name.ensures)
+    (then_pieces (noted_piece c.text_or_null.ensures)
+    (then_pieces (noted_piece c.text_or_null-2.ensures)
+    (last_piece (noted_piece c.text_or_null-3.ensures)))))) in
     line_of c.push_line.result c.args.form c.args.text.now.items c.push_line.new.text.items said c.push_line.ensures

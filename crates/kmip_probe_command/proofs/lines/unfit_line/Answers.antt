@@ -1,5 +1,6 @@
 -- The line is computed, in each form.
 use Rattle.std.proofs.Common.{◌≡◌, codes, refl, sym, ap, ◌∙◌}
+use Rattle.std.specs.Fmt.{digits}
 use Rattle.serde_json.proofs.OnLiterals.{serde_json_on_literals}
 use Rattle.kmip_report.specs.Documents.{document}
 use Rattle.kmip_report.specs.Pieces.{line_in, text_line}
@@ -11,8 +12,8 @@ in_text : codes "prefix refused: it is not 1 to 62 printable ASCII characters wi
 unfolding text_line
 in_text = refl
 
-in_json : codes "{\"fault\":\"prefix refused\",\"at\":null,\"why\":\"it is not 1 to 62 printable ASCII characters without a space\",\"cause\":null}\n" ≡ line_in Json unfit_line
-unfolding serde_json_on_literals document
+in_json : codes "{\"version\":1,\"fault\":\"prefix refused\",\"at\":null,\"why\":\"it is not 1 to 62 printable ASCII characters without a space\",\"cause\":null}\n" ≡ line_in Json unfit_line
+unfolding serde_json_on_literals document digits
 in_json = refl
 
 pub returns-in-Text : goal.returns-in-Text
