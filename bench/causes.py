@@ -109,16 +109,23 @@ def document_of(printed, told):
     """The document that says what this line and the first line that is told say; none if the line is no fault."""
     why = told[0].split(': ', 1)[-1].split('; ')[0] if told else None
     if found := re.fullmatch(r'(cannot \w+) (.+)\n', printed):
-        return {'fault': found[1], 'at': found[2], 'why': why, 'cause': None}
+        return fault(found[1], found[2], why)
     if found := re.fullmatch(r'longer than (\d+) bytes: (.+)\n', printed):
-        return {'fault': 'too long', 'at': found[2], 'why': f'it has more than {found[1]} bytes', 'cause': None}
+        return fault('too long', found[2], f'it has more than {found[1]} bytes')
     if found := re.fullmatch(r'progress refused: (\d) (\w+)\n', printed):
-        return {'fault': 'progress refused', 'number': int(found[1]), 'name': found[2]}
+        # Why is known if it was saved for other attributes.
+        at, saved, rest = re.match(r'([^: ]+)( was saved for other attributes: )?(.*)', told[0]).groups()
+        return {**fault('progress refused', at, f'it{saved}{rest}'.split('; ')[0] if saved else None),
+                'number': int(found[1]), 'name': found[2]}
     if found := re.fullmatch(r'plan refused: (\d) (\w+) (\w+) at key (\d)\n', printed):
-        line = re.match(r'[^:]+:(\d+): ', told[0])
-        return {'fault': 'plan refused', 'number': int(found[1]), 'name': found[2], 'field': found[3], 'key': int(found[4]),
-                'line': int(line[1])}
+        at, line, why = re.match(r'([^:]+):(\d+): key \d+: (.+)', told[0]).groups()
+        return {**fault('plan refused', at, why), 'number': int(found[1]), 'name': found[2], 'field': found[3],
+                'key': int(found[4]), 'line': int(line)}
     return None
+
+
+def fault(what, at, why):
+    return {'version': 1, 'fault': what, 'at': at, 'why': why, 'cause': None}
 
 
 def documents(printed):

@@ -185,7 +185,7 @@ class Largest:
                 wanted = [[key.name, server.uid(key), 'finished'] for key in KEYS]
             else:
                 found, wanted = lines[:-1], [line_of(command, key, server) for key in KEYS]
-            last = '{"finished":1000,"of":1000}' if form == 'json' else 'finished 1000 of 1000'
+            last = '{"version":1,"finished":1000,"of":1000}' if form == 'json' else 'finished 1000 of 1000'
             told = re.sub(r'\d+ (second|minute)s? ago', 'T ago', told)
             self.look(f'{command} of 1,000 keys in {form}', (running.returncode, 0), (found, wanted), (lines[-1], last),
                       (told, f'saved against {server.address}, T ago\n' if command == 'list' else ''))
@@ -202,10 +202,10 @@ def report():
 
 def documents(server):
     """What a run prints in JSON once all is done."""
-    lines = [{'key': key.name, 'target': key.target, 'done': key.steps(), 'of': key.steps(), 'verdict': 'finished',
-              'identifier': server.uid(key), 'steps': key.steps()} for key in KEYS]
-    return [*lines, {'end': 'AllFinished', 'finished': 1000, 'of': 1000, 'exchanges': EXCHANGES, 'lost': 0, 'refused': 0,
-                     'unreadable': 0, 'steps': EXCHANGES - MOST_KEYS, 'cause': None}]
+    lines = [{'version': 1, 'key': key.name, 'target': key.target, 'done': key.steps(), 'of': key.steps(),
+              'verdict': 'finished', 'identifier': server.uid(key), 'steps': key.steps()} for key in KEYS]
+    return [*lines, {'version': 1, 'end': 'AllFinished', 'finished': 1000, 'of': 1000, 'exchanges': EXCHANGES, 'lost': 0,
+                     'refused': 0, 'unreadable': 0, 'steps': EXCHANGES - MOST_KEYS, 'cause': None}]
 
 
 def without_time(document):

@@ -275,8 +275,8 @@ class Origins:
                   self.contradicted(other, lines[1]))
         status, printed, _ = self.run('--connect', other, '--refresh', '--json')
         self.look('in JSON the keys are named', (status, printed),
-                  (1, f'{{"fault":"progress of another server","at":"{self.progress}",'
-                      f'"why":"{other} contradicts what it says","keys":["k2"]}}\n'))
+                  (1, f'{{"version":1,"fault":"progress of another server","at":"{self.progress}",'
+                      f'"why":"{other} contradicts what it says","cause":null,"keys":["k2"]}}\n'))
         self.write('gone.toml', PLAN.replace('"active"', '"revoked"'))
         subprocess.run([self.program, 'run', '--plan', os.path.join(self.folder, 'gone.toml'), '--progress',
                         os.path.join(self.folder, 'gone'), '--connect', where[1]], capture_output=True)
@@ -654,8 +654,9 @@ class Origins:
             refused, finished = sum(picky.refused.values()), sum(map(is_finished, NINE, done))
             what = f'a server that refuses some of nine keys, {batch} a message, {limit} messages'
             self.look(f'{what}: in JSON', (status, documents(printed)), (1, [*map(document, NINE, done, objects.values()), {
-                'end': 'Limit', 'finished': finished, 'of': 9, 'exchanges': picky.messages, 'lost': 0, 'refused': refused,
-                'unreadable': 0, 'steps': sum(done), 'milliseconds': 'T', 'cause': 'refused' if refused else None}]))
+                'version': 1, 'end': 'Limit', 'finished': finished, 'of': 9, 'exchanges': picky.messages, 'lost': 0,
+                'refused': refused, 'unreadable': 0, 'steps': sum(done), 'milliseconds': 'T',
+                'cause': 'refused' if refused else None}]))
             self.look(f'{what}: in metrics', self.measured(), (
                 [finished, 9 - finished, 0, limit, 0, 0, refused, sum(done), 0], None))
             wanted = [f'{name}: Create refused {count} time{"" if count == 1 else "s"}, last reason 12 (Permission Denied)'
@@ -698,7 +699,7 @@ def is_finished(key, done):
 
 def document(key, done, objects):
     """What a run prints of a key in JSON, of which all that is done is done by this run."""
-    return {'key': key.name, 'target': key.target, 'done': done, 'of': key.steps(),
+    return {'version': 1, 'key': key.name, 'target': key.target, 'done': done, 'of': key.steps(),
             'verdict': 'finished' if is_finished(key, done) else 'working',
             'identifier': objects[0][0].decode() if objects else None, 'steps': done}
 

@@ -53,7 +53,7 @@ MOST = 100_000
 LONGEST = 90
 
 NO_MEMORY = "no memory\n"
-NO_MEMORY_DOCUMENT = '{"fault":"no memory"}\n'
+NO_MEMORY_DOCUMENT = '{"version":1,"fault":"no memory","at":null,"why":null,"cause":null}\n'
 
 # Why a command may do all as undisturbed: what it had no memory for, it would have told on standard error.
 UNTOLD = "had no memory for what it would tell"

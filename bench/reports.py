@@ -3,7 +3,7 @@
 
     bench/reports.py PROGRAM FOLDER
 
-Each line has to be one JSON object with no member twice. The values are compared with what is written here, and
+Each line has to be one JSON object, which begins with the version, with no member twice. The values are compared with what is written here, and
 exit statuses with those of the text. The members of each document have to be those of a row of docs/AUTOMATION.md,
 in its order, and each row of that page has to be seen. Each row prints what it looks at and `ok`, or what went wrong.
 The last line counts what is wrong, and the exit status is 0 if nothing is. Sockets on 127.0.0.1 and in the folder only.
@@ -81,8 +81,16 @@ def fault(what, at=None, why=None, cause=None):
     return {'fault': what, 'at': at, 'why': why, 'cause': cause}
 
 
-def no_plan(number, name, field, key, line):
-    return {'fault': 'plan refused', 'number': number, 'name': name, 'field': field, 'key': key, 'line': line}
+def no_plan(number, name, field, key, line, at, why):
+    return {**fault('plan refused', at, why), 'number': number, 'name': name, 'field': field, 'key': key, 'line': line}
+
+
+def no_progress(number, name, at, why=None):
+    return {**fault('progress refused', at, why), 'number': number, 'name': name}
+
+
+def versioned(document):
+    return {'version': 1, **document}
 
 
 def named_in(text):
@@ -91,7 +99,7 @@ def named_in(text):
 
 
 def page_rows():
-    """The rows of the page: the commands of each, none if it is of all, and the members of its document."""
+    """The rows of the page: the commands of each, none if it is of all, and the members of its document after the version."""
     commands, lines = [], PAGE.read_text().splitlines()
     for line in lines[lines.index(HEAD) + 2:]:
         if not line.startswith('|'):
@@ -99,13 +107,13 @@ def page_rows():
         command, _, members = [cell.strip() for cell in line.strip('|').split('|')]
         commands = named_in(command) or ([] if command else commands)
         short, more, rest = members.partition('also')
-        yield tuple(commands), tuple(named_in(short))
+        yield tuple(commands), ('version', *named_in(short))
         if more:
-            yield tuple(commands), tuple(named_in(short) + named_in(rest))
+            yield tuple(commands), ('version', *named_in(short), *named_in(rest))
 
 
 def one_document(line):
-    """The object that a line is, in which no name stands twice."""
+    """The object that a line is: its first member is the version, and no member is there twice."""
     def pairs_of(pairs):
         names = [name for name, _ in pairs]
         if len(set(names)) != len(names):
@@ -114,6 +122,8 @@ def one_document(line):
     value = json.loads(line, object_pairs_hook=pairs_of)
     if not isinstance(value, dict):
         raise ValueError(f'no object: {line}')
+    if next(iter(value.items()), None) != ('version', 1):
+        raise ValueError(f'no version first: {line}')
     return value
 
 
@@ -165,7 +175,7 @@ class Reports:
 
     def look(self, what, words, status, *wanted):
         said = self.documents(*words)
-        self.compare(what, said, (status, list(wanted)))
+        self.compare(what, said, (status, [versioned(document) for document in wanted]))
         return said
 
     def compare(self, what, said, wanted):
@@ -186,7 +196,7 @@ class Reports:
                   {'prolongs': False})
         short = self.write('short.toml', plan([*KEYS[:-1], LAST.but(length=100)]))
         # Each key has six lines, and its length is in the fourth.
-        refused = no_plan(7, 'BadLength', None, 9, 6 * 8 + 4)
+        refused = no_plan(7, 'BadLength', None, 9, 6 * 8 + 4, short, 'the length is 100: for AES it must be 128, 192 or 256')
         for words in (['check'], ['run', '--loopback', '--progress', self.progress], ['look', '--loopback'],
                       ['list', '--progress', self.progress], ['sim', '--script', self.write('script', '')]):
             self.look(f'{words[0]} of a plan with a wrong length', [*words, '--plan', short], 1, refused)
@@ -218,7 +228,8 @@ class Reports:
                   *map(listed, KEYS[:-1], ALL_DONE, NUMBERS, NONE_DONE), listed(other, 0, 9, 0, 'conflict attributes'),
                   ended('Conflict', 8, 9, len(messages(batch, done=ALL_DONE)), 0, 'conflict'))
         self.look(f'its progress with other attributes{what}', ['list', '--plan', path, '--progress', saved], 1,
-                  {'fault': 'progress refused', 'number': 3, 'name': 'OtherPlan'})
+                  no_progress(3, 'OtherPlan', saved, f'it was saved for other attributes: key "{LAST.name}": '
+                              'the length is 128, and was 256'))
         second = self.serve()
         self.look(f'its progress at another server{what}',
                   ['run', '--plan', self.plan, '--progress', saved, '--connect', second, '--batch', batch], 1,
@@ -229,7 +240,7 @@ class Reports:
         os.remove(f'{saved}.origin')
         self.look(f'its progress at a server without its keys{what}',
                   ['run', '--plan', self.plan, '--progress', saved, '--connect', empty, '--batch', batch, '--believe'], 1,
-                  {'fault': 'progress of another server', 'at': saved, 'why': f'{empty} contradicts what it says',
+                  {**fault('progress of another server', saved, f'{empty} contradicts what it says'),
                    'keys': [key.name for key in KEYS]})
 
     def passing(self, batch):
@@ -274,7 +285,7 @@ class Reports:
         whole = progress(KEYS)
         for text, number, name in ((whole[:-1], 2, 'Cut'), (whole.replace(' 2 39\n', ' many 39\n'), 1, 'BadText')):
             path = self.write('bad', text)
-            said = {'fault': 'progress refused', 'number': number, 'name': name}
+            said = no_progress(number, name, path)
             self.look(f'a run of a progress that is {name}', ['run', '--loopback', '--plan', self.plan, '--progress', path],
                       1, said)
             self.look(f'a listing of a progress that is {name}', ['list', '--plan', self.plan, '--progress', path], 1, said)
@@ -302,10 +313,11 @@ class Reports:
         bad = self.write('bad.script', 'pass\nsomething\n')
         self.look(f'a script that is refused, {batch} keys a message',
                   ['sim', '--plan', self.plan, '--script', bad, '--batch', batch], 1,
-                  {'fault': 'script refused', 'line': 2})
+                  {**fault('script refused'), 'line': 2})
         early = self.write('early.script', 'crash 90 new\n')
         self.look(f'a crash after calls that are not made, {batch} keys a message',
-                  ['sim', '--plan', self.plan, '--script', early, '--batch', batch], 1, {'fault': 'crash refused', 'run': 1})
+                  ['sim', '--plan', self.plan, '--script', early, '--batch', batch], 1,
+                  {**fault('crash refused'), 'run': 1})
 
     def probes(self):
         where = ['--connect', self.serve()]

@@ -17,6 +17,7 @@ mod cause;
 mod causes;
 mod contradiction;
 mod disagreement;
+mod held;
 mod naming;
 mod obstacle;
 mod obstacle_line;

@@ -4,14 +4,16 @@ use crate::another_server::AnotherServer;
 use crate::cannot::Cannot;
 use crate::causes::{tell_cause, tell_why};
 use crate::contradiction::Contradiction;
+use crate::held::Held;
 use crate::place::Place;
-use crate::reporting::print_made;
+use crate::told::standard_output;
 use kmip_explaining::tell_refusal;
 use kmip_plan::PlanFault;
+use kmip_plan_report::print_report;
 use kmip_progress::ProgressFault;
 use kmip_report::{ExitStatus, Form};
 use kmip_ttlv::NoMemory;
-use std::io::Error;
+use std::io::{Error, Write};
 use std::net::{Ipv4Addr, Net, SocketAddr, SocketAddrV4};
 
 /// Why a file has no text.
@@ -66,18 +68,20 @@ impl Obstacle {
             | Obstacle::InUse(_)
             | Obstacle::NoPort => {
                 self.explain(rt);
-                self.print(rt, form)
+                self.print(rt, form, &mut standard_output(rt))
             }
             Obstacle::NoPlan(..) => {
-                let status = self.print(rt, form);
+                let mut output = Held::of(rt);
+                let status = self.print(rt, form, &mut output);
                 self.explain(rt);
+                output.tell();
                 status
             }
             Obstacle::AnotherServer(_)
             | Obstacle::Contradicted(_)
             | Obstacle::NoProgress(..)
             | Obstacle::OtherAttributes(..) => {
-                let status = self.print(rt, form);
+                let status = self.print(rt, form, &mut standard_output(rt));
                 if status == ExitStatus::Refused {
                     self.explain(rt);
                 }
@@ -86,14 +90,14 @@ impl Obstacle {
         }
     }
 
-    /// Prints its line in this form.
-    fn print(&self, rt: &HostRuntime, form: Form) -> ExitStatus {
+    /// Prints its line in this form, or that memory ran out.
+    fn print<W: Write>(&self, rt: &HostRuntime, form: Form, writer: &mut W) -> ExitStatus {
         let mut text = Vec::new(rt.alloc());
         let made = match self.push_line(rt.alloc(), form, &mut text) {
             Ok(()) => Ok(true),
             Err(NoMemory) => Err(NoMemory),
         };
-        print_made(rt, form, made, text.as_slice())
+        print_report(form, made, text.as_slice(), writer)
     }
 
     /// Tells on standard error what there is to say of it.

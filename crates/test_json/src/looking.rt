@@ -11,14 +11,14 @@ use std::alloc::Global;
 use std::test::Fail;
 
 const LOOK_LINES: [&str; 8] = [
-    r#"{"key":"database-2026","target":"active","identifier":"17","state":"Active","verdict":"finished","to_do":[],"type":2,"algorithm":"AES","length":256,"usage":12,"not_told":null}"#,
-    r#"{"key":"refused","target":"active","identifier":null,"state":null,"verdict":"working","to_do":[],"type":null,"algorithm":null,"length":null,"usage":null,"not_told":"refused, reason 12 (Permission Denied)"}"#,
-    r#"{"key":"silent","target":"active","identifier":"1\"\n8","state":null,"verdict":"working","to_do":[],"type":null,"algorithm":null,"length":null,"usage":null,"not_told":"no reply"}"#,
-    r#"{"key":"none","target":"destroyed","identifier":null,"state":null,"verdict":"working","to_do":["Create","Activate","Revoke","Destroy"],"type":null,"algorithm":null,"length":null,"usage":null,"not_told":null}"#,
-    r#"{"key":"going","target":"revoked","identifier":"19","state":"PreActive","verdict":"working","to_do":["Activate","Revoke"],"type":2,"algorithm":"HMAC-SHA256","length":256,"usage":384,"not_told":null}"#,
-    r#"{"key":"other","target":"active","identifier":"20","state":"9","verdict":"conflict attributes","to_do":[],"type":3,"algorithm":"77","length":4294967295,"usage":2147483648,"not_told":null}"#,
-    r#"{"key":"twice","target":"active","identifier":null,"state":null,"verdict":"conflict two-objects","to_do":[],"type":null,"algorithm":null,"length":null,"usage":null,"not_told":null}"#,
-    r#"{"finished":1,"of":7}"#,
+    r#"{"version":1,"key":"database-2026","target":"active","identifier":"17","state":"Active","verdict":"finished","to_do":[],"type":2,"algorithm":"AES","length":256,"usage":12,"not_told":null}"#,
+    r#"{"version":1,"key":"refused","target":"active","identifier":null,"state":null,"verdict":"working","to_do":[],"type":null,"algorithm":null,"length":null,"usage":null,"not_told":"refused, reason 12 (Permission Denied)"}"#,
+    r#"{"version":1,"key":"silent","target":"active","identifier":"1\"\n8","state":null,"verdict":"working","to_do":[],"type":null,"algorithm":null,"length":null,"usage":null,"not_told":"no reply"}"#,
+    r#"{"version":1,"key":"none","target":"destroyed","identifier":null,"state":null,"verdict":"working","to_do":["Create","Activate","Revoke","Destroy"],"type":null,"algorithm":null,"length":null,"usage":null,"not_told":null}"#,
+    r#"{"version":1,"key":"going","target":"revoked","identifier":"19","state":"PreActive","verdict":"working","to_do":["Activate","Revoke"],"type":2,"algorithm":"HMAC-SHA256","length":256,"usage":384,"not_told":null}"#,
+    r#"{"version":1,"key":"other","target":"active","identifier":"20","state":"9","verdict":"conflict attributes","to_do":[],"type":3,"algorithm":"77","length":4294967295,"usage":2147483648,"not_told":null}"#,
+    r#"{"version":1,"key":"twice","target":"active","identifier":null,"state":null,"verdict":"conflict two-objects","to_do":[],"type":null,"algorithm":null,"length":null,"usage":null,"not_told":null}"#,
+    r#"{"version":1,"finished":1,"of":7}"#,
 ];
 
 /// A key, what is known of it, and what was told of it: Object Type, Cryptographic Algorithm, Cryptographic

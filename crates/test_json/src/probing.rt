@@ -14,16 +14,16 @@ use std::process::Abort;
 use std::test::Fail;
 
 const BROKEN_LINES: [&str; 10] = [
-    r#"{"making":["p-1","p-2"]}"#,
-    r#"{"premise":"names are unique","finding":"broken","flaw":"a second object 1\\22 was made","risk":"a key may be made twice where the reply to its Create is lost"}"#,
-    r#"{"premise":"names stay used after Destroy","finding":"kept","flaw":null,"risk":null}"#,
-    r#"{"premise":"a step made twice changes nothing","finding":"broken","flaw":"Activate succeeded twice","risk":"a request that arrives twice may change a key twice"}"#,
-    r#"{"premise":"an active object is not destroyed","finding":"not told","flaw":null,"risk":null}"#,
-    r#"{"premise":"Locate finds objects by their names","finding":"kept","flaw":null,"risk":null}"#,
-    r#"{"premise":"Locate finds destroyed objects","finding":"broken","flaw":"mask 5 does not find it","risk":"a destroyed key may be taken for none, and made again"}"#,
-    r#"{"premise":"Get Attributes tells all six attributes","finding":"broken","flaw":"State is missing","risk":"a key that was there before is not told from the plan's, and is left alone"}"#,
-    r#"{"premise":"the batch id is echoed","finding":"kept","flaw":null,"risk":null}"#,
-    r#"{"reasons":[8,71],"sum":"the promise does not hold here"}"#,
+    r#"{"version":1,"making":["p-1","p-2"]}"#,
+    r#"{"version":1,"premise":"names are unique","finding":"broken","flaw":"a second object 1\\22 was made","risk":"a key may be made twice where the reply to its Create is lost"}"#,
+    r#"{"version":1,"premise":"names stay used after Destroy","finding":"kept","flaw":null,"risk":null}"#,
+    r#"{"version":1,"premise":"a step made twice changes nothing","finding":"broken","flaw":"Activate succeeded twice","risk":"a request that arrives twice may change a key twice"}"#,
+    r#"{"version":1,"premise":"an active object is not destroyed","finding":"not told","flaw":null,"risk":null}"#,
+    r#"{"version":1,"premise":"Locate finds objects by their names","finding":"kept","flaw":null,"risk":null}"#,
+    r#"{"version":1,"premise":"Locate finds destroyed objects","finding":"broken","flaw":"mask 5 does not find it","risk":"a destroyed key may be taken for none, and made again"}"#,
+    r#"{"version":1,"premise":"Get Attributes tells all six attributes","finding":"broken","flaw":"State is missing","risk":"a key that was there before is not told from the plan's, and is left alone"}"#,
+    r#"{"version":1,"premise":"the batch id is echoed","finding":"kept","flaw":null,"risk":null}"#,
+    r#"{"version":1,"reasons":[8,71],"sum":"the promise does not hold here"}"#,
 ];
 
 /// All that is printed of a server, if these keys are made and this is found.
@@ -75,12 +75,13 @@ fn writes_why_nothing_is_made(rt: HostRuntime) -> Result<(), Fail> {
     let alloc = rt.alloc();
     let uids = vec![in alloc; Text::copied(alloc, "17")?]?;
     let used = Outcome::Located(Texts::from_vec(uids));
-    let line = r#"{"making":[],"name":"p-1","object":"17","not_told":null}"#;
+    let line = r#"{"version":1,"making":[],"name":"p-1","object":"17","not_told":null}"#;
     assert_unmade(&rt, alloc, Some(&used), line)?;
     let refused = Outcome::Failed(Some(12));
-    let line = r#"{"making":[],"name":"p-1","object":null,"not_told":"refused, reason 12"}"#;
+    let line =
+        r#"{"version":1,"making":[],"name":"p-1","object":null,"not_told":"refused, reason 12"}"#;
     assert_unmade(&rt, alloc, Some(&refused), line)?;
-    let line = r#"{"making":[],"name":"p-1","object":null,"not_told":"no reply"}"#;
+    let line = r#"{"version":1,"making":[],"name":"p-1","object":null,"not_told":"no reply"}"#;
     assert_unmade(&rt, alloc, None, line)?;
     Ok(())
 }
@@ -88,7 +89,7 @@ fn writes_why_nothing_is_made(rt: HostRuntime) -> Result<(), Fail> {
 #[test]
 fn writes_that_a_prefix_is_refused(rt: HostRuntime) -> Result<(), Fail> {
     let line =
-        r#"{"fault":"prefix refused","at":null,"why":"it is not 1 to 62 printable ASCII characters without a space","cause":null}"#;
+        r#"{"version":1,"fault":"prefix refused","at":null,"why":"it is not 1 to 62 printable ASCII characters without a space","cause":null}"#;
     let text = unfit_line(Form::Json);
     assert_lines(&rt, rt.alloc(), text.as_bytes(), &[line])?;
     Ok(())

@@ -10,16 +10,16 @@ use kmip_plan_report::{
     push_check_after, push_check_lines, push_list, push_plan_refusal, push_progress_refusal,
 };
 use kmip_progress::{Known, Progress, ProgressFault, suits};
-use kmip_report::{Cause, Fault, Form, no_memory_line, push_fault};
+use kmip_report::{Cause, Fault, Form, no_memory_line, push_contradiction, push_fault};
 use kmip_runs::Stop;
 use kmip_ttlv::{NoMemory, Text};
 use std::alloc::Global;
 use std::test::Fail;
 
 const CHECK_LINES: [&str; 3] = [
-    r#"{"key":"a\"b\\c\u001f","algorithm":"AES","length":256,"usage":12,"target":"active","steps":["Create","Activate"]}"#,
-    r#"{"key":"k","algorithm":null,"length":64,"usage":511,"target":"created","steps":["Create"]}"#,
-    r#"{"key":"d","algorithm":"HMAC-SHA256","length":256,"usage":384,"target":"destroyed","steps":["Create","Activate","Revoke","Destroy"]}"#,
+    r#"{"version":1,"key":"a\"b\\c\u001f","algorithm":"AES","length":256,"usage":12,"target":"active","steps":["Create","Activate"]}"#,
+    r#"{"version":1,"key":"k","algorithm":null,"length":64,"usage":511,"target":"created","steps":["Create"]}"#,
+    r#"{"version":1,"key":"d","algorithm":"HMAC-SHA256","length":256,"usage":384,"target":"destroyed","steps":["Create","Activate","Revoke","Destroy"]}"#,
 ];
 
 /// A plan that the plan does not prolong: the plan has not its key.
@@ -33,36 +33,44 @@ target = "active"
 "#;
 
 const PROLONGS_LINES: [&str; 3] = [
-    r#"{"key":"a\"b\\c","algorithm":"AES","length":256,"usage":12,"target":"active","steps":["Create","Activate"]}"#,
-    r#"{"key":"second","algorithm":"HMAC-SHA256","length":256,"usage":128,"target":"discarded","steps":["Create","Destroy"]}"#,
-    r#"{"prolongs":true}"#,
+    r#"{"version":1,"key":"a\"b\\c","algorithm":"AES","length":256,"usage":12,"target":"active","steps":["Create","Activate"]}"#,
+    r#"{"version":1,"key":"second","algorithm":"HMAC-SHA256","length":256,"usage":128,"target":"discarded","steps":["Create","Destroy"]}"#,
+    r#"{"version":1,"prolongs":true}"#,
 ];
 
 const PROLONGS_NOT_LINES: [&str; 3] = [
-    r#"{"key":"a\"b\\c","algorithm":"AES","length":256,"usage":12,"target":"active","steps":["Create","Activate"]}"#,
-    r#"{"key":"second","algorithm":"HMAC-SHA256","length":256,"usage":128,"target":"discarded","steps":["Create","Destroy"]}"#,
-    r#"{"prolongs":false}"#,
+    r#"{"version":1,"key":"a\"b\\c","algorithm":"AES","length":256,"usage":12,"target":"active","steps":["Create","Activate"]}"#,
+    r#"{"version":1,"key":"second","algorithm":"HMAC-SHA256","length":256,"usage":128,"target":"discarded","steps":["Create","Destroy"]}"#,
+    r#"{"version":1,"prolongs":false}"#,
 ];
 
 const LIST_LINES: [&str; 3] = [
-    r#"{"key":"a\"b\\c","target":"active","done":2,"of":2,"verdict":"finished","identifier":"17\n"}"#,
-    r#"{"key":"second","target":"discarded","done":0,"of":2,"verdict":"working","identifier":null}"#,
-    r#"{"finished":1,"of":2}"#,
+    r#"{"version":1,"key":"a\"b\\c","target":"active","done":2,"of":2,"verdict":"finished","identifier":"17\n"}"#,
+    r#"{"version":1,"key":"second","target":"discarded","done":0,"of":2,"verdict":"working","identifier":null}"#,
+    r#"{"version":1,"finished":1,"of":2}"#,
 ];
 
 const RUN_LINES: [&str; 3] = [
-    r#"{"key":"a\"b\\c","target":"active","done":2,"of":2,"verdict":"finished","identifier":"17\n","steps":2}"#,
-    r#"{"key":"second","target":"discarded","done":0,"of":2,"verdict":"working","identifier":null,"steps":0}"#,
-    r#"{"end":"Limit","finished":1,"of":2,"exchanges":23,"lost":3,"refused":0,"unreadable":4,"steps":2,"milliseconds":412,"cause":"unreachable"}"#,
+    r#"{"version":1,"key":"a\"b\\c","target":"active","done":2,"of":2,"verdict":"finished","identifier":"17\n","steps":2}"#,
+    r#"{"version":1,"key":"second","target":"discarded","done":0,"of":2,"verdict":"working","identifier":null,"steps":0}"#,
+    r#"{"version":1,"end":"Limit","finished":1,"of":2,"exchanges":23,"lost":3,"refused":0,"unreadable":4,"steps":2,"milliseconds":412,"cause":"unreachable"}"#,
 ];
 
-const FAULT_LINES: [&str; 6] = [
-    r#"{"fault":"plan refused","number":7,"name":"BadLength","field":null,"key":613,"line":4903}"#,
-    r#"{"fault":"plan refused","number":5,"name":"Unknown","field":"\"\\\t","key":0,"line":null}"#,
-    r#"{"fault":"progress refused","number":2,"name":"Cut"}"#,
-    r#"{"fault":"cannot read","at":"/etc/plan.toml","why":"no such file or directory","cause":null}"#,
-    r#"{"fault":"no answer","at":null,"why":null,"cause":"refused"}"#,
-    r#"{"fault":"no memory"}"#,
+const FAULT_LINES: [&str; 7] = [
+    r#"{"version":1,"fault":"plan refused","number":7,"name":"BadLength","field":null,"key":613,"line":4903,"at":"plan.toml","why":"the length is \"100\"","cause":null}"#,
+    r#"{"version":1,"fault":"plan refused","number":5,"name":"Unknown","field":"\"\\\t","key":0,"line":null,"at":null,"why":null,"cause":null}"#,
+    r#"{"version":1,"fault":"progress refused","number":2,"name":"Cut","at":"p","why":null,"cause":null}"#,
+    r#"{"version":1,"fault":"cannot read","at":"/etc/plan.toml","why":"no such file or directory","cause":null}"#,
+    r#"{"version":1,"fault":"no answer","at":null,"why":null,"cause":"unanswered"}"#,
+    r#"{"version":1,"fault":"progress of another server","at":"p","why":"10.0.0.5:5696 contradicts what it says","cause":null,"keys":["k1","k2"]}"#,
+    r#"{"version":1,"fault":"no memory","at":null,"why":null,"cause":null}"#,
+];
+
+const FAULT_TEXTS: [&str; 4] = [
+    "cannot read /etc/plan.toml",
+    "no answer",
+    "progress of another server: p",
+    "no memory",
 ];
 
 #[test]
@@ -85,7 +93,7 @@ fn writes_whether_a_plan_prolongs(rt: HostRuntime) -> Result<(), Fail> {
     let plan: Plan = read_plan(alloc, PLAN)?;
     for (earlier, lines) in [(PLAN, &PROLONGS_LINES), (EARLIER, &PROLONGS_NOT_LINES)] {
         let mut text = Vec::new(alloc);
-        push_check_after(alloc, Form::Json, &plan, earlier, &mut text)?;
+        push_check_after(alloc, Form::Json, &plan, earlier, None, &mut text)?;
         assert_lines(&rt, alloc, text.as_slice(), lines)?;
     }
     Ok(())
@@ -153,6 +161,39 @@ fn writes_what_came_of_a_run(rt: HostRuntime) -> Result<(), Fail> {
     Ok(())
 }
 
+/// The lines of a file that cannot be read, of a server that does not answer, and of a progress that a
+/// server contradicts.
+fn push_faults(alloc: Global, form: Form, text: &mut Vec<u8>) -> Result<(), NoMemory> {
+    let unread = Fault {
+        fault: "cannot read",
+        between: " ",
+        at: Some("/etc/plan.toml"),
+        why: Some("no such file or directory"),
+        cause: None,
+    };
+    push_fault(alloc, form, &unread, text)?;
+    let unanswered = Fault {
+        fault: "no answer",
+        between: ": ",
+        at: None,
+        why: None,
+        cause: Some(Cause::Unanswered),
+    };
+    push_fault(alloc, form, &unanswered, text)?;
+    let why = "10.0.0.5:5696 contradicts what it says";
+    push_contradiction(alloc, form, "p", why, &["k1", "k2"], text)
+}
+
+#[test]
+fn writes_faults_in_text(rt: HostRuntime) -> Result<(), Fail> {
+    let alloc = rt.alloc();
+    let mut text = Vec::new(alloc);
+    push_faults(alloc, Form::Text, &mut text)?;
+    text.extend_from_slice(no_memory_line(Form::Text).as_bytes())?;
+    assert_lines(&rt, alloc, text.as_slice(), &FAULT_TEXTS)?;
+    Ok(())
+}
+
 #[test]
 fn writes_what_went_wrong(rt: HostRuntime) -> Result<(), Fail> {
     let alloc = rt.alloc();
@@ -161,7 +202,9 @@ fn writes_what_went_wrong(rt: HostRuntime) -> Result<(), Fail> {
         alloc,
         Form::Json,
         &PlanFault::BadLength(613),
+        Some("plan.toml"),
         Some(4903),
+        Some("the length is \"100\""),
         &mut text,
     )?;
     let word = Text::copied(alloc, "\"\\\t")?;
@@ -170,26 +213,23 @@ fn writes_what_went_wrong(rt: HostRuntime) -> Result<(), Fail> {
         Form::Json,
         &PlanFault::Unknown(word, 0),
         None,
+        None,
+        None,
         &mut text,
     )?;
-    push_progress_refusal(alloc, Form::Json, ProgressFault::Cut, &mut text)?;
-    let unread = Fault {
-        fault: "cannot read",
-        at: Some("/etc/plan.toml"),
-        why: Some("no such file or directory"),
-        cause: None,
-    };
-    push_fault(alloc, &unread, &mut text)?;
-    let unanswered = Fault {
-        fault: "no answer",
-        at: None,
-        why: None,
-        cause: Some(Cause::Refused),
-    };
-    push_fault(alloc, &unanswered, &mut text)?;
+    push_progress_refusal(
+        alloc,
+        Form::Json,
+        ProgressFault::Cut,
+        Some("p"),
+        None,
+        &mut text,
+    )?;
+    push_faults(alloc, Form::Json, &mut text)?;
     text.extend_from_slice(no_memory_line(Form::Json).as_bytes())?;
     assert_lines(&rt, alloc, text.as_slice(), &FAULT_LINES)?;
-    let wanting = push_plan_refusal(alloc, Form::Json, &PlanFault::NoMemory, None, &mut text);
+    let fault = PlanFault::NoMemory;
+    let wanting = push_plan_refusal(alloc, Form::Json, &fault, None, None, None, &mut text);
     assert!(rt; wanting.is_err());
     Ok(())
 }

@@ -24,35 +24,35 @@ target = "active"
 const LOST_CREATE: &str = "pass\nlose-reply\n";
 
 const LOST_CREATE_LINES: [&str; 7] = [
-    r#"{"run":1,"end":"AllFinished","exchanges":5,"report":["database-2026 active 2/2 finished","finished 1 of 1"]}"#,
-    r#"{"ask":1,"requests":["Locate database-2026"]}"#,
-    r#"{"ask":2,"requests":["Create database-2026"]}"#,
-    r#"{"ask":3,"requests":["Locate database-2026"]}"#,
-    r#"{"ask":4,"requests":["GetAttributes database-2026"]}"#,
-    r#"{"ask":5,"requests":["Activate database-2026"]}"#,
-    r#"{"record":"1","name":"database-2026","state":"Active"}"#,
+    r#"{"version":1,"run":1,"end":"AllFinished","exchanges":5,"report":["database-2026 active 2/2 finished","finished 1 of 1"]}"#,
+    r#"{"version":1,"ask":1,"requests":["Locate database-2026"]}"#,
+    r#"{"version":1,"ask":2,"requests":["Create database-2026"]}"#,
+    r#"{"version":1,"ask":3,"requests":["Locate database-2026"]}"#,
+    r#"{"version":1,"ask":4,"requests":["GetAttributes database-2026"]}"#,
+    r#"{"version":1,"ask":5,"requests":["Activate database-2026"]}"#,
+    r#"{"version":1,"record":"1","name":"database-2026","state":"Active"}"#,
 ];
 
 /// Two keys in a message. The run is cut off behind its second exchange, and the next goes on.
 const TWO_KEYS_LINES: [&str; 9] = [
-    r#"{"run":1,"end":"Limit","exchanges":2,"report":["a\"b\\c active 0/2 working","second discarded 0/2 working","finished 0 of 2"]}"#,
-    r#"{"run":2,"end":"AllFinished","exchanges":3,"report":["a\"b\\c active 2/2 finished","second discarded 2/2 finished","finished 2 of 2"]}"#,
-    r#"{"ask":1,"requests":["Locate a\"b\\c","Locate second"]}"#,
-    r#"{"ask":2,"requests":["Create a\"b\\c","Create second"]}"#,
-    r#"{"ask":3,"requests":["Locate a\"b\\c","Locate second"]}"#,
-    r#"{"ask":4,"requests":["GetAttributes a\"b\\c","GetAttributes second"]}"#,
-    r#"{"ask":5,"requests":["Activate a\"b\\c","Destroy second"]}"#,
-    r#"{"record":"1","name":"a\"b\\c","state":"Active"}"#,
-    r#"{"record":"2","name":"second","state":"Destroyed"}"#,
+    r#"{"version":1,"run":1,"end":"Limit","exchanges":2,"report":["a\"b\\c active 0/2 working","second discarded 0/2 working","finished 0 of 2"]}"#,
+    r#"{"version":1,"run":2,"end":"AllFinished","exchanges":3,"report":["a\"b\\c active 2/2 finished","second discarded 2/2 finished","finished 2 of 2"]}"#,
+    r#"{"version":1,"ask":1,"requests":["Locate a\"b\\c","Locate second"]}"#,
+    r#"{"version":1,"ask":2,"requests":["Create a\"b\\c","Create second"]}"#,
+    r#"{"version":1,"ask":3,"requests":["Locate a\"b\\c","Locate second"]}"#,
+    r#"{"version":1,"ask":4,"requests":["GetAttributes a\"b\\c","GetAttributes second"]}"#,
+    r#"{"version":1,"ask":5,"requests":["Activate a\"b\\c","Destroy second"]}"#,
+    r#"{"version":1,"record":"1","name":"a\"b\\c","state":"Active"}"#,
+    r#"{"version":1,"record":"2","name":"second","state":"Destroyed"}"#,
 ];
 
 const FAULT_LINES: [&str; 6] = [
-    r#"{"fault":"plan refused","number":2,"name":"NoKeys","field":null,"key":null,"line":null}"#,
-    r#"{"fault":"plan refused","number":5,"name":"Unknown","field":"k\"","key":3,"line":null}"#,
-    r#"{"fault":"plan refused","at":null,"why":"it does not prolong the plan before","cause":null}"#,
-    r#"{"fault":"script refused","line":2}"#,
-    r#"{"fault":"script refused","line":0}"#,
-    r#"{"fault":"crash refused","run":1}"#,
+    r#"{"version":1,"fault":"plan refused","number":2,"name":"NoKeys","field":null,"key":null,"line":null,"at":null,"why":null,"cause":null}"#,
+    r#"{"version":1,"fault":"plan refused","number":5,"name":"Unknown","field":"k\"","key":3,"line":null,"at":null,"why":null,"cause":null}"#,
+    r#"{"version":1,"fault":"plan refused","at":null,"why":"it does not prolong the plan before","cause":null}"#,
+    r#"{"version":1,"fault":"script refused","line":2,"at":null,"why":null,"cause":null}"#,
+    r#"{"version":1,"fault":"script refused","line":0,"at":null,"why":null,"cause":null}"#,
+    r#"{"version":1,"fault":"crash refused","run":1,"at":null,"why":null,"cause":null}"#,
 ];
 
 /// What is given of a script, with at most two keys in a message.
