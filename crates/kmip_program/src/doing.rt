@@ -1,20 +1,18 @@
 //! The commands, over standard input, files and standard output.
 
 use crate::plan_schema::PLAN_SCHEMA;
-use crate::simulating::simulate_in_json;
 use kmip_choices::{Choice, Detail, Format, Shell};
 use kmip_command_line::completions;
 use kmip_explaining::{tell_prolonging, tell_refusal, warn_of_usages};
 use kmip_message_commands::{Form, run_answer, run_answer_stream, run_show};
 use kmip_network::{look_at_server, probe_server, run_plan, serve};
-use kmip_plan::{Plan, PlanFault, prolongs, read_plan};
-use kmip_plan_commands::{SimInput, batch_of, run_sim};
+use kmip_plan::{Plan, prolongs};
+use kmip_plan_commands::batch_of;
 use kmip_plan_report::{run_check, run_check_after};
 use kmip_report::ExitStatus;
 use kmip_run_files::{PlanFile, list_progress, plan_at, plan_text_at, text_at};
+use kmip_sim_command::{SimInput, run_sim};
 use kmip_trouble::{Trouble, plan_name, standard_input, standard_output, tell_of_terminal};
-use kmip_ttlv::NoMemory;
-use std::alloc::Global;
 use std::io;
 use std::io::{BufReader, BufWriter};
 
@@ -137,11 +135,11 @@ fn check_plan_after(
     Ok(status)
 }
 
-/// How a simulation is made, and what is told of it.
+/// How a simulation is made, and what is reported of it.
 #[derive(Clone, Copy)]
 struct Telling {
     detail: Detail,
-    /// How many keys a message asks about at most.
+    /// The greatest number of keys that a message asks about.
     batch: u64,
     format: Format,
 }
@@ -169,9 +167,9 @@ fn simulate_plan(
     path: &str,
     script_path: &str,
 ) -> Result<ExitStatus, Trouble> {
-    let plan = plan_at(rt, path)?.text;
+    let plan = plan_at(rt, path)?.plan;
     let script = text_at(rt, script_path)?;
-    simulate(rt, telling, plan.as_str(), None, script.as_str())
+    simulate(rt, telling, plan, None, script.as_str())
 }
 
 /// The command `sim --then` from three files to standard output. The script is read once both plans
@@ -183,57 +181,24 @@ fn simulate_plans(
     further_path: &str,
     script_path: &str,
 ) -> Result<ExitStatus, Trouble> {
-    let PlanFile {
-        text: plan,
-        plan: earlier,
-    } = plan_at(rt, path)?;
-    let further = text_at(rt, further_path)?;
-    if is_refused_after(rt.alloc(), further.as_str(), &earlier)? {
-        let status = simulate(rt, telling, plan.as_str(), Some(further.as_str()), "")?;
-        tell_refusal(rt, further_path, further.as_str());
+    let PlanFile { text, plan } = plan_at(rt, path)?;
+    let further = plan_at(rt, further_path)?;
+    if !prolongs(&further.plan, &plan) {
+        let status = simulate(rt, telling, plan, Some(further.plan), "")?;
         let name = plan_name(path);
-        tell_prolonging(rt, further_path, further.as_str(), name, plan.as_str());
+        tell_prolonging(rt, further_path, further.text.as_str(), name, text.as_str());
         return Ok(status);
     }
     let script = text_at(rt, script_path)?;
-    simulate(
-        rt,
-        telling,
-        plan.as_str(),
-        Some(further.as_str()),
-        script.as_str(),
-    )
+    simulate(rt, telling, plan, Some(further.plan), script.as_str())
 }
 
-/// Returns true if a text is not a plan, or does not prolong the earlier plan.
-fn is_refused_after(alloc: Global, text: &str, earlier: &Plan) -> Result<bool, NoMemory> {
-    match read_plan(alloc, text) {
-        Ok(plan) => Ok(!prolongs(&plan, earlier)),
-        Err(PlanFault::NoMemory) => Err(NoMemory),
-        Err(_) => Ok(true),
-    }
-}
-
-/// Simulates a plan, and a further one where there is one, to standard output.
+/// Simulates a plan, and a further one if there is one, to standard output.
 fn simulate(
     rt: &HostRuntime,
     telling: Telling,
-    plan: &str,
-    further: Option<&str>,
-    script: &str,
-) -> Result<ExitStatus, Trouble> {
-    match telling.format {
-        Format::Text => simulate_in_text(rt, telling, plan, further, script),
-        Format::Json => simulate_in_json(rt, telling.batch, plan, further, script),
-    }
-}
-
-/// Simulates them, and prints in lines what came of it.
-fn simulate_in_text(
-    rt: &HostRuntime,
-    telling: Telling,
-    plan: &str,
-    further: Option<&str>,
+    plan: Plan,
+    further: Option<Plan>,
     script: &str,
 ) -> Result<ExitStatus, Trouble> {
     let mut writer = BufWriter::new(rt.alloc(), standard_output(rt))?;
@@ -242,5 +207,6 @@ fn simulate_in_text(
         batch: batch_of(telling.batch),
         script,
     };
-    Ok(run_sim(rt.alloc(), plan, &input, further, &mut writer))
+    let form = telling.format.form();
+    Ok(run_sim(rt.alloc(), form, plan, further, &input, &mut writer))
 }

@@ -10,7 +10,6 @@ mod doing;
 mod own_environment;
 mod plan_schema;
 mod running;
-mod simulating;
 mod streams;
 mod wrong_address;
 

@@ -1,8 +1,6 @@
 -- What the definitions of this crate are for: what holds of the runs of a script, and what is written of them.
 -- The runs of a script for one plan, or for two: what holds of all that happened, and of how they ended.
 pub mod Simulating
--- What is written of how the runs ended, of what was asked, and of the objects.
-pub mod SimText
 -- What happened over the link, moment by moment.
 pub mod Moments
 -- What is written of these moments, a line each.

@@ -1,7 +1,8 @@
 -- What holds of a campaign over a link in memory that followed a script, and of all that happened.
 -- Source: own.
-use Rattle.std.specs.Prelude.{◌≡◌, ◌≤◌, ◌+◌, ◌-◌, IsTrue, ℕ, ⊤, List, [], false, length, filter, map, replicate, slice_get, take, None}
+use Rattle.std.specs.Prelude.{◌≡◌, ◌≤◌, ◌+◌, ◌-◌, IsTrue, ℕ, ⊤, Bool, List, [], false, length, filter, map, replicate, slice_get, take, None}
 use Rattle.std.specs.List.{All, AllZip}
+use Rattle.std.specs.Option.{option_map_or}
 use Rattle.kmip_plan.specs.declared.key.Key.{Key}
 use Rattle.kmip_client.specs.Held.{TrueProgress}
 use Rattle.kmip_protocol.specs.Machine.{IsMirrored}
@@ -20,6 +21,8 @@ use Rattle.kmip_runs.specs.declared.crashes_end.CrashesEnd.{CrashesEnd}
 use Rattle.kmip_runs.specs.declared.crashing_run.CrashingRun.{CrashingRun}
 use Rattle.kmip_runs.specs.declared.campaign_end.CampaignEnd.{CampaignEnd}
 use Rattle.kmip_runs.specs.declared.run.Run.{Run}
+use Rattle.kmip_runs.specs.declared.run_end.RunEnd.{RunEnd}
+use Rattle.kmip_runs.specs.Stops.{is_all_finished}
 use Rattle.kmip_store.specs.Stock.{empty_stock, most_room}
 use Rattle.kmip_scripted.specs.Following.{Follows}
 use Rattle.kmip_scripted.specs.Runs.{crashing_runs_of, lists_of, runs_of}
@@ -121,3 +124,7 @@ pub record AreSimulated (plans : List (List Key)) (batch : ℕ) (words : List Wo
       (record { honest = ⊤; calm = CalmStart plans (seen_in (first_scene words)) }) (end.fault ≡ None) (past_in (first_scene words)) (past_in link)
   pub ended : AreEnded end.runs.items 0 [] link.ended
   pub followed : end.fault ≡ None → Follows (first_scene words) link
+
+-- the last of the runs stopped since each key of the plan was finished
+abbrev pub is_last_finished : List RunEnd → Bool
+is_last_finished ends = option_map_or (λ (end : RunEnd). is_all_finished end.stop) (slice_get ends (length ends - 1)) false

@@ -18,10 +18,10 @@ ghost use Rattle.kmip_simulation.specs.Simulating.{
   crashing_in_batches,
   first_scene,
   in_batches,
+  is_last_finished,
 };
 ghost use Rattle.kmip_runs.specs.Crashes.{MayCrash};
 ghost use Rattle.kmip_simulation.specs.declared.sim_fault.SimFault.TheVariants.{CrashRefused};
-ghost use Rattle.kmip_simulation.specs.SimText.{is_last_finished};
 
 use crate::sim_fault::SimFault;
 use kmip_plan::Plan;

@@ -4,10 +4,12 @@ use crate::faulty::Faulty;
 use kmip_client::Client;
 use kmip_objects::{KeyAttrs, KeyState};
 use kmip_plan::{Plan, Target};
+use kmip_report::Form;
 use kmip_runs::{CampaignEnd, report};
 use kmip_scripted::Scripted;
 use kmip_server::{ListStore, Records};
-use kmip_simulation::{SimLines, Simulation, push_asks, push_objects, push_runs};
+use kmip_sim_command::{push_asks, push_objects, push_runs};
+use kmip_simulation::Simulation;
 use kmip_trace::push_question;
 use std::alloc::{AllocError, Global};
 use std::str::from_utf8;
@@ -35,7 +37,7 @@ pub fn push_ends(text: &mut String, end: &CampaignEnd) -> Result<(), AllocError>
 /// ended, with its report.
 pub fn push_reports(alloc: Global, text: &mut String, end: &CampaignEnd) -> Result<(), Fail> {
     let mut runs = Vec::new(alloc);
-    push_runs::<SimLines>(alloc, end.runs.as_slice(), &mut runs)?;
+    push_runs(alloc, Form::Text, end.runs.as_slice(), &mut runs)?;
     let runs = from_utf8(runs.as_slice())?.trim_end();
     let saved = end.saved.len();
     let fault = if end.fault.is_some() {
@@ -59,8 +61,8 @@ pub fn push_again(
     text.push_str("; ")?;
     push_reports(alloc, text, end)?;
     let mut lines = Vec::new(alloc);
-    push_asks::<SimLines>(alloc, &simulation.link, &mut lines)?;
-    push_objects::<SimLines>(alloc, &simulation.link, &mut lines)?;
+    push_asks(alloc, Form::Text, &simulation.link, &mut lines)?;
+    push_objects(alloc, Form::Text, &simulation.link, &mut lines)?;
     write!(text, "\n{}", from_utf8(lines.as_slice())?.trim_end())?;
     Ok(())
 }

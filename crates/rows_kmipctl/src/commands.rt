@@ -10,13 +10,14 @@ use kmip_message_commands::{
     Form, answer, answer_bytes, answer_stream, answer_stream_bytes, run_answer, run_answer_stream,
     run_show, show_bytes, show_lines,
 };
-use kmip_plan::{PlanFault, read_plan};
-use kmip_plan_commands::{SimInput, batch_of, run_sim, sim, sim_bytes};
+use kmip_plan::{Plan, PlanFault, read_plan};
+use kmip_plan_commands::batch_of;
 use kmip_plan_report::{
     print_report, push_check, push_check_after, push_listing, push_refused_plan, run_check,
     run_check_after, run_list,
 };
 use kmip_report::{CommandFault, ExitStatus, Form as ReportForm, finished, send};
+use kmip_sim_command::{SimInput, push_sim, run_sim};
 use kmip_ttlv::NoMemory;
 use std::alloc::Global;
 use std::fs;
@@ -52,11 +53,63 @@ pub(crate) struct Simulated {
     batch: u64,
 }
 
+/// The plans of a simulation.
+#[derive(Drop)]
+struct Plans {
+    plan: Plan,
+    further: Option<Plan>,
+}
+
 impl Simulated {
-    fn further(&self) -> Option<&str> {
-        match &self.further {
-            Some(text) => Some(text.as_str()),
-            None => None,
+    /// What the simulation is given.
+    fn input(&self) -> SimInput<'_> {
+        SimInput {
+            detail: self.detail,
+            batch: batch_of(self.batch),
+            script: self.script.as_str(),
+        }
+    }
+
+    /// Its plans.
+    ///
+    /// # Errors
+    /// The text that is not a plan, the first of them, and its fault.
+    fn plans(&self, alloc: Global) -> Result<Plans, (&str, PlanFault)> {
+        let plan = self.plan.as_str();
+        let plan = read_plan(alloc, plan).map_err(|fault| (plan, fault))?;
+        let Some(further) = &self.further else {
+            return Ok(Plans {
+                plan,
+                further: None,
+            });
+        };
+        let text = further.as_str();
+        let further = read_plan(alloc, text).map_err(|fault| (text, fault))?;
+        Ok(Plans {
+            plan,
+            further: Some(further),
+        })
+    }
+
+    /// Runs it as the program does.
+    fn run(&self, alloc: Global, writer: &mut NotingWriter) -> ExitStatus {
+        let form = ReportForm::Text;
+        match self.plans(alloc) {
+            Ok(Plans { plan, further }) => {
+                run_sim(alloc, form, plan, further, &self.input(), writer)
+            }
+            Err((text, fault)) => refuse(alloc, text, &fault, writer),
+        }
+    }
+
+    /// Appends its report, and says whether something was refused.
+    fn push(&self, alloc: Global, text: &mut Vec<u8>) -> Result<bool, NoMemory> {
+        let form = ReportForm::Text;
+        match self.plans(alloc) {
+            Ok(Plans { plan, further }) => {
+                push_sim(alloc, form, plan, further, &self.input(), text)
+            }
+            Err((plan, fault)) => push_refused(alloc, plan, &fault, text),
         }
     }
 }
@@ -166,14 +219,7 @@ impl Command {
                 ),
                 Err(fault) => refuse(alloc, plan.as_str(), &fault, writer),
             },
-            Command::Simulate(case) => {
-                let input = SimInput {
-                    detail: case.detail,
-                    batch: batch_of(case.batch),
-                    script: case.script.as_str(),
-                };
-                run_sim(alloc, case.plan.as_str(), &input, case.further(), writer)
-            }
+            Command::Simulate(case) => case.run(alloc, writer),
         }
     }
 
@@ -188,19 +234,14 @@ impl Command {
             Command::Answer => answer(alloc, reader, writer),
             Command::AnswerStream => Ok(!answer_stream(alloc, reader, writer)?.is_whole()),
             Command::Show(form) => show_lines(alloc, *form, reader, writer),
-            Command::Check(_) | Command::CheckAfter { .. } | Command::List { .. } => {
+            Command::Check(_)
+            | Command::CheckAfter { .. }
+            | Command::List { .. }
+            | Command::Simulate(_) => {
                 let mut text = Vec::new(alloc);
                 let is_refused = self.push_report(alloc, &mut text)?;
                 send(text.as_slice(), false, writer)?;
                 Ok(is_refused)
-            }
-            Command::Simulate(case) => {
-                let input = SimInput {
-                    detail: case.detail,
-                    batch: batch_of(case.batch),
-                    script: case.script.as_str(),
-                };
-                sim(alloc, case.plan.as_str(), &input, case.further(), writer)
             }
         }
     }
@@ -216,21 +257,14 @@ impl Command {
             Command::Answer => Ok(answer_bytes(alloc, input, output)?),
             Command::AnswerStream => Ok(!answer_stream_bytes(alloc, input, output)?.is_whole()),
             Command::Show(form) => Ok(show_bytes(alloc, *form, input, output)?),
-            Command::Check(_) | Command::CheckAfter { .. } | Command::List { .. } => {
-                Ok(self.push_report(alloc, output)?)
-            }
-            Command::Simulate(case) => {
-                let input = SimInput {
-                    detail: case.detail,
-                    batch: batch_of(case.batch),
-                    script: case.script.as_str(),
-                };
-                Ok(sim_bytes(alloc, case.plan.as_str(), &input, case.further(), output)?)
-            }
+            Command::Check(_)
+            | Command::CheckAfter { .. }
+            | Command::List { .. }
+            | Command::Simulate(_) => { Ok(self.push_report(alloc, output)?) }
         }
     }
 
-    /// Appends the report of `check`, `check --after` or `list`, and says whether something was refused.
+    /// Appends the report of `check`, `check --after`, `list` or `sim`, and says whether something was refused.
     fn push_report(&self, alloc: Global, text: &mut Vec<u8>) -> Result<bool, NoMemory> {
         let form = ReportForm::Text;
         match self {
@@ -243,9 +277,8 @@ impl Command {
                 Err(fault) => push_refused(alloc, plan.as_str(), &fault, text),
             },
             Command::Check(plan) => push_check(alloc, form, plan.as_str(), None, text),
-            Command::Answer | Command::AnswerStream | Command::Show(_) | Command::Simulate(_) => Ok(
-                false,
-            ),
+            Command::Simulate(case) => case.push(alloc, text),
+            Command::Answer | Command::AnswerStream | Command::Show(_) => Ok(false),
         }
     }
 }

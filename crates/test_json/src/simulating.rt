@@ -3,10 +3,10 @@ ghost use Rattle.std.specs.Prelude.{IsTrue};
 ghost use Rattle.kmip_messages.specs.Members.{may_have};
 
 use crate::asserting::{PLAN, assert_lines};
-use kmip_json::push_sim_end;
-use kmip_plan::PlanFault;
-use kmip_plan_commands::{Detail, SimEnd, SimInput, sim_to_end};
-use kmip_ttlv::{NoMemory, Text};
+use kmip_plan::{Plan, PlanFault, read_plan};
+use kmip_report::Form;
+use kmip_sim_command::{Detail, SimEnd, SimInput, push_sim_end, sim_to_end};
+use kmip_ttlv::NoMemory;
 use std::alloc::Global;
 use std::test::Fail;
 
@@ -46,13 +46,19 @@ const TWO_KEYS_LINES: [&str; 9] = [
     r#"{"version":1,"record":"2","name":"second","state":"Destroyed"}"#,
 ];
 
-const FAULT_LINES: [&str; 6] = [
-    r#"{"version":1,"fault":"plan refused","number":2,"name":"NoKeys","field":null,"key":null,"line":null,"at":null,"why":null,"cause":null}"#,
-    r#"{"version":1,"fault":"plan refused","number":5,"name":"Unknown","field":"k\"","key":3,"line":null,"at":null,"why":null,"cause":null}"#,
+const FAULT_LINES: [&str; 4] = [
     r#"{"version":1,"fault":"plan refused","at":null,"why":"it does not prolong the plan before","cause":null}"#,
     r#"{"version":1,"fault":"script refused","line":2,"at":null,"why":null,"cause":null}"#,
     r#"{"version":1,"fault":"script refused","line":0,"at":null,"why":null,"cause":null}"#,
     r#"{"version":1,"fault":"crash refused","run":1,"at":null,"why":null,"cause":null}"#,
+];
+
+/// The same ends in text.
+const FAULT_TEXTS: [&str; 4] = [
+    "plan refused: prolongs not",
+    "script refused: line 2",
+    "script refused: line 0",
+    "crash refused: run 1: its disk makes fewer calls, or leaves no such file",
 ];
 
 /// What is given of a script, with at most two keys in a message.
@@ -66,26 +72,39 @@ fn input(script: &str) -> SimInput<'_>
     }
 }
 
-/// Appends the lines of the end of a simulation.
-fn push_simulated(
-    alloc: Global,
-    plan: &str,
-    script: &str,
-    further: Option<&str>,
-    text: &mut Vec<u8>,
-) -> Result<(), NoMemory> {
-    let end = sim_to_end(alloc, plan, &input(script), further)?;
-    push_sim_end(alloc, &end, text)
+/// The end of a simulation of the plan of a text, and of a further one if there is one.
+fn end_of(alloc: Global, plan: &str, script: &str, further: Option<&str>) -> Result<SimEnd, Fail> {
+    let plan = plan_of(alloc, plan)?;
+    let further = match further {
+        Some(text) => Some(plan_of(alloc, text)?),
+        None => None,
+    };
+    Ok(sim_to_end(alloc, plan, further, &input(script))?)
+}
+
+/// The plan of a text.
+fn plan_of(alloc: Global, text: &str) -> Result<Plan, Fail> {
+    match read_plan(alloc, text) {
+        Ok(plan) => Ok(plan),
+        Err(PlanFault::NoMemory) => Err(Fail::new("no memory")),
+        Err(_) => Err(Fail::new("not a plan")),
+    }
+}
+
+/// Appends the documents of the end of a simulation.
+fn push_simulated(alloc: Global, plan: &str, script: &str, text: &mut Vec<u8>) -> Result<(), Fail> {
+    let end = end_of(alloc, plan, script, None)?;
+    Ok(push_sim_end(alloc, Form::Json, Detail::Runs, &end, text)?)
 }
 
 #[test]
 fn writes_how_a_simulation_ended(rt: HostRuntime) -> Result<(), Fail> {
     let alloc = rt.alloc();
     let mut text = Vec::new(alloc);
-    push_simulated(alloc, ONE_KEY, LOST_CREATE, None, &mut text)?;
+    push_simulated(alloc, ONE_KEY, LOST_CREATE, &mut text)?;
     assert_lines(&rt, alloc, text.as_slice(), &LOST_CREATE_LINES)?;
     let mut text = Vec::new(alloc);
-    push_simulated(alloc, PLAN, "pass\nlose-reply\nsave\n", None, &mut text)?;
+    push_simulated(alloc, PLAN, "pass\nlose-reply\nsave\n", &mut text)?;
     assert_lines(&rt, alloc, text.as_slice(), &TWO_KEYS_LINES)?;
     Ok(())
 }
@@ -93,28 +112,20 @@ fn writes_how_a_simulation_ended(rt: HostRuntime) -> Result<(), Fail> {
 #[test]
 fn writes_the_runs_before_memory_ran_out(rt: HostRuntime) -> Result<(), Fail> {
     let alloc = rt.alloc();
-    let end = sim_to_end(alloc, ONE_KEY, &input(LOST_CREATE), None)?;
-    let SimEnd::Ran(mut simulation) = end else {
+    let SimEnd::Ran(mut simulation) = end_of(alloc, ONE_KEY, LOST_CREATE, None)? else {
         return Err(Fail::new("nothing was simulated"));
     };
     simulation.end.fault = Some(NoMemory);
+    let end = SimEnd::Ran(simulation);
     let mut text = Vec::new(alloc);
-    push_sim_end(alloc, &SimEnd::Ran(simulation), &mut text)?;
+    push_sim_end(alloc, Form::Json, Detail::Diagram, &end, &mut text)?;
     assert_lines(&rt, alloc, text.as_slice(), &LOST_CREATE_LINES[..1])?;
     Ok(())
 }
 
-/// Appends the line of a plan that is refused for a word that no plan has.
-fn push_unknown(alloc: Global, text: &mut Vec<u8>) -> Result<(), NoMemory> {
-    let word = Text::copied(alloc, "k\"")?;
-    let end = SimEnd::PlanRefused(PlanFault::Unknown(word, 3));
-    push_sim_end(alloc, &end, text)
-}
-
-/// A plan, a script and a further plan of which nothing is simulated, in the order of the lines above but for the
-/// second.
+/// A plan, a script and a further plan of which nothing is simulated, in the order of the lines above.
 const REFUSED: [(&str, &str, Option<&str>); 4] = [
-    (PLAN, "prolong\n", Some(ONE_KEY)),
+    (ONE_KEY, LOST_CREATE, Some(PLAN)),
     (ONE_KEY, "pass\nlose\n", None),
     (ONE_KEY, LOST_CREATE, Some(ONE_KEY)),
     (ONE_KEY, "pass\ncrash 4 torn\n", None),
@@ -123,20 +134,14 @@ const REFUSED: [(&str, &str, Option<&str>); 4] = [
 #[test]
 fn writes_why_nothing_was_simulated(rt: HostRuntime) -> Result<(), Fail> {
     let alloc = rt.alloc();
+    let mut documents = Vec::new(alloc);
     let mut text = Vec::new(alloc);
-    push_simulated(alloc, "", LOST_CREATE, Some(PLAN), &mut text)?;
-    push_unknown(alloc, &mut text)?;
     for (plan, script, further) in REFUSED {
-        push_simulated(alloc, plan, script, further, &mut text)?;
+        let end = end_of(alloc, plan, script, further)?;
+        push_sim_end(alloc, Form::Json, Detail::Runs, &end, &mut documents)?;
+        push_sim_end(alloc, Form::Text, Detail::Exchanges, &end, &mut text)?;
     }
-    assert_lines(&rt, alloc, text.as_slice(), &FAULT_LINES)?;
+    assert_lines(&rt, alloc, documents.as_slice(), &FAULT_LINES)?;
+    assert_lines(&rt, alloc, text.as_slice(), &FAULT_TEXTS)?;
     Ok(())
-}
-
-#[test]
-fn writes_no_line_of_want_of_memory(rt: HostRuntime) {
-    let alloc = rt.alloc();
-    let mut text = Vec::new(alloc);
-    let wanting = push_sim_end(alloc, &SimEnd::PlanRefused(PlanFault::NoMemory), &mut text);
-    assert!(rt; wanting.is_err());
 }

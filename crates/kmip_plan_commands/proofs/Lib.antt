@@ -1,4 +1,0 @@
-pub mod CourseLemmas
-pub mod ProgressLineLemmas
-mod SimulatingLemmas
-pub mod TrueTextLemmas

@@ -1,6 +1,0 @@
--- Without a fault it says whether a key is left unfinished.
-use Rattle.std.proofs.Common.{rules}
-use Rattle.kmip_plan_commands.proofs.sim_end.campaign_outcome.Goals as goal
-
-pub returns-in-None : goal.returns-in-None
-returns-in-None c = search rules

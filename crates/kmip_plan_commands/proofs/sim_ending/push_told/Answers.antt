@@ -1,6 +1,0 @@
--- The exchanges are traced where they are asked for.
-use Rattle.std.proofs.Common.{rules}
-use Rattle.kmip_plan_commands.proofs.sim_ending.push_told.Goals as goal
-
-pub returns-in-Exchanges-None : goal.returns-in-Exchanges-None
-returns-in-Exchanges-None c = search rules

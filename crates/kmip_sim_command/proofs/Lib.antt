@@ -1,0 +1,3 @@
+mod PrintingLemmas
+mod ReportLemmas
+mod SimulatingLemmas

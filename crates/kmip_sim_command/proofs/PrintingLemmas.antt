@@ -1,0 +1,72 @@
+-- What holds of a report that was made holds of how it was printed.
+use Rattle.std.proofs.Common.{◌≡◌, ◌⊎◌, inl, inr, ℕ, Bool, List, [], ◌++◌, Option, Result, Ok, Err, subst, sym, ◌∙◌}
+use Rattle.std.specs.Io.KnownBytes.{Appends}
+use Rattle.std.proofs.KnownBytes.{Appends-trans}
+use Rattle.kmip_ttlv.specs.declared.no_memory.NoMemory.{NoMemory}
+use Rattle.kmip_plan.specs.declared.key.Key.{Key}
+use Rattle.kmip_report.specs.Endings.{FailsBy, IfFailed, IfWhole, UnlessOutput}
+use Rattle.kmip_report.specs.declared.command_fault.CommandFault.{CommandFault}
+use Rattle.kmip_report.specs.declared.command_fault.CommandFault.TheVariants as faults
+use Rattle.kmip_report.specs.declared.exit_status.ExitStatus.{ExitStatus}
+use Rattle.kmip_report.specs.declared.exit_status.ExitStatus.TheVariants.{Done, Refused, Failed, Usage}
+use Rattle.kmip_report.specs.declared.form.Form.{Form}
+use Rattle.kmip_sim_command.specs.Writing.{BreaksOffSim, TellsSim, WritesSim}
+use Rattle.kmip_sim_command.specs.declared.sim_input.SimInput.{SimInput}
+
+-- what was made is an error, so the command failed
+pub fails_by : (status : ExitStatus) (made : Result Bool NoMemory) (want : NoMemory) (P : CommandFault → Type 0) → made ≡ Err want → IfWhole status (λ r. made ≡ Ok r) → IfFailed status P
+    → FailsBy status P
+fails_by Done made want P is whole failed = let both = sym is ∙ whole in absurd cc
+fails_by Refused made want P is whole failed = let both = sym is ∙ whole in absurd cc
+fails_by (Failed fault) made want P is whole failed = failed
+fails_by Usage made want P is whole failed = absurd whole
+
+-- a command that failed did not end otherwise
+pub not_whole : (status : ExitStatus) (P : CommandFault → Type 0) (Q : Bool → Type 0) → FailsBy status P → IfWhole status Q
+not_whole Done P Q fails = absurd fails
+not_whole Refused P Q fails = absurd fails
+not_whole (Failed fault) P Q fails = tt
+not_whole Usage P Q fails = absurd fails
+
+pub if_failed : (status : ExitStatus) (P : CommandFault → Type 0) → FailsBy status P → IfFailed status P
+if_failed Done P fails = absurd fails
+if_failed Refused P fails = absurd fails
+if_failed (Failed fault) P fails = fails
+if_failed Usage P fails = absurd fails
+
+-- what was written first, and then the line
+joined_by : (fault : CommandFault) (old mid new : Option (List ℕ)) (runs line : List ℕ) → Appends old mid runs → UnlessOutput fault (Appends mid new line)
+    → UnlessOutput fault (Appends old new (runs ++ line))
+joined_by faults.Input old mid new runs line first then = Appends-trans old mid new runs line first then
+joined_by faults.Output old mid new runs line first then = tt
+joined_by faults.NoMemory old mid new runs line first then = Appends-trans old mid new runs line first then
+
+pub joined : (status : ExitStatus) (old mid new : Option (List ℕ)) (runs line : List ℕ) → Appends old mid runs → FailsBy status (λ fault. UnlessOutput fault (Appends mid new line))
+    → FailsBy status (λ fault. UnlessOutput fault (Appends old new (runs ++ line)))
+joined Done old mid new runs line first fails = absurd fails
+joined Refused old mid new runs line first fails = absurd fails
+joined (Failed fault) old mid new runs line first fails = joined_by fault old mid new runs line first fails
+joined Usage old mid new runs line first fails = absurd fails
+
+module _ (form : Form) (keys : List Key) (further : Option (List Key)) (input : SimInput) (text tail : List ℕ) (old new : Option (List ℕ)) where
+  -- the report was written
+  pub whole : (status : ExitStatus) (ended : Result Bool NoMemory) → TellsSim form keys further input ended text → IfWhole status (λ r. Appends old new text)
+      → IfWhole status (λ r. ended ≡ Ok r) → IfWhole status (λ r. WritesSim form keys further input r old new)
+  whole Done ended tells written is = record { text = text; tells = subst (λ e. TellsSim form keys further input e text) is tells; written = written }
+  whole Refused ended tells written is = record { text = text; tells = subst (λ e. TellsSim form keys further input e text) is tells; written = written }
+  whole (Failed fault) ended tells written is = tt
+  whole Usage ended tells written is = absurd written
+
+  broken_by : (fault : CommandFault) → ((text ≡ []) ⊎ ((want : NoMemory) × TellsSim form keys further input (Err want) text)) → UnlessOutput fault (Appends old new (text ++ tail))
+      → UnlessOutput fault (BreaksOffSim form keys further input tail old new)
+  broken_by faults.Input tells written = record { text = text; tells = tells; written = written }
+  broken_by faults.Output tells written = tt
+  broken_by faults.NoMemory tells written = record { text = text; tells = tells; written = written }
+
+  -- nothing was written, or the runs before memory ran out, and then the line
+  pub broken : (status : ExitStatus) → ((text ≡ []) ⊎ ((want : NoMemory) × TellsSim form keys further input (Err want) text))
+      → IfFailed status (λ fault. UnlessOutput fault (Appends old new (text ++ tail))) → IfFailed status (λ fault. UnlessOutput fault (BreaksOffSim form keys further input tail old new))
+  broken Done tells written = tt
+  broken Refused tells written = tt
+  broken (Failed fault) tells written = broken_by fault tells written
+  broken Usage tells written = absurd written
