@@ -1,4 +1,4 @@
--- How the program ends after a command, and what was written then. For kmip_plan_commands and kmip_look_command too: no clause can speak of any property of what was written.
+-- How the program ends after a command, and what was written then.
 use Rattle.std.proofs.Common.{◌≡◌, ℕ, Bool, true, false, List, [], ◌∷◌, ◌++◌, Option, Some, None, IfSome, Result, Ok, Err, IfOk, OnOk, refl, sym, ap, subst, ◌∙◌, append-nil}
 use Rattle.std.specs.Result.{IfErr, OnErr}
 use Rattle.std.specs.Io.KnownBytes.{Appends}

@@ -14,12 +14,11 @@ use crate::until_run::UntilRun;
 use kmip_account::{Account, Findings, RunObserver};
 use kmip_choices::RunOptions;
 use kmip_look::{Pause, Why};
-use kmip_plan_report::print_report;
 use kmip_protocol::Link;
 use kmip_refresh::{
     Agreement, Beginning, KeyLook, Refresh, RefreshOutcome, Refreshed, run_refreshed,
 };
-use kmip_report::ExitStatus;
+use kmip_report::{ExitStatus, print_report};
 use kmip_run_command::{RunEnd, RunInput, Unanswered, begin, push_run_end};
 use kmip_run_files::{MachineKeeper, Start};
 use kmip_runs::{Observed, Pace};

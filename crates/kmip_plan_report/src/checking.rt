@@ -4,46 +4,44 @@ ghost use Rattle.std.specs.Io.KnownBytes.{Appends};
 ghost use Rattle.kmip_objects.specs.Lifecycle.{step_word};
 ghost use Rattle.kmip_plan.specs.Chains.{chain};
 ghost use Rattle.kmip_plan.specs.Reading.{plan_read};
-ghost use Rattle.kmip_report.specs.Endings.{IfFailed, IfWhole, UnlessOutput};
+ghost use Rattle.kmip_report.specs.Endings.{FailsToPrint, IfFailed, IfWhole};
 ghost use Rattle.kmip_report.specs.FaultLines.{no_memory};
 ghost use Rattle.kmip_report.specs.PieceViews.{pieces_of};
 ghost use Rattle.kmip_report.specs.Pieces.{line_in, report_in};
 ghost use Rattle.kmip_plan_report.specs.Checking.{check_line, check_lines, check_report, is_plan_refused};
 ghost use Rattle.kmip_plan_report.specs.Refusals.{Site};
 
-use crate::printing::print_report;
 use crate::refusing::push_refused_plan;
 use crate::steps::step_words;
 use kmip_plan::{Key, algorithm_word, read_plan};
-use kmip_report::{ExitStatus, Form, Piece, push_line};
+use kmip_report::{ExitStatus, Form, Piece, Printer, print_report, push_line};
 use kmip_ttlv::NoMemory;
 use std::alloc::Global;
-use std::io::Write;
 
 /// Runs `check` on the text of a plan, which is that of the file at this path: prints the report, or
 /// that memory ran out. Returns how the program ends.
-pub fn run_check<W: Write>(
+pub fn run_check<P: Printer>(
     alloc: Global,
     form: Form,
     plan: &str,
     at: Option<&str>,
-    writer: &mut W,
+    printer: &mut P,
 ) -> ExitStatus
-    // If it ends with `Done` or `Refused`, exactly the report of the text is written, with some site of
+    // If it ends with `Done` or `Refused`, exactly the report of the text is printed, with some site of
     // the fault if that is not a plan. It never ends with `Usage`.
     ensures text { IfWhole result (λ _. (found : Site)
-        × Appends (W.contents writer.old) (W.contents writer.new) (report_in form
+        × Appends (P.contents printer.old) (P.contents printer.new) (report_in form
         (check_report (plan_read plan.now) (option_map (λ path. path.now) at.entry) found))) }
     // It ends with `Refused`, not `Done`, exactly if the text is not a plan.
     ensures refused { IfWhole result (λ r. r ≡ is_plan_refused (plan_read plan.now)) }
-    // If it ends with `Failed`, exactly the line for running out of memory is written, unless the
-    // writer failed.
-    ensures broken { IfFailed result (λ fault. UnlessOutput fault
-        (Appends (W.contents writer.old) (W.contents writer.new) (line_in form no_memory))) }
+    // If it ends with `Failed`, memory ran out, and exactly the line of that is printed; or the printer
+    // failed.
+    ensures broken { IfFailed result (λ fault. FailsToPrint (line_in form no_memory) fault
+        P.own_fault P.IsWhole (P.contents printer.old) (P.contents printer.new)) }
 {
     let mut text = Vec::new(alloc);
     let made = push_check(alloc, form, plan, at, &mut text);
-    print_report(form, made, text.as_slice(), writer)
+    print_report(form, made, text.as_slice(), printer)
 }
 
 /// Appends the report of the text of a plan, which is that of the file at this path: a line for each

@@ -2,7 +2,7 @@
 ghost use Rattle.std.specs.Prelude.{◌≡◌, ◌++◌, ◌↔◌, IsTrue, IfOk, OnOk, not, option_map};
 ghost use Rattle.std.specs.Io.KnownBytes.{Appends};
 ghost use Rattle.kmip_plan.specs.Reading.{plan_read};
-ghost use Rattle.kmip_report.specs.Endings.{IfFailed, IfWhole, UnlessOutput};
+ghost use Rattle.kmip_report.specs.Endings.{FailsToPrint, IfFailed, IfWhole};
 ghost use Rattle.kmip_report.specs.FaultLines.{no_memory};
 ghost use Rattle.kmip_report.specs.PieceViews.{pieces_of};
 ghost use Rattle.kmip_report.specs.Pieces.{line_in, report_in};
@@ -11,42 +11,40 @@ ghost use Rattle.kmip_plan_report.specs.Private.{JudgesAfter};
 ghost use Rattle.kmip_plan_report.specs.Refusals.{Site};
 
 use crate::checking::push_check_lines;
-use crate::printing::print_report;
 use crate::refusing::push_refused_plan;
 use kmip_plan::{Plan, prolongs, read_plan};
-use kmip_report::{ExitStatus, Form, Member, Piece, push_line};
+use kmip_report::{ExitStatus, Form, Member, Piece, Printer, print_report, push_line};
 use kmip_ttlv::NoMemory;
 use std::alloc::Global;
-use std::io::Write;
 
 /// Runs `check --after` on a plan and the text of an earlier one, which is that of the file at this
 /// path: prints the report, or that memory ran out. Returns how the program ends.
-pub fn run_check_after<W: Write>(
+pub fn run_check_after<P: Printer>(
     alloc: Global,
     form: Form,
     plan: &Plan,
     earlier: &str,
     at: Option<&str>,
-    writer: &mut W,
+    printer: &mut P,
 ) -> ExitStatus
-    // If it ends with `Done` or `Refused`, exactly the report of the two is written, with some site of
+    // If it ends with `Done` or `Refused`, exactly the report of the two is printed, with some site of
     // the fault if the text is not a plan. It never ends with `Usage`.
     ensures text { IfWhole result (λ r. (found : Site)
-        × Appends (W.contents writer.old) (W.contents writer.new)
+        × Appends (P.contents printer.old) (P.contents printer.new)
         (report_in form (check_after_report r plan.now (plan_read earlier.now)
         (option_map (λ path. path.now) at.entry) found))) }
     // It ends with `Refused`, not `Done`, exactly if the text is not a plan, or the plan does not
     // prolong that one.
     ensures refused { IfWhole result (λ r.
         IsTrue r ↔ IsRefusedAfter plan.now (plan_read earlier.now)) }
-    // If it ends with `Failed`, exactly the line for running out of memory is written, unless the
-    // writer failed.
-    ensures broken { IfFailed result (λ fault. UnlessOutput fault
-        (Appends (W.contents writer.old) (W.contents writer.new) (line_in form no_memory))) }
+    // If it ends with `Failed`, memory ran out, and exactly the line of that is printed; or the printer
+    // failed.
+    ensures broken { IfFailed result (λ fault. FailsToPrint (line_in form no_memory) fault
+        P.own_fault P.IsWhole (P.contents printer.old) (P.contents printer.new)) }
 {
     let mut text = Vec::new(alloc);
     let made = push_check_after(alloc, form, plan, earlier, at, &mut text);
-    print_report(form, made, text.as_slice(), writer)
+    print_report(form, made, text.as_slice(), printer)
 }
 
 /// Appends the report of a plan and of the text of an earlier one, which is that of the file at this

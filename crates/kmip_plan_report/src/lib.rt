@@ -10,7 +10,6 @@ mod checking;
 mod checking_after;
 mod key_standing;
 mod listing;
-mod printing;
 mod refusing;
 mod steps;
 
@@ -20,6 +19,5 @@ pub use key_standing::{KeyStanding, standings};
 pub use listing::{
     pieces_of_key, push_client_listing, push_finished, push_list, push_listing, run_list,
 };
-pub use printing::print_report;
 pub use refusing::{push_plan_refusal, push_progress_refusal, push_refused_plan};
 pub use steps::step_words;

@@ -3,7 +3,7 @@ ghost use Rattle.std.specs.Prelude.{◌≡◌, ◌++◌, IfOk, OnOk, map, option
 ghost use Rattle.std.specs.Io.KnownBytes.{Appends};
 ghost use Rattle.kmip_progress.specs.Reading.{read_text};
 ghost use Rattle.kmip_progress.specs.Suiting.{Suits};
-ghost use Rattle.kmip_report.specs.Endings.{IfFailed, IfWhole, UnlessOutput};
+ghost use Rattle.kmip_report.specs.Endings.{FailsToPrint, IfFailed, IfWhole};
 ghost use Rattle.kmip_report.specs.FaultLines.{no_memory};
 ghost use Rattle.kmip_report.specs.PieceViews.{pieces_of};
 ghost use Rattle.kmip_report.specs.Pieces.{line_in, report_in};
@@ -20,42 +20,40 @@ ghost use Rattle.kmip_plan_report.specs.Listing.{
 ghost use Rattle.kmip_plan_report.specs.Standings.{standing_of};
 
 use crate::key_standing::{KeyStanding, standings};
-use crate::printing::print_report;
 use crate::refusing::push_progress_refusal;
 use kmip_client::{Client, Verdict, finished_count};
 use kmip_plan::{Key, Plan, chain_length};
 use kmip_progress::{Known, Progress, ProgressFault};
-use kmip_report::{ExitStatus, Form, Piece, push_line};
+use kmip_report::{ExitStatus, Form, Piece, Printer, print_report, push_line};
 use kmip_ttlv::{NoMemory, Text};
 use std::alloc::Global;
-use std::io::Write;
 
 /// Runs `list` on a plan and the text of a progress, which is that of the file at this path: prints the
 /// report, or that memory ran out. Returns how the program ends.
-pub fn run_list<W: Write>(
+pub fn run_list<P: Printer>(
     alloc: Global,
     form: Form,
     plan: &Plan,
     progress: &str,
     at: Option<&str>,
-    writer: &mut W,
+    printer: &mut P,
 ) -> ExitStatus
-    // If it ends with `Done` or `Refused`, exactly the listing or the line of the fault is written. It
+    // If it ends with `Done` or `Refused`, exactly the listing or the line of the fault is printed. It
     // never ends with `Usage`.
-    ensures text { IfWhole result (λ _. Appends (W.contents writer.old) (W.contents writer.new)
+    ensures text { IfWhole result (λ _. Appends (P.contents printer.old) (P.contents printer.new)
         (report_in form (progress_listing plan.now (option_map (λ path. path.now) at.entry)
         (read_text plan.now progress.now)))) }
     // It ends with `Refused`, not `Done`, exactly if the text is not a progress of the plan.
     ensures refused { IfWhole result (λ r.
         r ≡ is_progress_refused (read_text plan.now progress.now)) }
-    // If it ends with `Failed`, exactly the line for running out of memory is written, unless the
-    // writer failed.
-    ensures broken { IfFailed result (λ fault. UnlessOutput fault
-        (Appends (W.contents writer.old) (W.contents writer.new) (line_in form no_memory))) }
+    // If it ends with `Failed`, memory ran out, and exactly the line of that is printed; or the printer
+    // failed.
+    ensures broken { IfFailed result (λ fault. FailsToPrint (line_in form no_memory) fault
+        P.own_fault P.IsWhole (P.contents printer.old) (P.contents printer.new)) }
 {
     let mut text = Vec::new(alloc);
     let made = push_listing(alloc, form, plan, progress, at, &mut text);
-    print_report(form, made, text.as_slice(), writer)
+    print_report(form, made, text.as_slice(), printer)
 }
 
 /// Appends in this form what the text of a progress, which is that of the file at this path, says of

@@ -1,6 +1,6 @@
 -- The report of the end of a run.
 -- Source: own (text): what the program prints.
-use Rattle.std.specs.Prelude.{◌≡◌, ℕ, ◌-◌, ◌^◌, nat_lt, min, Bool, true, false, not, List, [], ◌∷◌, ◌++◌, length, drop, slice_index, sum, codes, if◌then◌else◌, Option, None, option_map}
+use Rattle.std.specs.Prelude.{◌≡◌, ℕ, ◌-◌, ◌^◌, nat_lt, min, Bool, true, false, not, List, [], ◌∷◌, ◌++◌, length, drop, slice_index, sum, codes, if◌then◌else◌, Option, Some, None, option_map}
 use Rattle.std.specs.Fmt.{decimal}
 use Rattle.std.specs.Io.KnownBytes.{Appends}
 use Rattle.serde_json.specs.Data.{string}
@@ -14,9 +14,9 @@ use Rattle.kmip_runs.specs.Stops.{is_all_finished, stop_name}
 use Rattle.kmip_runs.specs.declared.stop.Stop.{Stop}
 use Rattle.kmip_runs.specs.declared.stop.Stop.TheVariants as stops
 use Rattle.kmip_report.specs.Documents.{count, text_or_null}
-use Rattle.kmip_report.specs.FaultLines.{cause_word}
+use Rattle.kmip_report.specs.FaultLines.{cause_word, fault_pieces}
 use Rattle.kmip_report.specs.declared.cause.Cause.{Cause}
-use Rattle.kmip_report.specs.Pieces.{Piece, noted, number, report_in, said, word}
+use Rattle.kmip_report.specs.Pieces.{Piece, noted, number, report_in, said}
 use Rattle.kmip_choices.specs.declared.report.Report.{Report}
 use Rattle.kmip_choices.specs.declared.report.Report.TheVariants.{Plain, Identifiers}
 use Rattle.kmip_plan_report.specs.Listing.{key_line_with}
@@ -29,13 +29,8 @@ use Rattle.kmip_run_command.specs.declared.run_input.RunInput.{RunInput}
 use Rattle.kmip_run_command.specs.declared.run_tally.RunTally.{RunTally}
 
 -- The line of a progress that could not be saved at the path, and in JSON the reason of the system.
-unfoldable pub unsaved_line : List ℕ → Option (List ℕ) → List Piece
-unsaved_line path why =
-    word (codes "") (codes "fault") (codes "cannot write")
-    ∷ word (codes " ") (codes "at") path
-    ∷ noted (codes "why") (text_or_null why)
-    ∷ noted (codes "cause") (text_or_null None)
-    ∷ []
+abbrev pub unsaved_line : List ℕ → Option (List ℕ) → List Piece
+unsaved_line path why = fault_pieces (codes "cannot write") (codes " ") (Some path) why None
 
 -- Whether the text says the identifiers of objects.
 abbrev pub tells_identifiers : Report → Bool
@@ -103,7 +98,7 @@ stopped_report report client stop exchanges limit tally =
 -- This holds of the report of a run that ended so, for some counts of its exchanges, and for some reason of the
 -- system. Nothing is said of these.
 abbrev pub TellsEnd : RunInput → RunEnd → (List (List Piece) → Type 0) → Type 0
-TellsEnd input (Refused fault) Holds = Holds (progress_refusal fault ∷ [])
+TellsEnd input (Refused fault) Holds = Holds (progress_refusal fault (Some input.path.now) None ∷ [])
 TellsEnd input Unwritten Holds = (why : Option (List ℕ)) × Holds (unsaved_line input.path.now why ∷ [])
 TellsEnd input (Stopped client stop exchanges) Holds =
     (tally : RunTally) × Holds (stopped_report input.report client stop exchanges input.limit tally)

@@ -10,9 +10,11 @@ ghost use Rattle.std.specs.Prelude.{
   IfOk,
   map,
   min,
+  None,
   OnOk,
   option_map,
   slice_index,
+  Some,
   string_bytes,
   sum,
 };
@@ -47,7 +49,7 @@ use kmip_client::{Client, Verdict, finished_count};
 use kmip_plan::Key;
 use kmip_plan_report::{KeyStanding, pieces_of_key, push_progress_refusal, standings};
 use kmip_progress::{Known, ProgressFault};
-use kmip_report::{Cause, Form, Member, Piece, push_line, word_of_cause};
+use kmip_report::{Cause, Fault, Form, Member, Piece, push_fault, push_line, word_of_cause};
 use kmip_runs::Stop;
 use kmip_ttlv::NoMemory;
 use std::alloc::Global;
@@ -112,7 +114,7 @@ fn push_end<K: Unsaved, O: Counting>(
         text.new.items ≡ text.old.items ++ report_in input.now.form lines)) }
 {
     match end {
-        RunEnd::Refused(fault) => push_refused(alloc, input.form, *fault, text),
+        RunEnd::Refused(fault) => push_refused(alloc, input.form, *fault, input.path, text),
         RunEnd::Unwritten => {
             let why = keeper.why(alloc)?;
             push_unsaved(alloc, input.form, input.path, words_of(&why), text)
@@ -139,12 +141,13 @@ fn push_refused(
     alloc: Global,
     form: Form,
     fault: ProgressFault,
+    path: &str,
     text: &mut Vec<u8>,
 ) -> Result<(), NoMemory>
-    ensures { OnOk result (text.new.items
-        ≡ text.old.items ++ report_in form (progress_refusal fault ∷ [])) }
+    ensures { OnOk result (text.new.items ≡ text.old.items
+        ++ report_in form (progress_refusal fault (Some path.now) None ∷ [])) }
 {
-    push_progress_refusal(alloc, form, fault, text)
+    push_progress_refusal(alloc, form, fault, Some(path), None, text)
 }
 
 /// Appends the report of a progress that could not be saved, with the reason of the system.
@@ -158,13 +161,14 @@ fn push_unsaved<'a>(
     ensures { OnOk result (text.new.items ≡ text.old.items ++ report_in form
         (unsaved_line path.entry.now (option_map (λ words. words.now) why.entry) ∷ [])) }
 {
-    let pieces: [Piece<'a>; 4] = [
-        Piece::word("", "fault", "cannot write"),
-        Piece::word(" ", "at", path),
-        Piece::Noted(Member::text_or_null("why", why)),
-        Piece::Noted(Member::text_or_null("cause", None)),
-    ];
-    push_line(alloc, form, &pieces, text)
+    let fault = Fault {
+        fault: "cannot write",
+        between: " ",
+        at: Some(path),
+        why,
+        cause: None,
+    };
+    push_fault(alloc, form, &fault, text)
 }
 
 /// The words, if there are any.

@@ -1,9 +1,8 @@
 //! The command `run`: a plan is carried out over a link, and how that ended is printed.
 ghost use Rattle.std.specs.Prelude.{IfOk, IsTrue, Some};
-ghost use Rattle.std.specs.Io.KnownBytes.{Appends};
 ghost use Rattle.kmip_messages.specs.Members.{may_have};
 ghost use Rattle.kmip_protocol.specs.Past.{is_planned};
-ghost use Rattle.kmip_report.specs.Endings.{IfFailed, IfWhole, UnlessOutput};
+ghost use Rattle.kmip_report.specs.Endings.{FailsToPrint, IfFailed, IfWhole};
 ghost use Rattle.kmip_report.specs.FaultLines.{no_memory};
 ghost use Rattle.kmip_report.specs.Pieces.{line_in};
 ghost use Rattle.kmip_run_command.specs.Course.{AreUntouched, AsksFew, IsGoodStart, KeepsSafe, LeavesTrue, run_state};
@@ -16,13 +15,11 @@ use crate::ending::push_run_end;
 use crate::run_input::RunInput;
 use crate::unsaved::Unsaved;
 use kmip_plan::Plan;
-use kmip_plan_report::print_report;
 use kmip_protocol::Link;
-use kmip_report::ExitStatus;
+use kmip_report::{ExitStatus, Printer, print_report};
 use kmip_runs::{Keeper, Observer, Patience};
 use kmip_ttlv::NoMemory;
 use std::alloc::Global;
-use std::io::Write;
 
 /// Carries out a plan over the link, from nothing or from what the text of a saved progress says, and prints how
 /// that ended. The keeper is given the text of what is known after each exchange. `patience` waits before each
@@ -33,8 +30,8 @@ use std::io::Write;
 /// progress is refused, it is the line of that; then nothing was asked, and nothing was saved.
 ///
 /// Returns `Done` if nothing was refused, unsaved or left unfinished, else `Refused`. Returns `Failed` if memory ran
-/// out, and then the line of that is printed instead, or if the writer failed. What the keeper was given stays.
-pub fn run<L: Link, K: Keeper + Unsaved, E: Patience, O: Observer + Counting, W: Write>(
+/// out, and then the line of that is printed instead, or if the printer failed. What the keeper was given stays.
+pub fn run<L: Link, K: Keeper + Unsaved, E: Patience, O: Observer + Counting, P: Printer>(
     alloc: Global,
     plan: &Plan,
     input: &RunInput<'_>,
@@ -42,7 +39,7 @@ pub fn run<L: Link, K: Keeper + Unsaved, E: Patience, O: Observer + Counting, W:
     keeper: &mut K,
     patience: &mut E,
     observer: &mut O,
-    writer: &mut W,
+    printer: &mut P,
 ) -> ExitStatus
     // The `batch` of the input is a number from 1 to 8.
     requires batch { IsTrue (may_have input.now.batch) }
@@ -59,7 +56,7 @@ pub fn run<L: Link, K: Keeper + Unsaved, E: Patience, O: Observer + Counting, W:
     // and about no more than the input says. Nothing is said of this if the run failed.
     ensures few { (L.seen link.old).honest (is_planned plan.now) → IfWhole result (λ _.
         AsksFew plan.now input.now.batch (L.seen link.old).past (L.seen link.new).past) }
-    // If it ends with `Done` or `Refused`, exactly the report of how it ended is written. It ends with `Refused`
+    // If it ends with `Done` or `Refused`, exactly the report of how it ended is printed. It ends with `Refused`
     // exactly if something was refused, unsaved or left unfinished. How it ended came of its exchanges (`Came`).
     ensures text { IfWhole result (λ refused. WritesEnd input.now refused
         (Ends plan.now (start_of input.now) (run_change
@@ -68,11 +65,10 @@ pub fn run<L: Link, K: Keeper + Unsaved, E: Patience, O: Observer + Counting, W:
         (run_state (L.seen link.new) (K.kept keeper.new) (E.has_given_up patience.new)
         (E.asked patience.new))
         (AreUntouched link.old link.new keeper.old keeper.new)))
-        (W.contents writer.old) (W.contents writer.new)) }
-    // If it ends with `Failed`, exactly the line for running out of memory is written, unless the writer failed.
-    ensures broken { IfFailed result (λ fault. UnlessOutput fault
-        (Appends (W.contents writer.old) (W.contents writer.new)
-        (line_in input.now.form no_memory))) }
+        (P.contents printer.old) (P.contents printer.new)) }
+    // If it ends with `Failed`, memory ran out, and exactly the line of that is printed; or the printer failed.
+    ensures broken { IfFailed result (λ fault. FailsToPrint (line_in input.now.form no_memory) fault
+        P.own_fault P.IsWhole (P.contents printer.old) (P.contents printer.new)) }
 {
     let mut report = Vec::new(alloc);
     let made = push_run(
@@ -85,7 +81,7 @@ pub fn run<L: Link, K: Keeper + Unsaved, E: Patience, O: Observer + Counting, W:
         observer,
         &mut report,
     );
-    print_report(input.form, made, report.as_slice(), writer)
+    print_report(input.form, made, report.as_slice(), printer)
 }
 
 /// Carries out a plan as `run` does, and appends the report. Returns true if something was refused, unsaved or left

@@ -4,8 +4,7 @@ ghost use Rattle.kmip_report.specs.Pieces.{line_in};
 ghost use Rattle.kmip_trouble.specs.ObstacleLines.{fault_at};
 
 use crate::told::standard_output;
-use kmip_plan_report::print_report;
-use kmip_report::{ExitStatus, Fault, Form, push_fault};
+use kmip_report::{ExitStatus, Fault, Form, print_report, push_fault};
 use kmip_ttlv::NoMemory;
 use std::alloc::Global;
 

@@ -11,12 +11,12 @@ use kmip_message_commands::{
     run_show, show_bytes, show_lines,
 };
 use kmip_plan::{Plan, PlanFault, read_plan};
-use kmip_plan_commands::batch_of;
 use kmip_plan_report::{
-    print_report, push_check, push_check_after, push_listing, push_refused_plan, run_check,
-    run_check_after, run_list,
+    push_check, push_check_after, push_listing, push_refused_plan, run_check, run_check_after,
+    run_list,
 };
-use kmip_report::{CommandFault, ExitStatus, Form as ReportForm, finished, send};
+use kmip_report::{CommandFault, ExitStatus, Form as ReportForm, finished, print_report, send};
+use kmip_run_command::batch_of;
 use kmip_sim_command::{SimInput, push_sim, run_sim};
 use kmip_ttlv::NoMemory;
 use std::alloc::Global;

@@ -3,14 +3,13 @@ ghost use Rattle.kmip_progress.specs.Suiting.{Suits};
 
 use crate::asserting::{PLAN, assert_lines, key};
 use kmip_client::Client;
-use kmip_json::push_run;
 use kmip_plan::{Plan, PlanFault, Target, read_plan};
-use kmip_run_command::RunTally;
 use kmip_plan_report::{
     push_check_after, push_check_lines, push_list, push_plan_refusal, push_progress_refusal,
 };
 use kmip_progress::{Known, Progress, ProgressFault, suits};
 use kmip_report::{Cause, Fault, Form, no_memory_line, push_contradiction, push_fault};
+use kmip_run_command::{Counting, Report, RunEnd, RunInput, RunTally, Unsaved, push_run_end};
 use kmip_runs::Stop;
 use kmip_ttlv::{NoMemory, Text};
 use std::alloc::Global;
@@ -50,11 +49,33 @@ const LIST_LINES: [&str; 3] = [
     r#"{"version":1,"finished":1,"of":2}"#,
 ];
 
+/// Of the 23 exchanges some brought a reply, and the run made as many as it may.
 const RUN_LINES: [&str; 3] = [
     r#"{"version":1,"key":"a\"b\\c","target":"active","done":2,"of":2,"verdict":"finished","identifier":"17\n","steps":2}"#,
     r#"{"version":1,"key":"second","target":"discarded","done":0,"of":2,"verdict":"working","identifier":null,"steps":0}"#,
-    r#"{"version":1,"end":"Limit","finished":1,"of":2,"exchanges":23,"lost":3,"refused":0,"unreadable":4,"steps":2,"milliseconds":412,"cause":"unreachable"}"#,
+    r#"{"version":1,"end":"Limit","finished":1,"of":2,"exchanges":23,"lost":3,"refused":0,"unreadable":4,"steps":2,"milliseconds":412,"cause":"unanswered"}"#,
 ];
+
+/// No exchange brought a reply, and the run gave up.
+const GIVEN_UP_LINE: &str =
+    r#"{"version":1,"end":"GaveUp","finished":1,"of":2,"exchanges":23,"lost":23,"refused":0,"unreadable":4,"steps":2,"milliseconds":412,"cause":"unreachable"}"#;
+
+const RUN_TEXTS: [&str; 4] = [
+    r#"a"b\c active 2/2 finished"#,
+    "second discarded 0/2 working",
+    "finished 1 of 2",
+    "stop Limit 20",
+];
+
+const RUN_TEXTS_WITH_IDENTIFIERS: [&str; 4] = [
+    r#"a"b\c active 2/2 finished 17\0A"#,
+    "second discarded 0/2 working -",
+    "finished 1 of 2",
+    "stop Limit 20",
+];
+
+const UNSAVED_LINE: &str =
+    r#"{"version":1,"fault":"cannot write","at":"over there","why":"disk full","cause":null}"#;
 
 const FAULT_LINES: [&str; 7] = [
     r#"{"version":1,"fault":"plan refused","number":7,"name":"BadLength","field":null,"key":613,"line":4903,"at":"plan.toml","why":"the length is \"100\"","cause":null}"#,
@@ -127,26 +148,64 @@ fn writes_what_is_known(rt: HostRuntime) -> Result<(), Fail> {
     Ok(())
 }
 
-/// Appends the lines of a run that went on from this progress and asked nothing.
-fn push_tallied(
+/// Counts 23 exchanges, of which this number brought no reply, and two steps of the first key.
+struct Counted {
+    lost: u64,
+}
+
+impl Counting for Counted {
+    fn tally(&mut self, alloc: Global, _client: &Client<'_>) -> Result<RunTally, NoMemory> {
+        Ok(RunTally {
+            exchanges: 23,
+            lost: self.lost,
+            unreadable: 4,
+            refused: 0,
+            milliseconds: 412,
+            steps: vec![in alloc; 2u64]?,
+            unanswered: None,
+        })
+    }
+}
+
+/// A disk that is full.
+struct FullDisk;
+
+impl Unsaved for FullDisk {
+    fn why(&self, alloc: Global) -> Result<Option<String>, NoMemory> {
+        Ok(Some(String::from_str(alloc, "disk full")?))
+    }
+}
+
+/// What a run is given that may make this number of exchanges.
+fn input(form: Form, report: Report, limit: usize) -> RunInput<'static> {
+    RunInput {
+        form,
+        report,
+        path: "over there",
+        limit,
+        batch: 1,
+        saved: None,
+    }
+}
+
+/// Appends the report of a run that went on from this progress, and stopped after 20 exchanges.
+fn push_stopped(
     alloc: Global,
     plan: &Plan,
     saved: &Progress,
+    input: &RunInput<'_>,
+    lost: u64,
     text: &mut Vec<u8>,
-) -> Result<(), NoMemory>
+) -> Result<bool, NoMemory>
     requires { Suits plan.now saved.now }
 {
     let client = Client::resume(alloc, plan, saved)?;
-    let tally = RunTally {
-        exchanges: 23,
-        lost: 3,
-        unreadable: 4,
-        refused: 0,
-        milliseconds: 412,
-        steps: vec![in alloc; 2u64]?,
-        unanswered: None,
+    let end = RunEnd::Stopped {
+        client,
+        stop: Stop::Limit,
+        exchanges: 20,
     };
-    push_run(alloc, &client, Stop::Limit, &tally, text)
+    push_run_end(alloc, input, &end, &FullDisk, &mut Counted { lost }, text)
 }
 
 #[test]
@@ -155,9 +214,50 @@ fn writes_what_came_of_a_run(rt: HostRuntime) -> Result<(), Fail> {
     let plan: Plan = read_plan(alloc, PLAN)?;
     let saved = saved(alloc)?;
     assert!(rt; suits(&plan, &saved));
+    let at_its_limit = input(Form::Json, Report::Plain, 20);
     let mut text = Vec::new(alloc);
-    push_tallied(alloc, &plan, &saved, &mut text)?;
+    assert!(rt; push_stopped(alloc, &plan, &saved, &at_its_limit, 3, &mut text)?);
     assert_lines(&rt, alloc, text.as_slice(), &RUN_LINES)?;
+    let given_up = input(Form::Json, Report::Identifiers, 21);
+    let mut text = Vec::new(alloc);
+    assert!(rt; push_stopped(alloc, &plan, &saved, &given_up, 23, &mut text)?);
+    let lines = [RUN_LINES[0], RUN_LINES[1], GIVEN_UP_LINE];
+    assert_lines(&rt, alloc, text.as_slice(), &lines)?;
+    Ok(())
+}
+
+#[test]
+fn writes_what_came_of_a_run_in_text(rt: HostRuntime) -> Result<(), Fail> {
+    let alloc = rt.alloc();
+    let plan: Plan = read_plan(alloc, PLAN)?;
+    let saved = saved(alloc)?;
+    assert!(rt; suits(&plan, &saved));
+    for (report, lines) in [
+        (Report::Plain, &RUN_TEXTS),
+        (Report::Identifiers, &RUN_TEXTS_WITH_IDENTIFIERS),
+    ] {
+        let in_text = input(Form::Text, report, 21);
+        let mut text = Vec::new(alloc);
+        assert!(rt; push_stopped(alloc, &plan, &saved, &in_text, 23, &mut text)?);
+        assert_lines(&rt, alloc, text.as_slice(), lines)?;
+    }
+    Ok(())
+}
+
+#[test]
+fn writes_that_a_run_could_not_save(rt: HostRuntime) -> Result<(), Fail> {
+    let alloc = rt.alloc();
+    for (form, line) in [
+        (Form::Json, UNSAVED_LINE),
+        (Form::Text, "cannot write over there"),
+    ] {
+        let unsaved = input(form, Report::Plain, 20);
+        let mut text = Vec::new(alloc);
+        let mut counted = Counted { lost: 0 };
+        let end = RunEnd::Unwritten;
+        assert!(rt; push_run_end(alloc, &unsaved, &end, &FullDisk, &mut counted, &mut text)?);
+        assert_lines(&rt, alloc, text.as_slice(), &[line])?;
+    }
     Ok(())
 }
 

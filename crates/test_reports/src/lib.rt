@@ -1,4 +1,4 @@
-//! Tests of kmip_json: the lines that each command prints with `--json`.
+//! Tests of the reports of commands, most of them with `--json`.
 //!
 //! The expected lines were worked out by hand from RFC 8259 and from what the commands print without it,
 //! and never from what the crate wrote.
