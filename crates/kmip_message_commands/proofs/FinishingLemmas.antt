@@ -3,6 +3,7 @@ use Rattle.std.proofs.Common.{◌≡◌, ℕ, Bool, true, false, List, [], ◌�
 use Rattle.std.specs.Result.{IfErr, OnErr}
 use Rattle.std.specs.Io.KnownBytes.{Appends}
 use Rattle.std.proofs.KnownBytes.{Appends-trans}
+use Rattle.kmip_report.proofs.EndingLemmas.{finished_broken}
 use Rattle.kmip_message_commands.specs.Judging.{are_refused, has_refused, saying_of}
 use Rattle.kmip_message_commands.specs.Private.{Response, input_read, lines_read, RespondsTo, BreaksOffAt}
 use Rattle.kmip_message_commands.specs.LineText.{input_text, lines_text, state_after_saying}

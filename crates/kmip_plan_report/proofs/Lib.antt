@@ -1,2 +1,3 @@
 mod StepLemmas
 mod PrintingLemmas
+pub mod RefusalLemmas

@@ -59,7 +59,7 @@ impl AnotherServer {
     ) -> Result<(), NoMemory>
         // What is appended is exactly that line.
         ensures { OnOk result (text.new.items
-            ≡ text.old.items ++ line_in form (another_server_line self.now)) }
+            ≡ text.old.items ++ line_in form (another_server_line self.entry.now)) }
     {
         let mut why = String::new(alloc);
         why.push_str("it was saved against ")?;

@@ -10,7 +10,7 @@ use crate::watching::{Count, Patient, Stopped};
 use kmip_client::Client;
 use kmip_plan::{Plan, read_plan};
 use kmip_report::{ExitStatus, Form};
-use kmip_run_command::{Report, RunInput, Spent, Unsaved, begin, progress_line, run};
+use kmip_run_command::{Report, RunInput, Spent, Unsaved, begin, progress_line};
 use kmip_runs::{Keeper, Pace, SaveFault, Stop, carry_out, next_wait};
 use kmip_scripted::Scripted;
 use kmip_server::ListStore;
@@ -256,7 +256,7 @@ fn run_with<K: Keeper + Unsaved, W: Write>(
         saved: order.saved,
     };
     let (link, patience, count) = (&mut case.link, &mut case.patience, &mut case.count);
-    run(
+    kmip_run_command::run(
         alloc, order.plan, &input, link, keeper, patience, count, writer,
     )
 }
