@@ -68,16 +68,18 @@ of_made : (P : Bool → Type 0) (made : Result Bool NoMemory) (r : Bool) → mad
 of_made P (Ok x) r is p = subst P (same_refusal x r is) p
 of_made P (Err want) r is p = absurd cc
 
-pub printed_end : (input : RunInput) (ends : RunEnd → Type 0) (status : ExitStatus) (made : Result Bool NoMemory) (report : List ℕ) (old new : Option (List ℕ))
-    → IfWhole status (λ r. Appends old new report) → IfWhole status (λ r. made ≡ Ok r)
-    → IfOk made (λ refused. WritesEnd input refused ends (Some []) (Some report))
+pub printed_end : (input : RunInput) (ends : RunEnd → Type 0) (status : ExitStatus) (made : Result Bool NoMemory) (before shown report : List ℕ) (old new : Option (List ℕ))
+    → before ≡ [] → shown ≡ report → IfWhole status (λ r. Appends old new shown) → IfWhole status (λ r. made ≡ Ok r)
+    → IfOk made (λ refused. WritesEnd input refused ends (Some before) (Some report))
     → IfWhole status (λ refused. WritesEnd input refused ends old new)
-printed_end input ends statuses.Done made report old new printed is w =
-    written_as input ends false report old new printed (of_made (λ refused. WritesEnd input refused ends (Some []) (Some report)) made false is w)
-printed_end input ends statuses.Refused made report old new printed is w =
-    written_as input ends true report old new printed (of_made (λ refused. WritesEnd input refused ends (Some []) (Some report)) made true is w)
-printed_end input ends (statuses.Failed fault) made report old new printed is w = tt
-printed_end input ends statuses.Usage made report old new printed is w = absurd printed
+printed_end input ends statuses.Done made before shown report old new empty same printed is w =
+    written_as input ends false report old new (subst (Appends old new) same printed)
+    (subst (λ (b : List ℕ). WritesEnd input false ends (Some b) (Some report)) empty (of_made (λ refused. WritesEnd input refused ends (Some before) (Some report)) made false is w))
+printed_end input ends statuses.Refused made before shown report old new empty same printed is w =
+    written_as input ends true report old new (subst (Appends old new) same printed)
+    (subst (λ (b : List ℕ). WritesEnd input true ends (Some b) (Some report)) empty (of_made (λ refused. WritesEnd input refused ends (Some before) (Some report)) made true is w))
+printed_end input ends (statuses.Failed fault) made before shown report old new empty same printed is w = tt
+printed_end input ends statuses.Usage made before shown report old new empty same printed is w = absurd printed
 
 -- the same of what holds only if the run did not fail
 pub printed_if : (P : Type 0) (status : ExitStatus) (made : Result Bool NoMemory) → IfWhole status (λ r. made ≡ Ok r) → IfOk made (λ r. P) → IfWhole status (λ r. P)

@@ -1,11 +1,14 @@
 -- Lines of things, one after the other.
-use Rattle.std.proofs.Common.{◌≡◌, ◌+◌, ℕ, zero, suc, List, [], ◌∷◌, ◌++◌, drop, Some, None, refl, sym, ap, ◌∙◌, arith, append_assoc, append-nil}
+use Rattle.std.proofs.Common.{◌≡◌, ◌+◌, ℕ, zero, suc, List, [], ◌∷◌, ◌++◌, drop, Some, None, Result, Ok, Err, OnOk, refl, sym, ap, ◌∙◌, arith, append_assoc, append-nil}
 use Rattle.std.specs.List.{slice_get}
 use Rattle.kmip_report.specs.Pieces.{Piece, line_in, report_in}
 use Rattle.kmip_report.specs.declared.form.Form.{Form}
+use Rattle.kmip_runs.specs.declared.campaign_end.CampaignEnd.{CampaignEnd}
+use Rattle.kmip_scripted.specs.Scenes.{Scene}
+use Rattle.kmip_server.specs.Shown.{objects_in}
 use Rattle.kmip_store.specs.declared.row.Row.{Row}
 use Rattle.kmip_store.specs.Stock.{object_of, objects_of}
-use Rattle.kmip_sim_command.specs.SimReport.{numbered_lines, record_line, record_lines}
+use Rattle.kmip_sim_command.specs.SimReport.{ask_lines, campaign_lines, link_lines, numbered_lines, record_line, record_lines, run_lines}
 
 -- the report of some lines and of others
 pub report_of_both : (form : Form) (xs ys : List (List Piece)) → report_in form (xs ++ ys) ≡ report_in form xs ++ report_in form ys
@@ -52,10 +55,6 @@ pub all_written : {X : Type 0} (form : Form) (lines_of : ℕ → X → List (Lis
 all_written form lines_of xs place old now none so_far =
     sym (append-nil now) ∙ ap (λ ys. now ++ report_in form (numbered_lines lines_of (place + 1) ys)) (sym (left_none xs place none)) ∙ so_far.whole
 
--- a report of one line is that line
-pub one_line : (form : Form) (line : List Piece) → line_in form line ≡ report_in form (line ∷ [])
-one_line form line = sym (append-nil (line_in form line))
-
 -- the same of objects, which have no numbers
 abbrev pub AreListed : Form → List Row → ℕ → List ℕ → List ℕ → Type 0
 AreListed form rows place old now =
@@ -71,3 +70,20 @@ next_listed form rows place row old now new here so_far is =
     ∙ append_assoc now (line_in form (record_line (object_of row))) behind
     ∙ ap (λ ys. now ++ report_in form (record_lines (objects_of ys))) (sym left)
     ∙ so_far
+
+-- the runs, the messages and the objects are the report of a campaign in which memory did not run out
+pub whole_campaign : {T E : Type 0} (result : Result T E) (form : Form) (old runs asks new : List ℕ) (end : CampaignEnd) (link : Scene) → end.fault ≡ None
+    → runs ≡ old ++ report_in form (run_lines end.runs.items) → asks ≡ runs ++ report_in form (ask_lines link.asked)
+    → OnOk result (new ≡ asks ++ report_in form (record_lines (objects_in link.stock))) → OnOk result (new ≡ old ++ report_in form (campaign_lines end link))
+whole_campaign (Err fault) form old runs asks new end link none first then last = tt
+whole_campaign (Ok value) form old runs asks new end link none first then last =
+    let told = run_lines end.runs.items in
+    let sent = ask_lines link.asked in
+    let objects = record_lines (objects_in link.stock) in
+    last
+    ∙ ap (λ t. t ++ report_in form objects) (then ∙ ap (λ t. t ++ report_in form sent) first)
+    ∙ append_assoc (old ++ report_in form told) (report_in form sent) (report_in form objects)
+    ∙ append_assoc old (report_in form told) (report_in form sent ++ report_in form objects)
+    ∙ ap (λ t. old ++ (report_in form told ++ t)) (sym (report_of_both form sent objects))
+    ∙ ap (λ t. old ++ t) (sym (report_of_both form told (sent ++ objects)))
+    ∙ ap (λ fault. old ++ report_in form (told ++ link_lines fault link)) (sym none)

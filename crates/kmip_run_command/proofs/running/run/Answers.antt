@@ -4,7 +4,8 @@ use Rattle.kmip_run_command.proofs.running.run.Goals as goal
 
 pub returns-clause-text : goal.returns-clause-text
 returns-clause-text g c =
-    printed_end _ _ c.print_report.result c.push_run-made.result _ _ _ c.print_report.ensures.text c.print_report.ensures.refused c.push_run-made.ensures.text
+    printed_end c.args.input.now _ c.print_report.result c.push_run-made.result _ _ c.push_run-made.new.text.items (g.P.Printer.contents c.args.printer.now) (g.P.Printer.contents c.print_report.new.printer)
+    c.new-report.ensures.items c.as_slice.ensures.value c.print_report.ensures.text c.print_report.ensures.refused c.push_run-made.ensures.text
 
 pub returns-clause-few : goal.returns-clause-few
 returns-clause-few g c = λ honest.

@@ -24,16 +24,19 @@ module _ (form : Form) (keys : List Key) (further : Option (List Key)) (input : 
   nothing (Ok refused) kept = tt
   nothing (Err want) kept = record { text = []; tells = inl refl; written = kept ∙ sym (append-nil old) }
 
-pub push_report-ended-requires : goal.push_report-ended-requires
-push_report-ended-requires c = record { batch = c.requires; empty = c.new-report.ensures.items }
+pub push_report-requires-clause-batch : goal.push_report-requires-clause-batch
+push_report-requires-clause-batch c = c.requires
+
+pub push_report-requires-clause-empty : goal.push_report-requires-clause-empty
+push_report-requires-clause-empty c = c.new-report.ensures.items
 
 pub returns-clause-text : goal.returns-clause-text
 returns-clause-text c =
-    whole _ _ _ _ c.push_report-ended.new.report.items _ _ c.in_ok-ended.ended c.in_ok-ended.ensures (c.in_ok-push_text.ensures.ok ∙ ap (λ t. c.args.text.now.items ++ t) c.as_slice.ensures.value)
+    whole _ _ _ _ c.push_report.new.report.items _ _ c.in_ok-ended.ended c.in_ok-ended.ensures (c.in_ok-push_text.ensures.ok ∙ ap (λ t. c.args.text.now.items ++ t) c.as_slice.ensures.value)
 
 pub returns-clause-broken : goal.returns-clause-broken
 returns-clause-broken c =
-    broken _ _ _ _ c.push_report-ended.new.report.items _ _ c.in_ok-ended.ended c.in_ok-ended.ensures (c.in_ok-push_text.ensures.ok ∙ ap (λ t. c.args.text.now.items ++ t) c.as_slice.ensures.value)
+    broken _ _ _ _ c.push_report.new.report.items _ _ c.in_ok-ended.ended c.in_ok-ended.ensures (c.in_ok-push_text.ensures.ok ∙ ap (λ t. c.args.text.now.items ++ t) c.as_slice.ensures.value)
 
 pub returns-in_err-ended-clause-text : goal.returns-in_err-ended-clause-text
 returns-in_err-ended-clause-text c = IfOk-from_err _ _ c.from_residual.ensures.0

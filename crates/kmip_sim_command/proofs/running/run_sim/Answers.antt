@@ -1,9 +1,15 @@
 -- What was made in memory was printed.
-use Rattle.std.proofs.Common.{ℕ, List, [], inl, inr, refl, subst}
-use Rattle.std.specs.Io.KnownBytes.{Appends}
-use Rattle.kmip_report.specs.Endings.{IfWhole}
-use Rattle.kmip_sim_command.proofs.PrintingLemmas.{broken, if_failed, not_whole, whole}
+use Rattle.std.proofs.Common.{[], inl, refl}
+use Rattle.kmip_report.proofs.PrinterLemmas.{printed_on_writer}
+use Rattle.kmip_sim_command.proofs.PrintingLemmas.{broken, if_failed}
 use Rattle.kmip_sim_command.proofs.running.run_sim.Goals as goal
 
-pub returns-in-Ok-Ok-clause-text : goal.returns-in-Ok-Ok-clause-text
-returns-in-Ok-Ok-clause-text g c = whole _ _ _ _ _ [] _ _ c.print_report.result _ c.in-Ok-Ok.ensures c.print_report.ensures.text c.print_report.ensures.refused
+pub returns-in-Ok-Ok-clause-broken : goal.returns-in-Ok-Ok-clause-broken
+returns-in-Ok-Ok-clause-broken g c =
+    let old = g.W.Write.contents c.args.writer.now in
+    let new = g.W.Write.contents c.print_report.new.printer in
+    broken _ _ _ _ [] _ old new c.print_report.result (inl refl) (printed_on_writer c.print_report.result _ _ old new c.print_report.ensures.broken)
+
+pub returns-clause-broken : goal.returns-clause-broken
+returns-clause-broken g c =
+    broken _ _ _ _ [] _ _ _ c.print_runs_before-in-Err.result (inl refl) (if_failed c.print_runs_before-in-Err.result _ c.print_runs_before-in-Err.ensures.broken)
