@@ -25,7 +25,7 @@ module _ (form : Form) (keys : List Key) (further : Option (List Key)) (input : 
   nothing (Err want) kept = record { text = []; tells = inl refl; written = kept ∙ sym (append-nil old) }
 
 pub push_report-requires-clause-batch : goal.push_report-requires-clause-batch
-push_report-requires-clause-batch c = c.requires
+push_report-requires-clause-batch c = c.requires.batch
 
 pub push_report-requires-clause-empty : goal.push_report-requires-clause-empty
 push_report-requires-clause-empty c = c.new-report.ensures.items
