@@ -5,7 +5,8 @@ use Rattle.std.specs.List.{concat}
 use Rattle.std.specs.Io.KnownBytes.{Appends}
 use Rattle.std.proofs.KnownBytes.{Appends-kept, Appends-trans}
 use Rattle.std.proofs.lemmas.List.{take_at}
-use Rattle.kmip_report.specs.Endings.{Fails, Finishes, IfFailed, UnlessOutput, fault_line}
+use Rattle.kmip_report.specs.Endings.{Finishes, IfFailed, UnlessOutput, fault_line}
+use Rattle.kmip_report.specs.Private.{Fails}
 use Rattle.kmip_report.specs.declared.exit_status.ExitStatus.{ExitStatus}
 use Rattle.kmip_report.specs.declared.exit_status.ExitStatus.TheVariants.{Done, Refused, Failed, Usage}
 use Rattle.kmip_report.specs.declared.command_fault.CommandFault.{CommandFault}

@@ -2,7 +2,8 @@
 use Rattle.std.proofs.Common.{◌≡◌, ◌≢◌, List, ℕ, [], Option, Result, Ok, Err, IfErr, sym, ◌∙◌, inl, inr}
 use Rattle.std.specs.Io.KnownBytes.{Appends}
 use Rattle.std.proofs.KnownBytes.{Appends-kept, Appends-nil}
-use Rattle.kmip_report.specs.Endings.{Fails, FailsToPrint, IfFailed, UnlessOutput}
+use Rattle.kmip_report.specs.Endings.{FailsToPrint, IfFailed, UnlessOutput}
+use Rattle.kmip_report.specs.Private.{Fails}
 use Rattle.kmip_report.specs.declared.command_fault.CommandFault.{CommandFault}
 use Rattle.kmip_report.specs.declared.exit_status.ExitStatus.{ExitStatus}
 use Rattle.kmip_report.specs.declared.exit_status.ExitStatus.TheVariants.{Done, Refused, Failed, Usage}

@@ -65,11 +65,6 @@ Finishes (Ok refused) status old new = (status ≡ status_of refused) × (new �
 Finishes (Err fault) status old new =
     FailsBy status (λ last. UnlessOutput last ((last ≡ fault) × Appends old new (fault_line fault)))
 
--- A command failed. It was for want of memory, and nothing was printed; or by the fault of its
--- printer, which then holds what it held if it takes all or nothing.
-abbrev pub Fails : CommandFault → CommandFault → Type 0 → Option (List ℕ) → Option (List ℕ) → Type 0
-Fails fault own_fault IsWhole old new = ((fault ≡ NoMemory) × Keeps old new) ⊎ ((fault ≡ own_fault) × (IsWhole → Keeps old new))
-
 -- A report was not printed. Memory ran out, and exactly the line of that was printed; or its printer failed, which
 -- then holds what it held if it takes all or nothing.
 abbrev pub FailsToPrint : List ℕ → CommandFault → CommandFault → Type 0 → Option (List ℕ) → Option (List ℕ) → Type 0

@@ -1,4 +1,4 @@
-//! The lines of a report, as text or as documents of JSON, and how a command ends.
+//! The lines of a report, in text and in JSON, and how a command ends.
 //!
 //! A line is a list of pieces. Each piece says what it adds to the text and which member it adds to
 //! the document, so one list gives a line in both forms. A document is an object on one line. Its

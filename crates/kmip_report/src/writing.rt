@@ -38,7 +38,9 @@ pub fn send<W: Write>(text: &[u8], may_wait: bool, writer: &mut W) -> Result<(),
 /// # Errors
 /// `Output` if the writer fails.
 pub fn flush<W: Write>(writer: &mut W) -> Result<(), CommandFault>
+    // Nothing more is written.
     ensures unwritten { Keeps (W.contents writer.old) (W.contents writer.new) }
+    // A fault is the writer's, `Output`.
     ensures fault { IfErr result (λ f. f ≡ Output) }
 {
     writer.flush().map_err(|_error| CommandFault::Output)

@@ -1,4 +1,4 @@
-//! Runs of a script over a server in memory, and what is written of what happened over their link.
+//! Runs of a script over a server in memory, and what happened over their link.
 //!
 //! A script tells all that lies between the client and the server: what is lost, delayed and repeated.
 #![tactic(auto)]

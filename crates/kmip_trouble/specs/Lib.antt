@@ -2,5 +2,5 @@
 
 -- the words of what cannot be done
 pub mod Words
--- the lines of what keeps a command from its work
-pub mod ObstacleLines
+-- private: the lines of what keeps a command from its work
+pub mod PrivateObstacleLines

@@ -4,7 +4,7 @@
 //! `Told` is a standard stream that tells why it fails. `print_made` prints a report that was made in
 //! memory, or that memory ran out.
 //!
-//! All is safe and total. The line of an `Obstacle` is proved in both forms (specs/ObstacleLines.antt), but
+//! All is safe and total. The line of an `Obstacle` is proved in both forms (specs/PrivateObstacleLines.antt), but
 //! for the words of the system, and for the line and the words that kmip_explaining finds for a plan.
 //! `Trouble`, `print_made`, `tell_why`, `tell_cause`, `tell_output`, `tell_of_terminal`, `standard_input`
 //! and `standard_output` have no clause, as std says nothing in contracts of the bytes of streams and of

@@ -1,7 +1,7 @@
 //! How a report that was made in memory as a whole is printed, and the line of a fault at a path.
 ghost use Rattle.std.specs.Prelude.{◌≡◌, ◌++◌, OnOk, option_map};
 ghost use Rattle.kmip_report.specs.Pieces.{line_in};
-ghost use Rattle.kmip_trouble.specs.ObstacleLines.{fault_at};
+ghost use Rattle.kmip_trouble.specs.PrivateObstacleLines.{fault_at};
 
 use crate::told::standard_output;
 use kmip_report::{ExitStatus, Fault, Form, print_report, push_fault};

@@ -2,7 +2,7 @@
 use Rattle.std.proofs.Common.{◌∷◌, [], ◌++◌, flat_map, map, refl, sym, subst, arith}
 use Rattle.std.specs.Io.KnownBytes.{Appends}
 use Rattle.std.proofs.lemmas.Result.{err_from_is_err_and}
-use Rattle.kmip_report.specs.Endings.{Fails}
+use Rattle.kmip_report.specs.Private.{Fails}
 use Rattle.kmip_probe_command.specs.Midway.{line_by}
 use Rattle.kmip_probe_command.specs.Private.{TellsEnd, rest_text}
 use Rattle.kmip_probe_command.specs.ProbeText.{making_text}
