@@ -657,7 +657,7 @@ class Troubles:
             last = json.loads(printed.splitlines()[-1])
             wanted = {name: last['exchanges'] if name == counted else 0 for name in ('lost', 'refused', 'unreadable')}
             self.look(f'{what}, in JSON', (status, 1), (self.text('progress'), known), (last['exchanges'] > 0, True),
-                      (last, last | wanted | {'end': 'Limit', 'finished': 0, 'steps': 0, 'cause': cause}))
+                      (last, last | wanted | {'end': 'GaveUp', 'finished': 0, 'steps': 0, 'cause': cause}))
 
     def end(self):
         for server in self.servers:

@@ -7,6 +7,7 @@ from calls import check_calls
 from claims import check_claims
 from comments import check_comments
 from counts import check_counts
+from document_table import check_document_table
 from headline import check_headline
 from layers import check_layers
 from links import check_links
@@ -33,7 +34,7 @@ def check(repository):
     faults += check_links() + check_names() + check_messages() + check_rows() + check_mistakes(repository) + check_ways() + check_prose()
     faults += check_uses(repository) + check_plan_schema() + check_man_pages() + check_versions()
     faults += check_calls(repository) + check_trusted() + check_big_crates()
-    faults += check_counts() + check_claims() + check_touches()
+    faults += check_counts() + check_claims() + check_touches() + check_document_table()
     print(f'{faults} places to look at' if faults else 'nothing to look at')
     return 1 if faults else 0
 
