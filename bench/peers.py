@@ -791,7 +791,7 @@ class Peers:
                 counts = [end[name] for name in ('end', 'finished', 'exchanges', 'refused', 'steps', 'cause', counted)]
                 wanted = ['AllFinished', 9, len(listed.messages), 0, sum(ALL_DONE), None, 1]
                 objects = objects_of(behind, [key.name for key in NINE])
-                keys = [{'key': key.name, 'target': key.target, 'done': key.done([found]), 'of': key.steps(),
+                keys = [{'version': 1, 'key': key.name, 'target': key.target, 'done': key.done([found]), 'of': key.steps(),
                          'verdict': 'finished', 'identifier': found[0].decode(), 'steps': key.steps()}
                         for key in NINE for found in objects[key.name]]
                 self.look(f'a server whose message {before + 1} is {in_words(bad)}, {batch} keys a message',
