@@ -149,6 +149,7 @@ fn writes_what_is_known(rt: HostRuntime) -> Result<(), Fail> {
 }
 
 /// Counts 23 exchanges, of which this number brought no reply, and two steps of the first key.
+#[derive(Drop)]
 struct Counted {
     lost: u64,
 }
@@ -168,6 +169,7 @@ impl Counting for Counted {
 }
 
 /// A disk that is full.
+#[derive(Drop)]
 struct FullDisk;
 
 impl Unsaved for FullDisk {
@@ -294,17 +296,40 @@ fn writes_faults_in_text(rt: HostRuntime) -> Result<(), Fail> {
     Ok(())
 }
 
+/// Appends the line of a plan at a path that is refused at line 4903 for this reason.
+fn push_explained<'a>(
+    alloc: Global,
+    fault: &'a PlanFault,
+    at: &'a str,
+    why: &'a str,
+    text: &mut Vec<u8>,
+) -> Result<(), NoMemory> {
+    push_plan_refusal(
+        alloc,
+        Form::Json,
+        fault,
+        Some(at),
+        Some(4903),
+        Some(why),
+        text,
+    )
+}
+
+/// Appends the line of a progress at a path that is cut.
+fn push_cut(alloc: Global, at: &str, text: &mut Vec<u8>) -> Result<(), NoMemory> {
+    push_progress_refusal(alloc, Form::Json, ProgressFault::Cut, Some(at), None, text)
+}
+
 #[test]
 fn writes_what_went_wrong(rt: HostRuntime) -> Result<(), Fail> {
     let alloc = rt.alloc();
     let mut text = Vec::new(alloc);
-    push_plan_refusal(
+    let fault = PlanFault::BadLength(613);
+    push_explained(
         alloc,
-        Form::Json,
-        &PlanFault::BadLength(613),
-        Some("plan.toml"),
-        Some(4903),
-        Some("the length is \"100\""),
+        &fault,
+        "plan.toml",
+        "the length is \"100\"",
         &mut text,
     )?;
     let word = Text::copied(alloc, "\"\\\t")?;
@@ -317,14 +342,7 @@ fn writes_what_went_wrong(rt: HostRuntime) -> Result<(), Fail> {
         None,
         &mut text,
     )?;
-    push_progress_refusal(
-        alloc,
-        Form::Json,
-        ProgressFault::Cut,
-        Some("p"),
-        None,
-        &mut text,
-    )?;
+    push_cut(alloc, "p", &mut text)?;
     push_faults(alloc, Form::Json, &mut text)?;
     text.extend_from_slice(no_memory_line(Form::Json).as_bytes())?;
     assert_lines(&rt, alloc, text.as_slice(), &FAULT_LINES)?;
