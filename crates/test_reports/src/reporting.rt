@@ -315,6 +315,11 @@ fn push_explained<'a>(
     )
 }
 
+/// Appends the line of a plan that is refused, of which no more is known.
+fn push_alone(alloc: Global, fault: &PlanFault, text: &mut Vec<u8>) -> Result<(), NoMemory> {
+    push_plan_refusal(alloc, Form::Json, fault, None, None, None, text)
+}
+
 /// Appends the line of a progress at a path that is cut.
 fn push_cut(alloc: Global, at: &str, text: &mut Vec<u8>) -> Result<(), NoMemory> {
     push_progress_refusal(alloc, Form::Json, ProgressFault::Cut, Some(at), None, text)
@@ -333,21 +338,12 @@ fn writes_what_went_wrong(rt: HostRuntime) -> Result<(), Fail> {
         &mut text,
     )?;
     let word = Text::copied(alloc, "\"\\\t")?;
-    push_plan_refusal(
-        alloc,
-        Form::Json,
-        &PlanFault::Unknown(word, 0),
-        None,
-        None,
-        None,
-        &mut text,
-    )?;
+    push_alone(alloc, &PlanFault::Unknown(word, 0), &mut text)?;
     push_cut(alloc, "p", &mut text)?;
     push_faults(alloc, Form::Json, &mut text)?;
     text.extend_from_slice(no_memory_line(Form::Json).as_bytes())?;
     assert_lines(&rt, alloc, text.as_slice(), &FAULT_LINES)?;
-    let fault = PlanFault::NoMemory;
-    let wanting = push_plan_refusal(alloc, Form::Json, &fault, None, None, None, &mut text);
+    let wanting = push_alone(alloc, &PlanFault::NoMemory, &mut text);
     assert!(rt; wanting.is_err());
     Ok(())
 }
