@@ -1,5 +1,7 @@
 //! The commands that a block carries out, each in three forms: as the program calls it, over a reader and a
 //! writer, and in memory.
+ghost use Rattle.std.specs.Prelude.{IsTrue};
+ghost use Rattle.kmip_messages.specs.Members.{may_have};
 
 use crate::readers::PieceReader;
 use crate::typed::Typed;
@@ -62,7 +64,9 @@ struct Plans {
 
 impl Simulated {
     /// What the simulation is given.
-    fn input(&self) -> SimInput<'_> {
+    fn input(&self) -> SimInput<'_>
+        ensures { IsTrue (may_have result.batch) }
+    {
         SimInput {
             detail: self.detail,
             batch: batch_of(self.batch),
