@@ -10,7 +10,7 @@ use crate::spell::Spell;
 use crate::wire::Wire;
 use kmip_choices::Peer;
 use kmip_protocol::LinkFault;
-use kmip_run_command::Spent;
+use kmip_tally::Spent;
 use kmip_ttlv::{NoMemory, plain_text};
 use std::alloc::Global;
 use std::cell::Cell;

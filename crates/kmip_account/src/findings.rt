@@ -8,8 +8,8 @@ use kmip_batch_items::Operation;
 use kmip_client::{Client, Part};
 use kmip_plan::{Key, Plan};
 use kmip_progress::ProgressFault;
-use kmip_run_command::{RunTally, Spent, begin};
-use kmip_tally::Standing;
+use kmip_run_command::begin;
+use kmip_tally::{RunTally, Spent, Standing};
 use kmip_ttlv::NoMemory;
 use std::alloc::Global;
 

@@ -4,7 +4,7 @@ use crate::last_times::LastTimes;
 use crate::look_counts::LookCounts;
 use crate::metric::Metric;
 use crate::sample_text::SampleText;
-use kmip_run_command::Spent;
+use kmip_tally::Spent;
 use std::alloc::{AllocError, Global};
 
 const KEYS: Metric = Metric(

@@ -3,8 +3,7 @@
 use crate::last_times::LastTimes;
 use crate::metric::Metric;
 use crate::sample_text::SampleText;
-use kmip_run_command::RunTally;
-use kmip_tally::Standing;
+use kmip_tally::{RunTally, Standing};
 use std::alloc::{AllocError, Global};
 
 const KEYS: Metric = Metric(

@@ -7,8 +7,9 @@ use crate::findings::Findings;
 use crate::silence::Silence;
 use kmip_batch_items::Reply;
 use kmip_client::{Client, Listener, Part};
-use kmip_run_command::{Counting, RunTally, Unanswered};
+use kmip_run_command::Counting;
 use kmip_runs::{ExchangeNews, NoReplyReason, Observer};
+use kmip_tally::{RunTally, Unanswered};
 use kmip_ttlv::NoMemory;
 use std::alloc::Global;
 

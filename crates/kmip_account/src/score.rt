@@ -6,8 +6,8 @@ use kmip_batch_items::Operation;
 use kmip_client::{Client, Part};
 use kmip_plan::{Key, Plan};
 use kmip_progress::ProgressFault;
-use kmip_run_command::{RunTally, Spent, begin};
-use kmip_tally::{Course, Standing, Verdicts};
+use kmip_run_command::begin;
+use kmip_tally::{Course, RunTally, Spent, Standing, Verdicts};
 use kmip_ttlv::NoMemory;
 use std::alloc::Global;
 

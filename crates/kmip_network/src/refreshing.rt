@@ -19,7 +19,8 @@ use kmip_refresh::{
     Agreement, Beginning, KeyLook, Refresh, RefreshOutcome, Refreshed, run_refreshed,
 };
 use kmip_report::{ExitStatus, print_report};
-use kmip_run_command::{RunEnd, RunInput, Unanswered, begin, push_run_end};
+use kmip_run_command::{RunEnd, RunInput, begin, push_run_end};
+use kmip_tally::Unanswered;
 use kmip_run_files::{MachineKeeper, Start};
 use kmip_runs::{Observed, Pace};
 use kmip_trouble::{Obstacle, Trouble, standard_output};

@@ -10,7 +10,7 @@ use Rattle.kmip_run_command.specs.RunReport.{TellsEnd, WritesEnd, end_line_of, i
 use Rattle.kmip_run_command.specs.declared.run_end.RunEnd.{RunEnd}
 use Rattle.kmip_run_command.specs.declared.run_end.RunEnd.TheVariants.{Refused, Unwritten, Stopped}
 use Rattle.kmip_run_command.specs.declared.run_input.RunInput.{RunInput}
-use Rattle.kmip_run_command.specs.declared.run_tally.RunTally.{RunTally}
+use Rattle.kmip_tally.specs.declared.run_tally.RunTally.{RunTally}
 use Rattle.kmip_report.specs.declared.cause.Cause.{Cause}
 
 -- what follows of a success

@@ -21,7 +21,7 @@ use Rattle.kmip_run_command.specs.ProgressLineText.{
   with_part,
   with_trouble,
 }
-use Rattle.kmip_run_command.specs.declared.spent.Spent.{Spent}
+use Rattle.kmip_tally.specs.declared.spent.Spent.{Spent}
 
 -- what is a narrow line
 abbrev IsNarrow : List ℕ → Type 0

@@ -8,9 +8,9 @@ use Rattle.kmip_runs.specs.Stops.{is_all_finished}
 use Rattle.kmip_runs.specs.declared.stop.Stop.{Stop}
 use Rattle.kmip_report.specs.declared.cause.Cause.{Cause}
 use Rattle.kmip_report.specs.declared.cause.Cause.TheVariants.{Unreachable, Unanswered, Refused, Conflict}
-use Rattle.kmip_run_command.specs.declared.run_tally.RunTally.{RunTally}
-use Rattle.kmip_run_command.specs.declared.unanswered.Unanswered.{Unanswered as LookUnanswered}
-use Rattle.kmip_run_command.specs.declared.unanswered.Unanswered.TheVariants as unanswered
+use Rattle.kmip_tally.specs.declared.run_tally.RunTally.{RunTally}
+use Rattle.kmip_tally.specs.declared.unanswered.Unanswered.{Unanswered as LookUnanswered}
+use Rattle.kmip_tally.specs.declared.unanswered.Unanswered.TheVariants as unanswered
 
 -- The verdict is that a key is in conflict.
 abbrev pub is_conflict : Verdict → Bool

@@ -4,7 +4,7 @@ use Rattle.std.specs.Prelude.{ℕ, ◌+◌, ◌-◌, ◌==◌, nat_le, ◌&&◌,
 use Rattle.std.specs.Fmt.{decimal}
 use Rattle.kmip_plan.specs.declared.key.Key.{Key}
 use Rattle.kmip_client.specs.Knowledge.{chain_length}
-use Rattle.kmip_run_command.specs.declared.spent.Spent.{Spent}
+use Rattle.kmip_tally.specs.declared.spent.Spent.{Spent}
 
 -- The most columns of the line. Own (limit).
 abbrev pub most_columns : ℕ

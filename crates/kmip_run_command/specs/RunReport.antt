@@ -26,7 +26,7 @@ use Rattle.kmip_run_command.specs.Causes.{cause_of}
 use Rattle.kmip_run_command.specs.declared.run_end.RunEnd.{RunEnd}
 use Rattle.kmip_run_command.specs.declared.run_end.RunEnd.TheVariants.{Refused, Unwritten, Stopped}
 use Rattle.kmip_run_command.specs.declared.run_input.RunInput.{RunInput}
-use Rattle.kmip_run_command.specs.declared.run_tally.RunTally.{RunTally}
+use Rattle.kmip_tally.specs.declared.run_tally.RunTally.{RunTally}
 
 -- The line of a progress that could not be saved at the path, and in JSON the reason of the system.
 abbrev pub unsaved_line : List ℕ → Option (List ℕ) → List Piece

@@ -3,8 +3,7 @@ ghost use Rattle.std.specs.Prelude.{◌≡◌};
 ghost use Rattle.std.specs.List.{list_any};
 ghost use Rattle.kmip_run_command.specs.Causes.{cause_of, is_conflict, look_cause, silence_cause};
 
-use crate::run_tally::RunTally;
-use crate::unanswered::Unanswered;
+use kmip_tally::{RunTally, Unanswered};
 use kmip_client::Verdict;
 use kmip_report::Cause;
 use kmip_runs::Stop;

@@ -1,6 +1,6 @@
 //! What counts the exchanges of a run.
 
-use crate::run_tally::RunTally;
+use kmip_tally::RunTally;
 use kmip_client::Client;
 use kmip_ttlv::NoMemory;
 use std::alloc::Global;

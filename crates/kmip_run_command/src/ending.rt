@@ -42,7 +42,7 @@ use crate::causes::cause_of;
 use crate::counting::Counting;
 use crate::run_end::RunEnd;
 use crate::run_input::RunInput;
-use crate::run_tally::RunTally;
+use kmip_tally::RunTally;
 use crate::unsaved::Unsaved;
 use kmip_choices::Report;
 use kmip_client::{Client, Verdict, finished_count};

@@ -17,7 +17,7 @@ ghost use Rattle.kmip_run_command.specs.ProgressLineText.{
   with_trouble,
 };
 
-use crate::spent::Spent;
+use kmip_tally::Spent;
 use kmip_client::Client;
 use kmip_plan::{Key, chain_length};
 use kmip_ttlv::NoMemory;

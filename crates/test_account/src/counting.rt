@@ -4,7 +4,7 @@ use Operation::{Activate, Create, Destroy, GetAttributes, Locate, Revoke};
 use kmip_account::{LastTimes, LookCounts, LookMetrics, Metrics};
 use kmip_batch_items::Operation;
 use kmip_plan::read_plan;
-use kmip_run_command::{RunTally, Spent};
+use kmip_tally::{RunTally, Spent};
 use kmip_tally::{Course, Standing};
 use std::process::Abort;
 use std::test::Fail;
