@@ -1,11 +1,11 @@
 //! What a look reports of its exchanges while it works, and when it was answered last.
 
+use crate::link_observer::LinkObserver;
 use crate::last_answer::LastAnswer;
 use crate::looking::MARK_BYTES;
 use crate::unmarked::{unmarked_reply, unmarked_request};
 use kmip_account::ExchangeLog;
 use kmip_protocol::LinkFault;
-use kmip_runs::LinkObserver;
 use std::cell::Cell;
 
 /// Notes when an answer came, and gives each exchange to the log. The mark of the look, which is in the ids of

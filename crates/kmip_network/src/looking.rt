@@ -1,5 +1,6 @@
 //! The program `look`, over sockets.
 
+use crate::observed::Observed;
 use crate::last_answer::LastAnswer;
 use crate::linking::{loopback, tcp_link, unix_link};
 use crate::look_pause::LookPause;
@@ -14,7 +15,6 @@ use kmip_protocol::Link;
 use kmip_report::{ExitStatus, Form, print_report};
 use kmip_run_command::batch_of;
 use kmip_run_files::{LookMetricsFile, plan_at};
-use kmip_runs::Observed;
 use kmip_trouble::{Cannot, Trouble, standard_output};
 use kmip_ttlv::NoMemory;
 use std::cell::Cell;

@@ -1,5 +1,6 @@
 //! The program `probe`, over sockets.
 
+use crate::observed::Observed;
 use crate::linking::{loopback, tcp_link, unix_link};
 use crate::watcher::Watcher;
 use kmip_account::ExchangeLog;
@@ -7,7 +8,6 @@ use kmip_choices::{Peer, ProbeOptions};
 use kmip_probe_command::{probe, run_probe};
 use kmip_protocol::Link;
 use kmip_report::{CommandFault, ExitStatus, Form};
-use kmip_runs::Observed;
 use kmip_trouble::{Trouble, print_made, standard_output};
 use kmip_ttlv::NoMemory;
 use std::io::BufWriter;

@@ -2,6 +2,7 @@
 ghost use Rattle.std.specs.Prelude.{IsTrue};
 ghost use Rattle.kmip_messages.specs.Members.{may_have};
 
+use crate::observed::Observed;
 use crate::agreeing::Agreeing;
 use crate::disagreeing::{contradiction, report_unanswered};
 use crate::last_answer::LastAnswer;
@@ -22,7 +23,7 @@ use kmip_report::{ExitStatus, print_report};
 use kmip_run_command::{RunEnd, RunInput, begin, push_run_end};
 use kmip_tally::Unanswered;
 use kmip_run_files::{MachineKeeper, Start};
-use kmip_runs::{Observed, Pace};
+use kmip_runs::Pace;
 use kmip_trouble::{Obstacle, Trouble, standard_output};
 use kmip_ttlv::NoMemory;
 use std::cell::Cell;

@@ -1,8 +1,8 @@
 //! What the look before a run reports of its exchanges.
 
+use crate::link_observer::LinkObserver;
 use crate::look_watcher::LookWatcher;
 use kmip_protocol::LinkFault;
-use kmip_runs::LinkObserver;
 use std::cell::Cell;
 
 /// Gives each exchange to the look that comes first, until the run begins, which has an observer of its own.

@@ -1,8 +1,8 @@
 //! What `probe` reports of its exchanges while it works.
 
+use crate::link_observer::LinkObserver;
 use kmip_account::ExchangeLog;
 use kmip_protocol::LinkFault;
-use kmip_runs::LinkObserver;
 
 /// Gives each exchange to the log.
 #[derive(Drop)]

@@ -1,8 +1,8 @@
 //! What may happen between a client and its server, and what holds whatever happens.
 //!
 //! This is the theory of a client and a server with a network between them that loses, repeats, delays and
-//! reorders messages, and invents none. No code is here but a few types, the trait of links, and what a
-//! failed exchange is to its caller.
+//! reorders messages, and invents none. No code is here but a few types, the traits of links and of who is told
+//! of exchanges, and what a failed exchange is to its caller.
 //!
 //! A past (`Past`) is all that was ever asked, answered and done, with the bytes that each exchange sent,
 //! what it handed over, and the objects that are there now. A move (`Move`) is what may happen next. A
@@ -45,11 +45,15 @@
 #![tactic(auto)]
 
 pub mod amid_laws;
+mod exchange_observer;
 pub mod laws;
 mod link;
 mod link_fault;
 pub mod losing_laws;
+mod no_reply_reason;
 pub mod settling_laws;
 
+pub use exchange_observer::ExchangeObserver;
 pub use link::{Link, answer_or_loss};
 pub use link_fault::LinkFault;
+pub use no_reply_reason::NoReplyReason;

@@ -12,7 +12,6 @@ ghost use Rattle.kmip_protocol.specs.Turns.{answers_part, is_unanswered, lost_ea
 ghost use Rattle.kmip_runs.specs.Drives.{Drives};
 ghost use Rattle.kmip_runs.specs.PrivateTurns.{MakesTurn, PutsQuestion};
 
-use crate::no_reply_reason::NoReplyReason;
 use crate::observer::Observer;
 use crate::stop::Stop;
 use crate::turn_fault::TurnFault;
@@ -33,7 +32,7 @@ use kmip_protocol::settling_laws::{
     room_is_left_for_prolonged_plans, sound_is_ready, the_finished_stand_at_the_end,
     who_needs_nothing_is_finished,
 };
-use kmip_protocol::{Link, LinkFault, answer_or_loss};
+use kmip_protocol::{Link, LinkFault, NoReplyReason, answer_or_loss};
 use kmip_ttlv::NoMemory;
 use std::alloc::Global;
 

@@ -1,7 +1,7 @@
 //! Is told of the exchanges of a run, as values.
 use crate::exchange_news::ExchangeNews;
-use crate::no_reply_reason::NoReplyReason;
 use kmip_client::{Client, Listener, NoListener, Part};
+use kmip_protocol::NoReplyReason;
 
 /// Is told of each exchange of a run as it is made. What it brings comes to `replied` of `Listener`, or to
 /// `missed`.

@@ -2,9 +2,10 @@
 
 use kmip_batch_items::Reply;
 use kmip_client::{Client, Listener, Part};
+use kmip_protocol::NoReplyReason;
 use kmip_run_command::Counting;
+use kmip_runs::{ExchangeNews, Observer, Pace, Patience};
 use kmip_tally::RunTally;
-use kmip_runs::{ExchangeNews, NoReplyReason, Observer, Pace, Patience};
 use kmip_ttlv::NoMemory;
 use std::alloc::Global;
 use std::cell::Cell;

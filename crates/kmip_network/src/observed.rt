@@ -9,32 +9,18 @@ use std::alloc::Global;
 /// it keeps the clauses of that trait by those of the link within: what is proved over a link holds
 /// over this one. That its observer is told no clause says; the tests count.
 #[derive(Drop)]
-pub struct Observed<L, O> {
+pub(crate) struct Observed<L, O> {
     link: L,
     observer: O,
 }
 
 impl<L: Link, O: LinkObserver> Observed<L, O> {
     /// Carries this link, and tells this observer of its exchanges. Takes no memory.
-    pub fn new(link: L, observer: O) -> Self
+    pub(crate) fn new(link: L, observer: O) -> Self
         // The link within is this one.
         ensures link { result.link ≡ link }
     {
         Observed { link, observer }
-    }
-
-    /// The link within. Takes no memory.
-    pub fn link(&self) -> &L
-        ensures { result.now ≡ self.now.link }
-    {
-        &self.link
-    }
-
-    /// Who is told. Takes no memory.
-    pub fn observer(&self) -> &O
-        ensures { result.now ≡ self.now.observer }
-    {
-        &self.observer
     }
 }
 

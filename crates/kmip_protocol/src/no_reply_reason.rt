@@ -1,6 +1,6 @@
 //! Why an exchange brought no replies to learn from.
+use crate::link_fault::LinkFault;
 use kmip_batch_items::MessageFault;
-use kmip_protocol::LinkFault;
 
 /// Why an exchange brought no replies to learn from.
 #[derive(Clone, Copy)]
