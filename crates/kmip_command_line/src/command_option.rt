@@ -19,13 +19,13 @@ use kmip_choices::SHELLS;
 use std::alloc::{AllocError, Global};
 
 /// The largest number of exchanges and of connections (own).
-pub(crate) const MOST_COUNT: u64 = 4_294_967_295;
+const MOST_COUNT: u64 = 4_294_967_295;
 
 /// The most connections that are answered in turn at once (own).
 const MOST_AT_ONCE: u64 = 64;
 
 /// The longest time that an exchange may be given, in seconds (own).
-pub(crate) const MOST_SECONDS: u64 = 3_600;
+const MOST_SECONDS: u64 = 3_600;
 
 /// The longest first wait, in milliseconds (own).
 const MOST_WAIT: u64 = 60_000;
@@ -59,6 +59,14 @@ impl CommandOption {
             FlagUnless(others) => has_word(others, other),
             FlagAlone => true,
             Flag | FlagWith(_) | Text(_) | Path(_) | Number(_, _, _) | Word(_, _) => false,
+        }
+    }
+
+    /// The number that it stands for if it is absent; none if it has no default that is a number.
+    pub(crate) fn default_number(&self) -> Option<u64> {
+        match self.2 {
+            Means(value) => value.parse::<u64>().ok(),
+            Fine | Wrong | WrongUnlessSaid(_) => None,
         }
     }
 
@@ -120,42 +128,42 @@ const RUN_LOOPBACK_OPTION: CommandOption = CommandOption(
     LOOPBACK,
 );
 
-const LIMIT_OPTION: CommandOption = CommandOption(
+pub(crate) const LIMIT_OPTION: CommandOption = CommandOption(
     "limit",
     Number("N", 0, MOST_COUNT),
     Means("10000"),
     LIMIT,
 );
 
-const BATCH_OPTION: CommandOption = CommandOption(
+pub(crate) const BATCH_OPTION: CommandOption = CommandOption(
     "batch",
     Number("B", 1, MOST_QUESTIONS as u64),
     Means("1"),
     BATCH,
 );
 
-const TIMEOUT_OPTION: CommandOption = CommandOption(
+pub(crate) const TIMEOUT_OPTION: CommandOption = CommandOption(
     "timeout",
     Number("SECONDS", 1, MOST_SECONDS),
     Means("30"),
     TIMEOUT,
 );
 
-const WAIT_OPTION: CommandOption = CommandOption(
+pub(crate) const WAIT_OPTION: CommandOption = CommandOption(
     "wait",
     Number("MILLISECONDS", 0, MOST_WAIT),
     Means("100"),
     WAIT,
 );
 
-const GIVE_UP_OPTION: CommandOption = CommandOption(
+pub(crate) const GIVE_UP_OPTION: CommandOption = CommandOption(
     "give-up",
     Number("SECONDS", 0, MOST_GIVE_UP),
     Means("300"),
     GIVE_UP,
 );
 
-const LOCK_WAIT_OPTION: CommandOption = CommandOption(
+pub(crate) const LOCK_WAIT_OPTION: CommandOption = CommandOption(
     "lock-wait",
     Number("SECONDS", 0, MOST_GIVE_UP),
     Means("0"),
@@ -207,14 +215,14 @@ const NAME_PREFIX_OPTION: CommandOption = CommandOption(
 
 const PORT_OPTION: CommandOption = CommandOption("port", Number("PORT", 0, 65_535), Wrong, PORT);
 
-const CONNECTIONS_OPTION: CommandOption = CommandOption(
+pub(crate) const CONNECTIONS_OPTION: CommandOption = CommandOption(
     "connections",
     Number("N", 0, MOST_COUNT),
     Wrong,
     CONNECTIONS,
 );
 
-const AT_ONCE_OPTION: CommandOption = CommandOption(
+pub(crate) const AT_ONCE_OPTION: CommandOption = CommandOption(
     "at-once",
     Number("N", 1, MOST_AT_ONCE),
     Means("1"),
@@ -228,7 +236,7 @@ const NOW_OPTION: CommandOption = CommandOption(
     NOW,
 );
 
-const SERVE_TIMEOUT_OPTION: CommandOption = CommandOption(
+pub(crate) const SERVE_TIMEOUT_OPTION: CommandOption = CommandOption(
     "timeout",
     Number("SECONDS", 1, MOST_SECONDS),
     Means("60"),
@@ -291,7 +299,7 @@ pub(crate) const PROBE_OPTIONS: [CommandOption; 7] = [
     JSON_OPTION,
 ];
 
-const LOOK_GIVE_UP_OPTION: CommandOption = CommandOption(
+pub(crate) const LOOK_GIVE_UP_OPTION: CommandOption = CommandOption(
     "give-up",
     Number("SECONDS", 0, MOST_GIVE_UP),
     Means("30"),

@@ -1,5 +1,6 @@
 //! The options of a command, and what the environment says of those that are absent.
 
+use crate::command_option::CommandOption;
 use crate::environment::Environment;
 use crate::setting::Setting;
 use crate::unchosen::Unchosen;
@@ -29,9 +30,12 @@ impl<'a, 'b> Given<'a, 'b> {
         }
     }
 
-    /// The number of the option of this name, or else this one.
-    pub(crate) fn number(self, name: &str, otherwise: u64) -> u64 {
-        self.options.get_one::<u64>(name).unwrap_or(otherwise)
+    /// The number of this option, or else its default. An option that has no default is 0 if it is absent.
+    pub(crate) fn number(self, option: &CommandOption) -> u64 {
+        match self.options.get_one::<u64>(option.word()) {
+            Some(number) => number,
+            None => option.default_number().unwrap_or(0),
+        }
     }
 
     /// The text of the option of this name; empty where it is absent.

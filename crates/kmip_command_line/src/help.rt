@@ -147,7 +147,7 @@ pub(crate) const PLAN: &str = "Plan file; - for standard input [env: KMIPCTL_PLA
 
 pub(crate) const SCRIPT: &str = "Script of the network, one word per line";
 
-pub(crate) const THEN: &str = "Plan that takes over at the word `prolong`";
+pub(crate) const THEN: &str = "Plan that takes over at `prolong`; - for standard input";
 
 pub(crate) const TRACE: &str = "First print each exchange, late request and end of a run";
 

@@ -1,5 +1,6 @@
 //! What the words of `check`, `sim` and `list` ask for.
 
+use crate::command_option::BATCH_OPTION;
 use crate::given::Given;
 use crate::setting::Setting;
 use crate::unchosen::Unchosen;
@@ -32,7 +33,7 @@ pub(crate) fn sim_choice(alloc: Global, given: Given<'_, '_>) -> Result<Choice, 
     let script = given.options.get_str("script").unwrap_or("");
     let detail = detail_of(given.flag("trace"), given.flag("diagram"));
     let further = given.options.get_str("then");
-    let batch = given.number("batch", 1);
+    let batch = given.number(&BATCH_OPTION);
     Ok(simulation_of(
         alloc,
         plan.as_str(),

@@ -1,6 +1,9 @@
 //! What the words of `run`, `probe` and `serve` ask for.
 
-use crate::command_option::{MOST_COUNT, MOST_SECONDS};
+use crate::command_option::{
+    AT_ONCE_OPTION, BATCH_OPTION, CONNECTIONS_OPTION, GIVE_UP_OPTION, LIMIT_OPTION,
+    LOCK_WAIT_OPTION, SERVE_TIMEOUT_OPTION, TIMEOUT_OPTION, WAIT_OPTION,
+};
 use crate::environment::Environment;
 use crate::given::Given;
 use crate::setting::Setting;
@@ -16,7 +19,7 @@ use std::net::SocketAddrV4;
 /// # Errors
 /// If a value is wrong, the run may make no exchange and is to ask the server first, or memory runs out.
 pub(crate) fn run_choice(alloc: Global, given: Given<'_, '_>) -> Result<Choice, Unchosen> {
-    let limit = given.number("limit", MOST_COUNT);
+    let limit = given.number(&LIMIT_OPTION);
     let trust = trust_of(given);
     let is_refreshed = given.flag("refresh") || trust == Trust::Believe;
     if is_refreshed && limit == 0 {
@@ -27,13 +30,13 @@ pub(crate) fn run_choice(alloc: Global, given: Given<'_, '_>) -> Result<Choice, 
         plan: given.setting(alloc, Setting::Plan)?,
         progress: given.setting(alloc, Setting::Progress)?,
         limit,
-        batch: given.number("batch", 1),
+        batch: given.number(&BATCH_OPTION),
         trust,
         is_refreshed,
-        timeout: given.number("timeout", MOST_SECONDS),
-        wait: given.number("wait", 0),
-        give_up: given.number("give-up", 0),
-        lock_wait: given.number("lock-wait", 0),
+        timeout: given.number(&TIMEOUT_OPTION),
+        wait: given.number(&WAIT_OPTION),
+        give_up: given.number(&GIVE_UP_OPTION),
+        lock_wait: given.number(&LOCK_WAIT_OPTION),
         is_verbose: given.flag("verbose"),
         report: report_of(given),
         format: given.format(),
@@ -119,7 +122,7 @@ pub(crate) fn probe_choice(alloc: Global, given: Given<'_, '_>) -> Result<Choice
     Ok(Choice::Probe(ProbeOptions {
         prefix,
         peer,
-        timeout: given.number("timeout", MOST_SECONDS),
+        timeout: given.number(&TIMEOUT_OPTION),
         is_verbose: given.flag("verbose"),
         format: given.format(),
     }))
@@ -129,10 +132,10 @@ pub(crate) fn probe_choice(alloc: Global, given: Given<'_, '_>) -> Result<Choice
 pub(crate) fn serve_options(given: Given<'_, '_>) -> ServeOptions {
     ServeOptions {
         port: given.options.get_one::<u16>("port").unwrap_or(0),
-        connections: given.number("connections", 0),
-        at_once: given.number("at-once", 1),
+        connections: given.number(&CONNECTIONS_OPTION),
+        at_once: given.number(&AT_ONCE_OPTION),
         now: given.options.get_one::<i64>("now").unwrap_or(0),
-        timeout: given.number("timeout", MOST_SECONDS),
+        timeout: given.number(&SERVE_TIMEOUT_OPTION),
         is_verbose: given.flag("verbose"),
     }
 }

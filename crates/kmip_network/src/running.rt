@@ -1,20 +1,16 @@
 //! The program `run`, over sockets and a file.
 
-use crate::linking::{loopback, tcp_link, unix_link};
+use crate::linking::{PeerLink, link_to};
 use crate::refreshing::{Refreshing, run_after_look};
 use kmip_account::{Account, Findings, RunObserver};
 use kmip_choices::{Peer, RunOptions};
-use kmip_files::ProgressFile;
-use kmip_protocol::Link;
 use kmip_report::ExitStatus;
 use kmip_run_command::{RunInput, batch_of, run};
 use kmip_run_files::{
-    MachineKeeper, MetricsFile, PlanFile, Start, check_progress, locked, plan_at,
-    progress_to_begin_with,
+    MachineKeeper, MetricsFile, Start, check_progress, locked, plan_at, progress_to_begin_with,
 };
 use kmip_runs::Pace;
 use kmip_trouble::{Trouble, standard_output};
-use std::time::Duration;
 
 /// The command `run`: the plan is read first, and the progress is checked. Then the lock is taken, the progress is
 /// read, and the server is asked by `kmip_run_command::run`, or by `kmip_refresh::run_refreshed` if it is asked about
@@ -29,65 +25,30 @@ pub fn run_plan(rt: &HostRuntime, options: &RunOptions) -> Result<ExitStatus, Tr
     let plan = plan_at(rt, options.plan.as_str())?;
     check_progress(rt, options, &plan)?;
     let (progress, lock) = locked(rt, options.progress.as_str(), options.lock_wait)?;
-    let status = run_on(rt, options, &plan, progress);
-    drop(lock);
-    status
-}
-
-/// Carries out the plan, with what the progress file says.
-fn run_on(
-    rt: &HostRuntime,
-    options: &RunOptions,
-    plan: &PlanFile,
-    progress: ProgressFile<'_, HostRuntime>,
-) -> Result<ExitStatus, Trouble> {
-    let start = progress_to_begin_with(rt, options, plan, &progress)?;
+    let start = progress_to_begin_with(rt, options, &plan, &progress)?;
     let account = Account::new(rt, options, &plan.plan)?;
     let mut findings = Findings::new(rt.alloc(), &plan.plan, start.saved())?;
-    let metrics = MetricsFile::of(rt, options, plan);
+    let link = link_to(account.log(), &options.peer, options.timeout)?;
+    let metrics = MetricsFile::of(rt, options, &plan);
     if let Some(metrics) = &metrics {
         metrics.begin(&account, &findings);
     }
     let mut keeper = MachineKeeper::of(&progress, &account, start.saved().is_none());
-    let status = run_with(options, &start, &mut keeper, &mut findings);
+    let status = run_over(options, &start, &mut keeper, &mut findings, link);
     if let Some(metrics) = &metrics {
         metrics.end(&account, &findings, matches!(status, Ok(ExitStatus::Done)));
     }
+    drop(lock);
     status
 }
 
-/// Carries out the plan over the link to the server that was named.
-fn run_with(
-    options: &RunOptions,
-    start: &Start<'_>,
-    keeper: &mut MachineKeeper<'_>,
-    findings: &mut Findings,
-) -> Result<ExitStatus, Trouble> {
-    let account = keeper.account();
-    let limit = Duration::from_secs(options.timeout);
-    match &options.peer {
-        Peer::Tcp(address) => {
-            let link = tcp_link(account.log(), *address, limit);
-            run_over(options, start, keeper, findings, link)
-        }
-        Peer::Unix(path) => {
-            let link = unix_link(account.log(), path.as_str(), limit)?;
-            run_over(options, start, keeper, findings, link)
-        }
-        Peer::Loopback => {
-            let link = loopback(account.rt(), limit)?;
-            run_over(options, start, keeper, findings, link)
-        }
-    }
-}
-
 /// Carries out the plan over this link, if need be after a look at what the progress knows.
-fn run_over<L: Link + Drop>(
+fn run_over(
     options: &RunOptions,
     start: &Start<'_>,
     keeper: &mut MachineKeeper<'_>,
     findings: &mut Findings,
-    link: L,
+    link: PeerLink<'_>,
 ) -> Result<ExitStatus, Trouble> {
     let input = RunInput {
         form: options.format.form(),

@@ -30,38 +30,23 @@ const IDENTIFIERS_OPTION: &str = "--identifiers";
 pub fn run_program(rt: &HostRuntime) -> ExitCode {
     open_closed_streams(rt);
     let status = match own_words(rt) {
-        Ok(words) => run_own(rt, words.as_slice()),
+        Ok(words) => match process_environment(rt) {
+            Ok(environment) => run_words(rt, words.as_slice(), &environment),
+            Err(want) => Trouble::from(want).tell(rt, format_among(words.as_slice())),
+        },
         Err(error) if error.kind() == ErrorKind::InvalidData => without_words(rt),
         Err(error) => Trouble::from(error).tell(rt, Format::Text),
     };
     ExitCode::from(status.code())
 }
 
-/// Runs the program with these words, and with the environment of the process.
-fn run_own(rt: &HostRuntime, words: &[String]) -> ExitStatus {
-    match process_environment(rt) {
-        Ok(environment) => run_words(rt, words, &environment),
-        Err(want) => Trouble::from(want).tell(rt, format_among(words)),
-    }
-}
-
 /// Runs the program with these words, the first of which is its name, and with this environment, and
 /// returns how it ended.
 pub fn run_words(rt: &HostRuntime, words: &[String], environment: &Environment) -> ExitStatus {
-    match chosen(rt.alloc(), words, environment) {
-        Ok(choice) => run_choice(rt, choice),
-        Err(error) => {
-            let status = status_of(&error);
-            match print_unchosen(rt, words, environment, status, &error) {
-                Ok(()) => status,
-                Err(trouble) => trouble.tell(rt, format_among(words)),
-            }
-        }
-    }
-}
-
-/// Does what was asked for, and returns how it ended.
-fn run_choice(rt: &HostRuntime, choice: Choice) -> ExitStatus {
+    let choice = match chosen(rt.alloc(), words, environment) {
+        Ok(choice) => choice,
+        Err(error) => return tell_unchosen(rt, words, environment, status_of(&error), &error),
+    };
     let format = choice.format();
     match execute(rt, choice) {
         Ok(status) => status,
@@ -69,8 +54,23 @@ fn run_choice(rt: &HostRuntime, choice: Choice) -> ExitStatus {
     }
 }
 
-/// In which form want of memory is told before it is known what the words ask for: by whether one of
-/// them is the option for JSON.
+/// Prints the text for words that ask for no command. Returns how the program ends, which is `status` unless that
+/// cannot be printed.
+fn tell_unchosen(
+    rt: &HostRuntime,
+    words: &[String],
+    environment: &Environment,
+    status: ExitStatus,
+    text: &impl Display,
+) -> ExitStatus {
+    match print_unchosen(rt, words, environment, status, text) {
+        Ok(()) => status,
+        Err(trouble) => trouble.tell(rt, format_among(words)),
+    }
+}
+
+/// In which form a fault is told before it is known what the words ask for: in JSON if one of them is the option
+/// for that.
 fn format_among(words: &[String]) -> Format {
     if has_word(words, JSON_OPTION) {
         Format::Json

@@ -6,6 +6,13 @@ use Rattle.kmip_report.specs.Pieces.{Piece, report_in}
 use Rattle.kmip_report.specs.declared.exit_status.ExitStatus.{ExitStatus}
 use Rattle.kmip_report.specs.declared.exit_status.ExitStatus.TheVariants as statuses
 use Rattle.kmip_ttlv.specs.declared.no_memory.NoMemory.{NoMemory}
+use Rattle.kmip_client.specs.declared.knowledge.Knowledge.{Knowledge}
+use Rattle.kmip_plan.specs.declared.key.Key.{Key}
+use Rattle.kmip_progress.specs.declared.progress_fault.ProgressFault.{ProgressFault}
+use Rattle.kmip_runs.specs.Turning.{stop_in}
+use Rattle.kmip_run_command.specs.Course.{IsGoodStart, KeepsTexts, TakesTurns}
+use Rattle.kmip_run_command.specs.RunEnds.{EndsFrom, Outcome, begin_knowns}
+use Rattle.kmip_run_command.specs.Runs.{CameOf, Ends, RunChange, RunStart}
 use Rattle.kmip_run_command.specs.RunReport.{TellsEnd, WritesEnd, end_line_of, is_end_refused}
 use Rattle.kmip_run_command.specs.declared.run_end.RunEnd.{RunEnd}
 use Rattle.kmip_run_command.specs.declared.run_end.RunEnd.TheVariants.{Refused, Unwritten, Stopped}
@@ -87,3 +94,53 @@ printed_if P statuses.Done made is p = of_made (λ r. P) made false is p
 printed_if P statuses.Refused made is p = of_made (λ r. P) made true is p
 printed_if P (statuses.Failed fault) made is p = tt
 printed_if P statuses.Usage made is p = absurd is
+
+-- what holds of how a run ended that was told
+of_told : {P : RunEnd → Type 0} {ended : Result RunEnd NoMemory} {end : RunEnd} → ended ≡ Ok end → IfOk ended P → P end
+of_told {P} {ended} {end} is p = subst (λ e. IfOk e P) is p
+
+-- the report of an end says how the run ended
+pub told_end : (input : RunInput) (ends : RunEnd → Type 0) (ended : Result RunEnd NoMemory) (made : Result Bool NoMemory) (old new : Option (List ℕ))
+    → IfOk ended ends → IfOk made (λ refused. WritesEnd input refused (λ end. ended ≡ Ok end) old new) → IfOk made (λ refused. WritesEnd input refused ends old new)
+told_end input ends ended (Ok refused) old new p w =
+    record { end = w.end; ended = of_told w.ended p; refused_is = w.refused_is; written = w.written }
+told_end input ends ended (Err want) old new p w = tt
+
+-- what follows of how it ended follows where its report was made
+pub told_if : (P : Type 0) (input : RunInput) (ends : RunEnd → Type 0) (ended : Result RunEnd NoMemory) (made : Result Bool NoMemory) (old new : Option (List ℕ))
+    → ((end : RunEnd) → ends end → P) → IfOk ended ends → IfOk made (λ refused. WritesEnd input refused (λ end. ended ≡ Ok end) old new) → IfOk made (λ refused. P)
+told_if P input ends ended (Ok refused) old new f p w = f w.end (of_told w.ended p)
+told_if P input ends ended (Err want) old new f p w = tt
+
+-- what was read is the same whatever was printed
+pub read_first : (T : List Knowledge → Type 0) (status : ExitStatus) (read : Result (List Knowledge) ProgressFault)
+    → IfWhole status (λ r. IfOk read T) → IfOk read (λ knowns. IfWhole status (λ r. T knowns))
+read_first T status (Ok knowns) p = p
+read_first T status (Err fault) p = tt
+
+-- what holds of what came of a run holds of how it ended
+of_came : (untouched : Type 0) (came : List Knowledge → Outcome → Type 0) (keys : List Key) (limit : ℕ) (T : List Knowledge → Type 0)
+    → ((knowns : List Knowledge) (o : Outcome) → came knowns o → T knowns)
+    → (read : Result (List Knowledge) ProgressFault) (end : RunEnd) → EndsFrom untouched came keys limit read end → IfOk read T
+of_came untouched came keys limit T f (Ok knowns) (Stopped client stop exchanges) e = f knowns _ e.has_come
+of_came untouched came keys limit T f (Ok knowns) Unwritten e = f knowns _ e.has_come
+of_came untouched came keys limit T f (Ok knowns) (Refused fault) e = absurd e
+of_came untouched came keys limit T f (Err fault) end e = tt
+
+-- a run whose end is told took turns
+pub turns_told : (keys : List Key) (start : RunStart) (change : RunChange) (end : RunEnd) → Ends keys start change end
+    → IfOk (begin_knowns keys start.saved) (λ knowns. TakesTurns keys knowns start.batch change.before.link change.after.link)
+turns_told keys start change end e =
+    of_came change.untouched (CameOf start change keys) keys start.limit
+    (λ knowns. TakesTurns keys knowns start.batch change.before.link change.after.link)
+    (λ knowns o c. (stop_in o.result, o.exchanges, c.last, c.turned)) (begin_knowns keys start.saved) end e
+
+-- and kept its texts
+pub texts_told : (keys : List Key) (start : RunStart) (change : RunChange) (end : RunEnd) → Ends keys start change end
+    → IfOk (begin_knowns keys start.saved) (λ knowns. KeepsTexts (IsGoodStart start.saved change.before.link keys) keys knowns start.batch
+      change.before.link change.after.link change.before.keeper change.after.keeper)
+texts_told keys start change end e =
+    of_came change.untouched (CameOf start change keys) keys start.limit
+    (λ knowns. KeepsTexts (IsGoodStart start.saved change.before.link keys) keys knowns start.batch
+      change.before.link change.after.link change.before.keeper change.after.keeper)
+    (λ knowns o c. (o.result, o.exchanges, o.knowns, c.moments)) (begin_knowns keys start.saved) end e

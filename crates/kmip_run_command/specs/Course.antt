@@ -1,6 +1,6 @@
 -- What comes of a run: what its exchanges taught, what was kept of it, and what stays safe.
 -- Source: own (view), but `LeavesTrue`, `KeepsSafe` and `AsksFew`: own (law).
-use Rattle.std.specs.Prelude.{◌≡◌, ◌≤◌, ◌<◌, ◌-◌, ◌⊎◌, ⊤, ℕ, Bool, true, false, List, [], ◌++◌, Option, Some, None, Ok, Err}
+use Rattle.std.specs.Prelude.{◌≡◌, ◌≤◌, ◌<◌, ◌-◌, ◌⊎◌, ⊤, ℕ, Bool, true, false, List, [], ◌++◌, Option, Some, None, Result, Ok, Err}
 use Rattle.std.specs.List.{All, AllZip}
 use Rattle.kmip_objects.specs.Objects.{Object}
 use Rattle.kmip_plan.specs.Chains.{bound}
@@ -24,9 +24,11 @@ use Rattle.kmip_runs.specs.Lasting.{KeepsMoments}
 use Rattle.kmip_runs.specs.Turning.{IsTurnedUntil, stop_in}
 use Rattle.kmip_runs.specs.Driving.{IsQuestion, Learnt, WentOn}
 use Rattle.kmip_runs.specs.Losing.{IsEnough}
+use Rattle.kmip_runs.specs.declared.stop.Stop.{Stop}
 use Rattle.kmip_runs.specs.declared.stop.Stop.TheVariants as stops
 use Rattle.kmip_runs.specs.Refusals.{HasRisen}
 use Rattle.kmip_runs.specs.Saved.{IsLeft, IsWhole}
+use Rattle.kmip_runs.specs.declared.save_fault.SaveFault.{SaveFault}
 use Rattle.kmip_runs.specs.declared.save_fault.SaveFault.TheVariants as faults
 use Rattle.kmip_runs.specs.Keeping.{Kept}
 use Rattle.kmip_run_command.specs.RunEnds.{Outcome}
@@ -101,6 +103,20 @@ pub record Came (limit : ℕ) (good : List Key → Type 0) (old new : RunState) 
   -- where each text could be kept, memory did not run out, and patience has not given up.
   pub outlasts : good first.keys → old.link.honest (is_planned first.keys) → new.is_tired ≡ false → IsWhole outcome.result
       → IsEnough first.keys limit old.link.disturbances new.link.disturbances → outcome.result ≡ Ok stops.AllFinished
+
+-- Turns were taken over the link by a client of these keys that began with this knowledge, and asked about at most
+-- this many keys in a message.
+abbrev pub TakesTurns : List Key → List Knowledge → ℕ → Seen → Seen → Type 0
+TakesTurns keys knowns most old new =
+    (stop : Stop) × (exchanges : ℕ) × (last : ClientState)
+    × IsTurnedUntil (old.honest (is_planned keys)) stop exchanges (begun_client keys knowns most) last old.past new.past
+
+-- A run of these keys that began with this knowledge kept the texts of its moments. `good` is that it began well.
+abbrev pub KeepsTexts : Type 0 → List Key → List Knowledge → ℕ → Seen → Seen → Kept → Kept → Type 0
+KeepsTexts good keys knowns most old new old_keeper new_keeper =
+    (result : Result Stop SaveFault) × (exchanges : ℕ) × (ended : List Knowledge)
+    × KeepsMoments keys most (record { good = good; honest = old.honest (is_planned keys) })
+    (record { knowns = knowns; past = old.past }) (record { knowns = ended; past = new.past }) old_keeper new_keeper result exchanges
 
 -- The text of a progress, where there is one, says what is true of these objects.
 abbrev pub IsTrueText : List Object → List Key → Option (List ℕ) → Type 0

@@ -1,17 +1,22 @@
 //! The command `run`: a plan is carried out over a link, and how that ended is printed.
-ghost use Rattle.std.specs.Prelude.{IfOk, IsTrue, Some};
+ghost use Rattle.std.specs.Prelude.{◌≡◌, [], IfOk, IsTrue, Ok, Some};
 ghost use Rattle.kmip_messages.specs.Members.{may_have};
+ghost use Rattle.kmip_protocol.specs.Headline.{Safe};
 ghost use Rattle.kmip_protocol.specs.Past.{is_planned};
 ghost use Rattle.kmip_report.specs.Endings.{FailsToPrint, IfFailed, IfWhole};
 ghost use Rattle.kmip_report.specs.FaultLines.{no_memory};
 ghost use Rattle.kmip_report.specs.Pieces.{line_in};
-ghost use Rattle.kmip_run_command.specs.Course.{AreUntouched, AsksFew, IsGoodStart, KeepsSafe, LeavesTrue, run_state};
+ghost use Rattle.kmip_runs.specs.Driving.{WentOn};
+ghost use Rattle.kmip_runs.specs.Headline.{GoodLink};
+ghost use Rattle.kmip_run_command.specs.Course.{AreUntouched, AsksFew, IsGoodStart, KeepsTexts, LeavesTrue, TakesTurns, run_state};
+ghost use Rattle.kmip_run_command.specs.RunEnds.{begin_knowns};
 ghost use Rattle.kmip_run_command.specs.RunReport.{WritesEnd};
 ghost use Rattle.kmip_run_command.specs.Runs.{Ends, run_change, saved_text, start_of};
 
 use crate::carrying_out::run_to_end;
 use crate::counting::Counting;
 use crate::ending::push_run_end;
+use crate::run_end::RunEnd;
 use crate::run_input::RunInput;
 use crate::unsaved::Unsaved;
 use kmip_plan::Plan;
@@ -44,9 +49,15 @@ pub fn run<L: Link, K: Keeper + Unsaved, E: Patience, O: Observer + Counting, P:
     // The `batch` of the input is a number from 1 to 8.
     requires batch { IsTrue (may_have input.now.batch) }
     // Let the link be honest among others of the plan, let all that has happened over it be sound, and let the
-    // progress, if any, be true. Then all of that holds of the link after the run too, however it ends.
+    // progress, if any, be true (`IsGoodStart`). Then what has happened is safe, however the run ends.
     ensures safe { IsGoodStart (saved_text input.now) (L.seen link.old) plan.now
-        → KeepsSafe plan.now (L.seen link.old) (L.seen link.new) }
+        → Safe plan.now (L.seen link.new).past [] }
+    // Let that be so. Then the link is still honest among others of the plan, and all that has happened is sound.
+    ensures among_others { IsGoodStart (saved_text input.now) (L.seen link.old) plan.now
+        → GoodLink plan.now (L.seen link.new) }
+    // Let that be so. Then the objects have gone onward, and others of the plan may go on with theirs.
+    ensures onward { IsGoodStart (saved_text input.now) (L.seen link.old) plan.now
+        → WentOn plan.now (L.seen link.old).past (L.seen link.new).past }
     // Let that be so, and let the keeper's disk keep the rules of one. Then whatever a crash at any time during
     // the run leaves is what it might have left before, or a whole text that is true.
     ensures any_moment { IsGoodStart (saved_text input.now) (L.seen link.old) plan.now
@@ -56,6 +67,18 @@ pub fn run<L: Link, K: Keeper + Unsaved, E: Patience, O: Observer + Counting, P:
     // and about no more than the input says. Nothing is said of this if the run failed.
     ensures few { (L.seen link.old).honest (is_planned plan.now) → IfWhole result (λ _.
         AsksFew plan.now input.now.batch (L.seen link.old).past (L.seen link.new).past) }
+    // Over any link, each exchange was a turn of a client that began with what the progress says: it asked its next
+    // question, and learnt from an answer, or that none came. Nothing is said of this if the run failed.
+    ensures turned { IfOk (begin_knowns plan.now (saved_text input.now)) (λ knowns.
+        IfWhole result (λ _. TakesTurns plan.now knowns input.now.batch
+        (L.seen link.old) (L.seen link.new))) }
+    // What was known after each exchange was given to the keeper, and a crash may leave one of these texts, or what
+    // it might have left before. Nothing is said of this if the run failed.
+    ensures lasts { IfOk (begin_knowns plan.now (saved_text input.now)) (λ knowns.
+        IfWhole result (λ _. KeepsTexts
+        (IsGoodStart (saved_text input.now) (L.seen link.old) plan.now) plan.now knowns
+        input.now.batch (L.seen link.old) (L.seen link.new)
+        (K.kept keeper.old) (K.kept keeper.new))) }
     // If it ends with `Done` or `Refused`, exactly the report of how it ended is printed. It ends with `Refused`
     // exactly if something was refused, unsaved or left unfinished. How it ended came of its exchanges (`Came`).
     ensures text { IfWhole result (λ refused. WritesEnd input.now refused
@@ -70,52 +93,27 @@ pub fn run<L: Link, K: Keeper + Unsaved, E: Patience, O: Observer + Counting, P:
     ensures broken { IfFailed result (λ fault. FailsToPrint (line_in input.now.form no_memory) fault
         P.own_fault P.IsWhole (P.contents printer.old) (P.contents printer.new)) }
 {
+    let ended = run_to_end(alloc, plan, input, link, keeper, patience, observer);
     let mut report = Vec::new(alloc);
-    let made = push_run(
-        alloc,
-        plan,
-        input,
-        link,
-        keeper,
-        patience,
-        observer,
-        &mut report,
-    );
+    let made = push_ended(alloc, input, ended, keeper, observer, &mut report);
     print_report(input.form, made, report.as_slice(), printer)
 }
 
-/// Carries out a plan as `run` does, and appends the report. Returns true if something was refused, unsaved or left
-/// unfinished.
+/// Appends the report of a run that ended so. Returns true if something was refused, unsaved or left unfinished.
 ///
 /// # Errors
-/// If memory runs out. A part may have been appended then.
-fn push_run<L: Link, K: Keeper + Unsaved, E: Patience, O: Observer + Counting>(
+/// If memory ran out in the run, or runs out here. A part may have been appended then.
+fn push_ended<K: Unsaved, O: Counting>(
     alloc: Global,
-    plan: &Plan,
     input: &RunInput<'_>,
-    link: &mut L,
-    keeper: &mut K,
-    patience: &mut E,
+    ended: Result<RunEnd<'_>, NoMemory>,
+    keeper: &K,
     observer: &mut O,
     text: &mut Vec<u8>,
 ) -> Result<bool, NoMemory>
-    requires batch { IsTrue (may_have input.now.batch) }
-    ensures safe { IsGoodStart (saved_text input.now) (L.seen link.old) plan.now
-        → KeepsSafe plan.now (L.seen link.old) (L.seen link.new) }
-    ensures any_moment { IsGoodStart (saved_text input.now) (L.seen link.old) plan.now
-        → LeavesTrue (L.seen link.new).past.objects plan.now
-        (K.kept keeper.old).disk (K.kept keeper.new).disk }
-    ensures few { (L.seen link.old).honest (is_planned plan.now) → IfOk result (λ _.
-        AsksFew plan.now input.now.batch (L.seen link.old).past (L.seen link.new).past) }
-    ensures text { IfOk result (λ refused. WritesEnd input.now refused
-        (Ends plan.now (start_of input.now) (run_change
-        (run_state (L.seen link.old) (K.kept keeper.old) (E.has_given_up patience.old)
-        (E.asked patience.old))
-        (run_state (L.seen link.new) (K.kept keeper.new) (E.has_given_up patience.new)
-        (E.asked patience.new))
-        (AreUntouched link.old link.new keeper.old keeper.new)))
+    ensures { IfOk result (λ refused. WritesEnd input.now refused (λ end. ended ≡ Ok end)
         (Some text.old.items) (Some text.new.items)) }
 {
-    let end = run_to_end(alloc, plan, input, link, keeper, patience, observer)?;
+    let end = ended?;
     push_run_end(alloc, input, &end, keeper, observer, text)
 }

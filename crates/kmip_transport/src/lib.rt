@@ -6,8 +6,8 @@
 //! fail only where its source or its sink does. So it does not give up above some size or count: a fault that
 //! it made up itself is refused.
 //!
-//! As a `Link` both `StreamLink` (over TCP and over a Unix socket) and `Loopback` keep the clauses of that
-//! trait. They are never said to be honest or calm. That an exchange takes no longer than its limit is no
+//! As a `Link`, `StreamLink` (over TCP or a Unix socket), `Loopback` and `ServerLink`, which is one of them, keep
+//! the clauses of that trait. They are never said to be honest or calm. That an exchange takes no longer than its limit is no
 //! clause: the tests of test_transport see it.
 #![tactic(auto)]
 
@@ -20,6 +20,7 @@ mod loopback;
 mod open;
 mod receiving;
 mod sending;
+mod server_link;
 mod serving;
 mod sink;
 mod source;
@@ -35,6 +36,7 @@ pub use kmip_protocol::{Link, LinkFault};
 pub use loopback::Loopback;
 pub use receiving::{receive_from_bytes, receive_message};
 pub use sending::{send_message, send_to_bytes};
+pub use server_link::ServerLink;
 pub use serving::{serve_bytes, serve_stream};
 pub use stream_end::StreamEnd;
 pub use stream_link::{StreamLink, TcpLink, UnixLink};

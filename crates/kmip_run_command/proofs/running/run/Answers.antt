@@ -1,12 +1,9 @@
 -- What was made in memory is what was printed.
-use Rattle.kmip_run_command.proofs.EndingLemmas.{printed_end, printed_if}
+use Rattle.kmip_run_command.proofs.EndingLemmas.{printed_end, printed_if, read_first, texts_told, told_end, told_if, turns_told}
 use Rattle.kmip_run_command.proofs.running.run.Goals as goal
 
 pub returns-clause-text : goal.returns-clause-text
 returns-clause-text g c =
-    printed_end c.args.input.now _ c.print_report.result c.push_run-made.result _ _ c.push_run-made.new.text.items (g.P.Printer.contents c.args.printer.now) (g.P.Printer.contents c.print_report.new.printer)
-    c.new-report.ensures.items c.as_slice.ensures.value c.print_report.ensures.text c.print_report.ensures.refused c.push_run-made.ensures.text
-
-pub returns-clause-few : goal.returns-clause-few
-returns-clause-few g c = λ honest.
-    printed_if _ c.print_report.result c.push_run-made.result c.print_report.ensures.refused (c.push_run-made.ensures.few honest)
+    printed_end c.args.input.now _ c.print_report.result c.push_ended-made.result _ _ c.push_ended-made.new.text.items (g.P.Printer.contents c.args.printer.now) (g.P.Printer.contents c.print_report.new.printer)
+    c.new-report.ensures.items c.as_slice.ensures.value c.print_report.ensures.text c.print_report.ensures.refused
+    (told_end c.args.input.now _ c.run_to_end-ended.result c.push_ended-made.result _ _ c.run_to_end-ended.ensures.text c.push_ended-made.ensures)
