@@ -60,6 +60,7 @@ came limit old new r made whole carries = record {
   last_knows = refl;
   turned = carries.turned;
   moments = carries.moments;
+  lasts = carries.lasts;
   settles = λ quiet ready within patient all.
       let s = (carries.calmly (record { calm_for = quiet; ready = ready })).settles within patient all in (s.0, s.3);
   at_limit = carries.limit;
@@ -143,6 +144,7 @@ came_for limit good other old new first o f c =
           (record { good = other first.keys; honest = old.link.honest (is_planned first.keys) }) (record { good = good first.keys; honest = old.link.honest (is_planned first.keys) })
           (record { knowns = first.knowns; past = old.link.past }) (record { knowns = o.knowns; past = new.link.past }) old.keeper new.keeper o.result o.exchanges f
           (λ honest. honest) c.moments;
+      lasts = c.lasts;
       settles = c.settles;
       at_limit = c.at_limit;
       given_up = c.given_up;

@@ -10,7 +10,7 @@ use Rattle.kmip_client.specs.declared.knowledge.Knowledge.{Knowledge}
 use Rattle.kmip_plan.specs.declared.key.Key.{Key}
 use Rattle.kmip_progress.specs.declared.progress_fault.ProgressFault.{ProgressFault}
 use Rattle.kmip_runs.specs.Turning.{stop_in}
-use Rattle.kmip_run_command.specs.Course.{IsGoodStart, KeepsTexts, TakesTurns}
+use Rattle.kmip_run_command.specs.Course.{IsGoodStart, KeepsTexts, Lasts, TakesTurns}
 use Rattle.kmip_run_command.specs.RunEnds.{EndsFrom, Outcome, begin_knowns}
 use Rattle.kmip_run_command.specs.Runs.{CameOf, Ends, RunChange, RunStart}
 use Rattle.kmip_run_command.specs.RunReport.{TellsEnd, WritesEnd, end_line_of, is_end_refused}
@@ -144,3 +144,10 @@ texts_told keys start change end e =
     (λ knowns. KeepsTexts (IsGoodStart start.saved change.before.link keys) keys knowns start.batch
       change.before.link change.after.link change.before.keeper change.after.keeper)
     (λ knowns o c. (o.result, o.exchanges, o.knowns, c.moments)) (begin_knowns keys start.saved) end e
+
+-- and what is in its file lasts
+pub lasts_told : (keys : List Key) (start : RunStart) (change : RunChange) (end : RunEnd) → Ends keys start change end
+    → IfOk (begin_knowns keys start.saved) (λ knowns. Lasts change.before.keeper change.after.keeper)
+lasts_told keys start change end e =
+    of_came change.untouched (CameOf start change keys) keys start.limit (λ knowns. Lasts change.before.keeper change.after.keeper)
+    (λ knowns o c. c.lasts) (begin_knowns keys start.saved) end e

@@ -12,7 +12,7 @@ use Rattle.kmip_client.specs.Held.{Held, TrueProgress}
 use Rattle.kmip_client.specs.Verdicts.{counts_of}
 use Rattle.kmip_disk.specs.Calls.{HasRisenBy}
 use Rattle.kmip_disk.specs.Views.{Content, DiskView}
-use Rattle.kmip_disk.specs.Whole.{LeavesOnly}
+use Rattle.kmip_disk.specs.Whole.{IsWritten, LeavesOnly}
 use Rattle.kmip_client.specs.Shapes.{IsKept}
 use Rattle.kmip_client.specs.declared.knowledge.Knowledge.{Knowledge}
 use Rattle.kmip_protocol.specs.Past.{Past, is_planned}
@@ -20,7 +20,7 @@ use Rattle.kmip_protocol.specs.Seen.{Seen}
 use Rattle.kmip_protocol.specs.Ready.{IsReady}
 use Rattle.kmip_protocol.specs.Headline.{Safe}
 use Rattle.kmip_runs.specs.Headline.{GoodLink, reported_by}
-use Rattle.kmip_runs.specs.Lasting.{KeepsMoments}
+use Rattle.kmip_runs.specs.Lasting.{KeepsMoments, LeavesTheFile}
 use Rattle.kmip_runs.specs.Turning.{IsTurnedUntil, stop_in}
 use Rattle.kmip_runs.specs.Driving.{IsQuestion, Learnt, WentOn}
 use Rattle.kmip_runs.specs.Losing.{IsEnough}
@@ -55,6 +55,12 @@ run_state link keeper is_tired asked =
 abbrev pub begun_client : List Key → List Knowledge → ℕ → ClientState
 begun_client keys knowns most = record { keys = keys; knowns = knowns; next = 0; batch = most }
 
+-- A crash leaves what a read of the file gives, and nothing else, or the keeper has counted a failure since. It asks
+-- for a disk that kept the rules, with the bytes of the file on it.
+abbrev pub Lasts : Kept → Kept → Type 0
+Lasts old new =
+    old.disk.lawful → IsWritten old.disk → LeavesTheFile new.disk ⊎ HasRisen old.refusals new.refusals
+
 -- What came of exchanges over a link, no more than `limit`, of a client that was in this state at first. `old` is
 -- the state of the run at first, `new` the state then. `outcome` says what is known then, why no more exchanges
 -- were made, and how many were. `good` is that the link was honest among others of the plan, all was sound, and
@@ -82,6 +88,8 @@ pub record Came (limit : ℕ) (good : List Key → Type 0) (old new : RunState) 
       (record { good = good first.keys; honest = old.link.honest (is_planned first.keys) })
       (record { knowns = first.knowns; past = old.link.past }) (record { knowns = outcome.knowns; past = new.link.past })
       old.keeper new.keeper outcome.result outcome.exchanges
+  -- A crash after it leaves the file as it is read, or the keeper has counted a failure.
+  pub lasts : Lasts old.keeper new.keeper
   -- Over a calm link, with what is ready to settle, and a limit of at least the plan's bound: every key
   -- is finished after no more exchanges than the bound. That is said where each text could be kept,
   -- memory did not run out, and patience has not given up.

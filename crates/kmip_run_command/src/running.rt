@@ -8,7 +8,7 @@ ghost use Rattle.kmip_report.specs.FaultLines.{no_memory};
 ghost use Rattle.kmip_report.specs.Pieces.{line_in};
 ghost use Rattle.kmip_runs.specs.Driving.{WentOn};
 ghost use Rattle.kmip_runs.specs.Headline.{GoodLink};
-ghost use Rattle.kmip_run_command.specs.Course.{AreUntouched, AsksFew, IsGoodStart, KeepsTexts, LeavesTrue, TakesTurns, run_state};
+ghost use Rattle.kmip_run_command.specs.Course.{AreUntouched, AsksFew, IsGoodStart, KeepsTexts, Lasts, LeavesTrue, TakesTurns, run_state};
 ghost use Rattle.kmip_run_command.specs.RunEnds.{begin_knowns};
 ghost use Rattle.kmip_run_command.specs.RunReport.{WritesEnd};
 ghost use Rattle.kmip_run_command.specs.Runs.{Ends, run_change, saved_text, start_of};
@@ -74,11 +74,15 @@ pub fn run<L: Link, K: Keeper + Unsaved, E: Patience, O: Observer + Counting, P:
         (L.seen link.old) (L.seen link.new))) }
     // What was known after each exchange was given to the keeper, and a crash may leave one of these texts, or what
     // it might have left before. Nothing is said of this if the run failed.
-    ensures lasts { IfOk (begin_knowns plan.now (saved_text input.now)) (λ knowns.
+    ensures moments { IfOk (begin_knowns plan.now (saved_text input.now)) (λ knowns.
         IfWhole result (λ _. KeepsTexts
         (IsGoodStart (saved_text input.now) (L.seen link.old) plan.now) plan.now knowns
         input.now.batch (L.seen link.old) (L.seen link.new)
         (K.kept keeper.old) (K.kept keeper.new))) }
+    // Let the keeper's disk keep the rules, and the bytes of its file be on it. Then a crash after the run leaves the
+    // file as it is read, or the keeper has counted a failure. Nothing is said of this if the run failed.
+    ensures lasts { IfOk (begin_knowns plan.now (saved_text input.now)) (λ _.
+        IfWhole result (λ _. Lasts (K.kept keeper.old) (K.kept keeper.new))) }
     // If it ends with `Done` or `Refused`, exactly the report of how it ended is printed. It ends with `Refused`
     // exactly if something was refused, unsaved or left unfinished. How it ended came of its exchanges (`Came`).
     ensures text { IfWhole result (λ refused. WritesEnd input.now refused
