@@ -1,5 +1,5 @@
 -- What has come of a run is what its exchanges did.
-use Rattle.std.proofs.Common.{◌≡◌, ◌≢◌, ◌⊎◌, ◌∙◌, ℕ, ap, inl, Bool, true, false, List, Option, Some, None, Result, Ok, Err, IfErr, IfOk, refl, subst, sym, [], append-nil}
+use Rattle.std.proofs.Common.{◌≡◌, ◌≢◌, ◌⊎◌, ◌∙◌, ℕ, ap, inl, List, Option, Some, None, Result, Ok, Err, refl, subst, sym, [], append-nil}
 use Rattle.std.specs.Bool.{⊤}
 use Rattle.std.proofs.lemmas.List.Elements.{All-nil}
 use Rattle.kmip_disk.specs.Views.{DiskView}
@@ -29,7 +29,7 @@ use Rattle.kmip_run_command.specs.declared.run_end.RunEnd.{RunEnd}
 use Rattle.kmip_run_command.proofs.TrueTextLemmas.{leaves_true}
 use Rattle.kmip_disk.proofs.ForCallers.{nothing_since}
 use Rattle.kmip_runs.proofs.ForKeepers.{keeps_from}
-use Rattle.kmip_run_command.specs.declared.run_end.RunEnd.TheVariants.{Refused, Unwritten, Stopped}
+use Rattle.kmip_run_command.specs.declared.run_end.RunEnd.TheVariants.{Unwritten, Stopped}
 
 abbrev ended : Result Stop SaveFault → Result Stop SaveFault
 ended r = r

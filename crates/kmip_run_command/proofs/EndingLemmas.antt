@@ -1,5 +1,5 @@
 -- The report of an end that was made in memory is what is printed.
-use Rattle.std.proofs.Common.{◌≡◌, ◌++◌, Bool, true, false, List, ℕ, Option, Some, Result, Ok, Err, IfOk, OnOk, [], sym, ap, subst, ◌∙◌}
+use Rattle.std.proofs.Common.{◌≡◌, ◌++◌, Bool, true, false, List, ℕ, Option, Some, Result, Ok, Err, IfOk, OnOk, [], ap, subst, ◌∙◌}
 use Rattle.std.specs.Io.KnownBytes.{Appends}
 use Rattle.kmip_report.specs.Endings.{IfWhole}
 use Rattle.kmip_report.specs.Pieces.{Piece, report_in}
@@ -96,20 +96,20 @@ printed_if P (statuses.Failed fault) made is p = tt
 printed_if P statuses.Usage made is p = absurd is
 
 -- what holds of how a run ended that was told
-of_told : {P : RunEnd → Type 0} {ended : Result RunEnd NoMemory} {end : RunEnd} → ended ≡ Ok end → IfOk ended P → P end
-of_told {P} {ended} {end} is p = subst (λ e. IfOk e P) is p
+of_told : (P : RunEnd → Type 0) (ended : Result RunEnd NoMemory) (end : RunEnd) → ended ≡ Ok end → IfOk ended P → P end
+of_told P ended end is p = subst (λ e. IfOk e P) is p
 
 -- the report of an end says how the run ended
 pub told_end : (input : RunInput) (ends : RunEnd → Type 0) (ended : Result RunEnd NoMemory) (made : Result Bool NoMemory) (old new : Option (List ℕ))
     → IfOk ended ends → IfOk made (λ refused. WritesEnd input refused (λ end. ended ≡ Ok end) old new) → IfOk made (λ refused. WritesEnd input refused ends old new)
 told_end input ends ended (Ok refused) old new p w =
-    record { end = w.end; ended = of_told w.ended p; refused_is = w.refused_is; written = w.written }
+    record { end = w.end; ended = of_told ends ended w.end w.ended p; refused_is = w.refused_is; written = w.written }
 told_end input ends ended (Err want) old new p w = tt
 
 -- what follows of how it ended follows where its report was made
 pub told_if : (P : Type 0) (input : RunInput) (ends : RunEnd → Type 0) (ended : Result RunEnd NoMemory) (made : Result Bool NoMemory) (old new : Option (List ℕ))
     → ((end : RunEnd) → ends end → P) → IfOk ended ends → IfOk made (λ refused. WritesEnd input refused (λ end. ended ≡ Ok end) old new) → IfOk made (λ refused. P)
-told_if P input ends ended (Ok refused) old new f p w = f w.end (of_told w.ended p)
+told_if P input ends ended (Ok refused) old new f p w = f w.end (of_told ends ended w.end w.ended p)
 told_if P input ends ended (Err want) old new f p w = tt
 
 -- what was read is the same whatever was printed
@@ -138,11 +138,11 @@ turns_told keys start change end e =
 -- and kept its texts
 pub texts_told : (keys : List Key) (start : RunStart) (change : RunChange) (end : RunEnd) → Ends keys start change end
     → IfOk (begin_knowns keys start.saved) (λ knowns. KeepsTexts (IsGoodStart start.saved change.before.link keys) keys knowns start.batch
-      change.before.link change.after.link change.before.keeper change.after.keeper)
+    change.before.link change.after.link change.before.keeper change.after.keeper)
 texts_told keys start change end e =
     of_came change.untouched (CameOf start change keys) keys start.limit
     (λ knowns. KeepsTexts (IsGoodStart start.saved change.before.link keys) keys knowns start.batch
-      change.before.link change.after.link change.before.keeper change.after.keeper)
+    change.before.link change.after.link change.before.keeper change.after.keeper)
     (λ knowns o c. (o.result, o.exchanges, o.knowns, c.moments)) (begin_knowns keys start.saved) end e
 
 -- and what is in its file lasts

@@ -3,10 +3,10 @@ ghost use Rattle.std.specs.Prelude.{◌≡◌};
 ghost use Rattle.std.specs.List.{list_any};
 ghost use Rattle.kmip_run_command.specs.Causes.{cause_of, is_conflict, look_cause, silence_cause};
 
-use kmip_tally::{RunTally, Unanswered};
 use kmip_client::Verdict;
 use kmip_report::Cause;
 use kmip_runs::Stop;
+use kmip_tally::{RunTally, Unanswered};
 
 /// What stands in the way of a run that ended so; nothing if each key is finished.
 pub(crate) fn cause_of(stop: Stop, verdicts: &[Verdict], tally: &RunTally) -> Option<Cause>

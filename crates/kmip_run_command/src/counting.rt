@@ -1,7 +1,7 @@
 //! What counts the exchanges of a run.
 
-use kmip_tally::RunTally;
 use kmip_client::Client;
+use kmip_tally::RunTally;
 use kmip_ttlv::NoMemory;
 use std::alloc::Global;
 

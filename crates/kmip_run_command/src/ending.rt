@@ -42,7 +42,6 @@ use crate::causes::cause_of;
 use crate::counting::Counting;
 use crate::run_end::RunEnd;
 use crate::run_input::RunInput;
-use kmip_tally::RunTally;
 use crate::unsaved::Unsaved;
 use kmip_choices::Report;
 use kmip_client::{Client, Verdict, finished_count};
@@ -51,6 +50,7 @@ use kmip_plan_report::{KeyStanding, pieces_of_key, push_progress_refusal, standi
 use kmip_progress::{Known, ProgressFault};
 use kmip_report::{Cause, Fault, Form, Member, Piece, push_fault, push_line, word_of_cause};
 use kmip_runs::Stop;
+use kmip_tally::RunTally;
 use kmip_ttlv::NoMemory;
 use std::alloc::Global;
 

@@ -17,9 +17,9 @@ ghost use Rattle.kmip_run_command.specs.ProgressLineText.{
   with_trouble,
 };
 
-use kmip_tally::Spent;
 use kmip_client::Client;
 use kmip_plan::{Key, chain_length};
+use kmip_tally::Spent;
 use kmip_ttlv::NoMemory;
 use std::alloc::Global;
 

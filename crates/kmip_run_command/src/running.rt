@@ -115,7 +115,7 @@ fn push_ended<K: Unsaved, O: Counting>(
     observer: &mut O,
     text: &mut Vec<u8>,
 ) -> Result<bool, NoMemory>
-    ensures { IfOk result (λ refused. WritesEnd input.now refused (λ end. ended ≡ Ok end)
+    ensures { IfOk result (λ refused. WritesEnd input.now refused (λ end. ended.entry ≡ Ok end)
         (Some text.old.items) (Some text.new.items)) }
 {
     let end = ended?;

@@ -6,7 +6,7 @@ use Rattle.kmip_transport.specs.declared.server_link.ServerLink.{ServerLink}
 use Rattle.kmip_transport.specs.declared.server_link.ServerLink.TheVariants.{Tcp, Unix, Loopback}
 
 -- What is seen of the link: how often its network has failed, and nothing else.
-abbrev pub network_of : {T U R S : Type 0} → ServerLink T U R S → Seen
+abbrev pub network_of : {T U R S A B C D : Type 0} → ServerLink T U R S A B C D → Seen
 network_of (Tcp link) = unclaimed link.failures
 network_of (Unix link) = unclaimed link.failures
 network_of (Loopback loopback) = unclaimed loopback.link.failures

@@ -21,7 +21,12 @@ pub enum ServerLink<T: Dial + Drop, U: Dial + Drop, R: Net + Clock + Drop, S: Re
     Loopback(Loopback<R, S>),
 }
 
-impl<T: Dial + Drop, U: Dial + Drop, R: Net + Clock + Drop, S: Records + Drop> ServerLink<T, U, R, S> {
+impl<T: Dial + Drop, U: Dial + Drop, R: Net + Clock + Drop, S: Records + Drop> ServerLink<
+    T,
+    U,
+    R,
+    S,
+> {
     /// From now on each exchange over TCP or a Unix socket has a stream of its own.
     pub fn hold_none(&mut self) {
         match self {

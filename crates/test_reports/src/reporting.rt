@@ -10,8 +10,8 @@ use kmip_plan_report::{
 use kmip_progress::{Known, Progress, ProgressFault, suits};
 use kmip_report::{Cause, Fault, Form, no_memory_line, push_contradiction, push_fault};
 use kmip_run_command::{Counting, Report, RunEnd, RunInput, Unsaved, push_run_end};
-use kmip_tally::RunTally;
 use kmip_runs::Stop;
+use kmip_tally::RunTally;
 use kmip_ttlv::{NoMemory, Text};
 use std::alloc::Global;
 use std::test::Fail;

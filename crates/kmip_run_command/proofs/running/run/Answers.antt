@@ -1,5 +1,5 @@
 -- What was made in memory is what was printed.
-use Rattle.kmip_run_command.proofs.EndingLemmas.{printed_end, printed_if, read_first, texts_told, told_end, told_if, turns_told}
+use Rattle.kmip_run_command.proofs.EndingLemmas.{printed_end, told_end}
 use Rattle.kmip_run_command.proofs.running.run.Goals as goal
 
 pub returns-clause-text : goal.returns-clause-text
