@@ -12,7 +12,7 @@ use crate::looking::{MARK_BYTES, new_mark, tell_given_up};
 use crate::repeating::Repeating;
 use crate::running::{first_wait, tell_end};
 use crate::until_run::UntilRun;
-use kmip_account::{Account, Findings, RunObserver};
+use kmip_account::{Account, RunObserver};
 use kmip_choices::RunOptions;
 use kmip_look::{Pause, Why};
 use kmip_protocol::Link;
@@ -21,6 +21,7 @@ use kmip_refresh::{
 };
 use kmip_report::{ExitStatus, print_report};
 use kmip_run_command::{RunEnd, RunInput, begin, push_run_end};
+use kmip_run_record::Findings;
 use kmip_tally::Unanswered;
 use kmip_run_files::{MachineKeeper, Start};
 use kmip_runs::Pace;

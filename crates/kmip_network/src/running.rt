@@ -2,18 +2,21 @@
 
 use crate::linking::{loopback, tcp_link, unix_link};
 use crate::refreshing::{Refreshing, run_after_look};
-use kmip_account::{Account, Findings, RunObserver};
+use kmip_account::{Account, RunObserver};
 use kmip_choices::{Peer, RunOptions};
+use kmip_client::{Client, ProgressFault};
 use kmip_files::ProgressFile;
 use kmip_protocol::Link;
 use kmip_report::ExitStatus;
-use kmip_run_command::{RunInput, batch_of, run};
+use kmip_run_command::{RunInput, batch_of, begin, run};
 use kmip_run_files::{
     MachineKeeper, MetricsFile, PlanFile, Start, check_progress, locked, plan_at,
     progress_to_begin_with,
 };
+use kmip_run_record::Findings;
 use kmip_runs::Pace;
-use kmip_trouble::{Trouble, standard_output};
+use kmip_trouble::{Obstacle, Trouble, standard_output};
+use kmip_ttlv::NoMemory;
 use std::time::Duration;
 
 /// The command `run`: the plan is read first, and the progress is checked. Then the lock is taken, the progress is
@@ -43,23 +46,42 @@ fn run_on(
 ) -> Result<ExitStatus, Trouble> {
     let start = progress_to_begin_with(rt, options, plan, &progress)?;
     let account = Account::new(rt, options, &plan.plan)?;
-    let mut findings = Findings::new(rt.alloc(), &plan.plan, start.saved())?;
+    let client = begun(rt, options, plan, &start)?;
+    let mut findings = Findings::new(rt.alloc(), &client)?;
     let metrics = MetricsFile::of(rt, options, plan);
     if let Some(metrics) = &metrics {
         metrics.begin(&account, &findings);
     }
     let mut keeper = MachineKeeper::of(&progress, &account, start.saved().is_none());
-    let status = run_with(options, &start, &mut keeper, &mut findings);
+    let status = run_with(options, &start, &client, &mut keeper, &mut findings);
     if let Some(metrics) = &metrics {
         metrics.end(&account, &findings, matches!(status, Ok(ExitStatus::Done)));
     }
     status
 }
 
+/// A client that knows what the progress says that the run begins with.
+fn begun<'p>(
+    rt: &HostRuntime,
+    options: &RunOptions,
+    plan: &'p PlanFile,
+    start: &Start<'_>,
+) -> Result<Client<'p>, Trouble> {
+    match begin(rt.alloc(), &plan.plan, start.saved()) {
+        Ok(client) => Ok(client),
+        Err(ProgressFault::NoMemory) => Err(Trouble::from(NoMemory)),
+        Err(fault) => {
+            let path = String::from_str(rt.alloc(), options.progress.as_str())?;
+            Err(Trouble::from(Obstacle::NoProgress(path, fault)))
+        }
+    }
+}
+
 /// Carries out the plan over the link to the server that was named.
 fn run_with(
     options: &RunOptions,
     start: &Start<'_>,
+    client: &Client<'_>,
     keeper: &mut MachineKeeper<'_>,
     findings: &mut Findings,
 ) -> Result<ExitStatus, Trouble> {
@@ -68,15 +90,15 @@ fn run_with(
     match &options.peer {
         Peer::Tcp(address) => {
             let link = tcp_link(account.log(), *address, limit);
-            run_over(options, start, keeper, findings, link)
+            run_over(options, start, client, keeper, findings, link)
         }
         Peer::Unix(path) => {
             let link = unix_link(account.log(), path.as_str(), limit)?;
-            run_over(options, start, keeper, findings, link)
+            run_over(options, start, client, keeper, findings, link)
         }
         Peer::Loopback => {
             let link = loopback(account.rt(), limit)?;
-            run_over(options, start, keeper, findings, link)
+            run_over(options, start, client, keeper, findings, link)
         }
     }
 }
@@ -85,6 +107,7 @@ fn run_with(
 fn run_over<L: Link + Drop>(
     options: &RunOptions,
     start: &Start<'_>,
+    client: &Client<'_>,
     keeper: &mut MachineKeeper<'_>,
     findings: &mut Findings,
     link: L,
@@ -107,7 +130,7 @@ fn run_over<L: Link + Drop>(
         };
         return run_after_look(&refreshing, &input, keeper, findings, link);
     }
-    account.show_start(start.saved());
+    account.show_start(client);
     let mut link = link;
     let mut pace = Pace::new(account.rt(), first_wait(options), options.give_up);
     let mut observer = RunObserver::new(account, findings);
