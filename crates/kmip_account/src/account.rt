@@ -1,16 +1,13 @@
 //! What `run` reports on standard error: how far it is, what goes wrong, and what was left undone.
 
-use crate::answers::push_answer_about;
-use crate::exchange::{Exchange, refusals_in};
 use crate::exchange_log::ExchangeLog;
-use crate::findings::Findings;
-use crate::story::Story;
 use kmip_batch_items::standard::{OPERATION_GET_ATTRIBUTES, REASON_ITEM_NOT_FOUND};
 use kmip_batch_items::{Operation, Outcome, Reply};
 use kmip_choices::RunOptions;
 use kmip_client::{Client, Part};
 use kmip_plan::{Key, Plan, place_of};
-use kmip_run_command::{begin, progress_line};
+use kmip_run_command::progress_line;
+use kmip_run_record::{Exchange, Findings, Story, push_answer_about, refusals_in};
 use kmip_tally::RunTally;
 use kmip_trace::{operation_word, push_replies};
 use kmip_ttlv::NoMemory;
@@ -77,16 +74,10 @@ impl<'a> Account<'a> {
         &self.log
     }
 
-    /// Shows how far the run is at its start, by the text of the progress that it begins with, if it may make an
-    /// exchange.
-    pub fn show_start(&self, saved: Option<&str>) {
-        if !self.log.is_shown() || self.options.limit == 0 {
-            return;
-        }
-        if let Ok(client) = begin(self.rt.alloc(), self.plan, saved) {
-            if client.working() > 0 {
-                self.show(&client);
-            }
+    /// Shows how far the run is at its start, by what this client knows, if it may make an exchange.
+    pub fn show_start(&self, client: &Client<'_>) {
+        if self.options.limit > 0 && client.working() > 0 {
+            self.show(client);
         }
     }
 

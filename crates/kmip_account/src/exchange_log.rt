@@ -1,15 +1,12 @@
 //! What a command reports of its exchanges with a server, on standard error.
 
-use crate::answer::Answer;
-use crate::exchange::refusals_in;
-use crate::exchange_line::exchange_line;
 use crate::progress_line::ProgressLine;
 use crate::reach::Reach;
-use crate::silence::Silence;
 use crate::spell::Spell;
 use crate::wire::Wire;
 use kmip_choices::Peer;
 use kmip_protocol::LinkFault;
+use kmip_run_record::{Answer, Silence, exchange_line, refusals_in};
 use kmip_tally::Spent;
 use kmip_ttlv::{NoMemory, plain_text};
 use std::alloc::Global;
@@ -140,7 +137,7 @@ impl<'a> ExchangeLog<'a> {
     /// An exchange was made: the bytes that were sent, and what came of it. Reports it in words. Returns how
     /// many searches by name it answered.
     pub fn exchanged(&self, request: &[u8], answered: Result<Option<&[u8]>, LinkFault>) -> usize {
-        let found = match Answer::of(self.rt.alloc(), answered, &self.wire) {
+        let found = match Answer::of(self.rt.alloc(), answered, &self.wire.traffic()) {
             Ok(answer) => {
                 self.note(answer.silence(), refusals_in(answer.replies()), false);
                 if self.is_verbose {

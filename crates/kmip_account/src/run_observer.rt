@@ -1,14 +1,11 @@
 //! What `run` reports and finds out of its exchanges while it works.
 
 use crate::account::Account;
-use crate::asked::Asked;
-use crate::exchange::Exchange;
-use crate::findings::Findings;
-use crate::silence::Silence;
 use kmip_batch_items::Reply;
 use kmip_client::{Client, Listener, Part};
 use kmip_protocol::NoReplyReason;
 use kmip_run_command::Counting;
+use kmip_run_record::{Asked, Exchange, Findings, Silence};
 use kmip_runs::{ExchangeNews, Observer};
 use kmip_tally::{RunTally, Unanswered};
 use kmip_ttlv::NoMemory;

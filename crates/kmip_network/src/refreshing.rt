@@ -12,7 +12,7 @@ use crate::observed::Observed;
 use crate::repeating::Repeating;
 use crate::running::{first_wait, tell_end};
 use crate::until_run::UntilRun;
-use kmip_account::{Account, Findings, RunObserver};
+use kmip_account::{Account, RunObserver};
 use kmip_choices::RunOptions;
 use kmip_look::{Pause, Why};
 use kmip_protocol::Link;
@@ -20,8 +20,9 @@ use kmip_refresh::{
     Agreement, Beginning, KeyLook, Refresh, RefreshOutcome, Refreshed, run_refreshed,
 };
 use kmip_report::{ExitStatus, print_report};
-use kmip_run_command::{RunEnd, RunInput, begin, push_run_end};
+use kmip_run_command::{RunEnd, RunInput, push_run_end};
 use kmip_run_files::{MachineKeeper, Start};
+use kmip_run_record::Findings;
 use kmip_runs::Pace;
 use kmip_tally::Unanswered;
 use kmip_trouble::{Obstacle, Trouble, standard_output};
@@ -77,13 +78,10 @@ impl<'a> Refreshing<'a> {
 
     /// The trouble that the server contradicts the progress.
     fn contradiction(&self, looks: &[KeyLook]) -> Result<Trouble, Trouble> {
-        let alloc = self.account.rt().alloc();
-        let Ok(client) = begin(alloc, self.account.plan(), self.start.saved()) else {
-            return Err(Trouble::from(NoMemory)); // the text was read before
-        };
         let path = self.options.progress.as_str();
         let server = self.start.server()?;
-        let contradiction = contradiction(alloc, path, server, &client, looks)?;
+        let (alloc, client) = (self.account.rt().alloc(), self.start.client());
+        let contradiction = contradiction(alloc, path, server, client, looks)?;
         Ok(Trouble::from(Obstacle::Contradicted(contradiction)))
     }
 

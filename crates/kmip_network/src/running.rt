@@ -2,13 +2,14 @@
 
 use crate::linking::{PeerLink, link_to};
 use crate::refreshing::{Refreshing, run_after_look};
-use kmip_account::{Account, Findings, RunObserver};
+use kmip_account::{Account, RunObserver};
 use kmip_choices::{Peer, RunOptions};
 use kmip_report::ExitStatus;
 use kmip_run_command::{RunInput, batch_of, run};
 use kmip_run_files::{
     MachineKeeper, MetricsFile, Start, check_progress, locked, plan_at, progress_to_begin_with,
 };
+use kmip_run_record::Findings;
 use kmip_runs::Pace;
 use kmip_trouble::{Trouble, standard_output};
 
@@ -27,7 +28,7 @@ pub fn run_plan(rt: &HostRuntime, options: &RunOptions) -> Result<ExitStatus, Tr
     let (progress, lock) = locked(rt, options.progress.as_str(), options.lock_wait)?;
     let start = progress_to_begin_with(rt, options, &plan, &progress)?;
     let account = Account::new(rt, options, &plan.plan)?;
-    let mut findings = Findings::new(rt.alloc(), &plan.plan, start.saved())?;
+    let mut findings = Findings::new(rt.alloc(), start.client())?;
     let link = link_to(account.log(), &options.peer, options.timeout)?;
     let metrics = MetricsFile::of(rt, options, &plan);
     if let Some(metrics) = &metrics {
@@ -68,7 +69,7 @@ fn run_over(
         };
         return run_after_look(&refreshing, &input, keeper, findings, link);
     }
-    account.show_start(start.saved());
+    account.show_start(start.client());
     let mut link = link;
     let mut pace = Pace::new(account.rt(), first_wait(options), options.give_up);
     let mut observer = RunObserver::new(account, findings);

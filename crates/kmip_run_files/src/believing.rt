@@ -31,7 +31,7 @@ pub fn progress_to_begin_with<'a>(
     let kept = Kept {
         rt,
         options,
-        plan: &file.plan,
+        plan: file,
         file: progress,
         server: server_of(rt, &options.peer)?,
     };
@@ -58,15 +58,30 @@ pub fn check_progress(
     let Some(text) = read_progress(rt, &progress_file_at(rt, path)?)? else {
         return Ok(());
     };
-    match begin(rt.alloc(), &file.plan, Some(text.as_str())) {
-        Ok(_client) => Ok(()),
+    client_of(rt, options, file, text.as_str())?;
+    Ok(())
+}
+
+/// A client that knows what the text of the progress of a run says of the plan.
+///
+/// # Errors
+/// If memory runs out, or the text is refused, which is explained on standard error.
+pub(crate) fn client_of<'p>(
+    rt: &HostRuntime,
+    options: &RunOptions,
+    file: &'p PlanFile,
+    text: &str,
+) -> Result<Client<'p>, Trouble> {
+    match begin(rt.alloc(), &file.plan, Some(text)) {
+        Ok(client) => Ok(client),
         Err(ProgressFault::NoMemory) => Err(Trouble::from(NoMemory)),
         Err(fault) => {
+            let path = options.progress.as_str();
             let refused = RefusedProgress {
                 plan_path: plan_name(options.plan.as_str()),
                 plan: file.text.as_str(),
                 path,
-                text: text.as_str(),
+                text,
             };
             refused.explain(rt);
             let path = String::from_str(rt.alloc(), path)?;

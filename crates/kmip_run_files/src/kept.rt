@@ -1,17 +1,14 @@
 //! What a run has of its progress.
 
-use crate::believing::{destroyed_key, known_count, read_progress};
+use crate::believing::{client_of, destroyed_key, known_count, read_progress};
 use crate::origin::{Origin, server_text};
+use crate::plan_file::PlanFile;
 use crate::recalling::{judge_attributes, origin_of};
 use crate::start::Start;
 use kmip_choices::{Peer, RunOptions, Trust};
 use kmip_client::Client;
 use kmip_files::ProgressFile;
-use kmip_plan::Plan;
-use kmip_progress::ProgressFault;
-use kmip_run_command::begin;
 use kmip_trouble::{AnotherServer, Cannot, Obstacle, Trouble};
-use kmip_ttlv::NoMemory;
 use std::alloc::AllocError;
 use std::io::{self, Error};
 
@@ -20,7 +17,7 @@ use std::io::{self, Error};
 pub(crate) struct Kept<'a> {
     pub(crate) rt: &'a HostRuntime,
     pub(crate) options: &'a RunOptions,
-    pub(crate) plan: &'a Plan,
+    pub(crate) plan: &'a PlanFile,
     pub(crate) file: &'a ProgressFile<'a, HostRuntime>,
     /// The server of this run.
     pub(crate) server: String,
@@ -33,30 +30,32 @@ impl<'a> Kept<'a> {
             let before = self.file.before_path()?;
             return Err(self.unwritten(before, error));
         }
-        self.begins(None)
+        self.fresh()
     }
 
     /// From what the file says, unless it was saved elsewhere or for other keys.
     pub(crate) fn begun(self) -> Result<Start<'a>, Trouble> {
         let Some(text) = read_progress(self.rt, self.file)? else {
-            return self.begins(None);
+            return self.fresh();
         };
-        let client = match begin(self.rt.alloc(), self.plan, Some(text.as_str())) {
-            Ok(client) => client,
-            Err(ProgressFault::NoMemory) => return Err(Trouble::from(NoMemory)),
-            Err(_) => return Ok(self.start(Some(text), None)), // the run refuses it
-        };
+        let client = client_of(self.rt, self.options, self.plan, text.as_str())?;
         let origin = origin_of(self.file, self.options.trust == Trust::Believe)?;
         self.judge(origin.as_ref(), &client)?;
         let known = known_count(&client);
         if known > 0 && self.is_to_refresh(origin.is_some()) {
-            return Ok(self.start(Some(text), Some(known)));
+            return Ok(self.start(client, Some(text), Some(known)));
         }
         if client.working() > 0 {
-            return self.begins(Some(text));
+            return self.begins(client, Some(text));
         }
         self.tell_not_asked(origin.as_ref())?;
-        Ok(self.start(Some(text), None))
+        Ok(self.start(client, Some(text), None))
+    }
+
+    /// With nothing known.
+    fn fresh(self) -> Result<Start<'a>, Trouble> {
+        let client = Client::fresh(self.rt.alloc(), &self.plan.plan)?;
+        self.begins(client, None)
     }
 
     /// Whether the server is asked about what the file knows, before the run. It is if that was asked for, or if
@@ -68,9 +67,15 @@ impl<'a> Kept<'a> {
     }
 
     /// The start of a run with this text, which first looks at this number of keys, if it looks.
-    fn start(self, saved: Option<String>, looked_at: Option<usize>) -> Start<'a> {
+    fn start(
+        self,
+        client: Client<'a>,
+        saved: Option<String>,
+        looked_at: Option<usize>,
+    ) -> Start<'a> {
         Start {
             kept: self,
+            client,
             saved,
             looked_at,
         }
@@ -89,7 +94,7 @@ impl<'a> Kept<'a> {
         if !is_here && known_count(client) > 0 {
             return Err(self.another_server(origin, client)?);
         }
-        judge_attributes(self.file, origin, self.plan.keys())
+        judge_attributes(self.file, origin, self.plan.plan.keys())
     }
 
     /// The file was saved against another server.
@@ -120,7 +125,7 @@ impl<'a> Kept<'a> {
             Some(origin) => self.origin_text(origin)?,
             None => String::new(alloc),
         };
-        let keys = match self.plan.count() {
+        let keys = match self.plan.plan.count() {
             1 => String::from_str(alloc, "the key is finished")?,
             count => format!(in alloc; "all {count} keys are finished")?,
         };
@@ -143,16 +148,16 @@ impl<'a> Kept<'a> {
 
     /// Begins with this text, once PATH.origin says that the file is of this server. A run that may make no
     /// exchange writes nothing.
-    fn begins(self, saved: Option<String>) -> Result<Start<'a>, Trouble> {
+    fn begins(self, client: Client<'a>, saved: Option<String>) -> Result<Start<'a>, Trouble> {
         if self.options.limit > 0 {
             self.note_origin()?;
         }
-        Ok(self.start(saved, None))
+        Ok(self.start(client, saved, None))
     }
 
     /// Writes PATH.origin: the file is of this server since now, and of these keys.
     pub(crate) fn note_origin(&self) -> Result<(), Trouble> {
-        let text = Origin::text(self.rt, self.server.as_str(), self.plan.keys())?;
+        let text = Origin::text(self.rt, self.server.as_str(), self.plan.plan.keys())?;
         if let Err(error) = self.file.write_origin(text.as_bytes()) {
             let origin = self.file.origin_path()?;
             return Err(self.unwritten(origin, error));

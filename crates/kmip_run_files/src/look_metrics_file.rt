@@ -2,8 +2,9 @@
 
 use crate::metrics_place::MetricsPlace;
 use crate::origin::now;
-use kmip_account::{ExchangeLog, LookCounts, LookMetrics};
+use kmip_account::ExchangeLog;
 use kmip_choices::LookOptions;
+use kmip_run_record::{LookCounts, LookMetrics};
 use std::io;
 
 /// The file that a collector of metrics reads of a look. A failure to write it changes nothing of the look: it is

@@ -3,8 +3,9 @@
 use crate::metrics_place::MetricsPlace;
 use crate::origin::now;
 use crate::plan_file::PlanFile;
-use kmip_account::{Account, Findings, LastTimes, Metrics};
+use kmip_account::Account;
 use kmip_choices::RunOptions;
+use kmip_run_record::{Findings, LastTimes, Metrics};
 use kmip_ttlv::NoMemory;
 use sha2::{Digest, Sha256};
 use std::alloc::{AllocError, Global};
@@ -76,7 +77,7 @@ impl<'a> MetricsFile<'a> {
         }
     }
 
-    /// Writes the metrics of the run, unless it refuses its progress: then the status of the keys is not known.
+    /// Writes the metrics of the run.
     fn write(
         &self,
         account: &Account<'_>,
@@ -84,9 +85,6 @@ impl<'a> MetricsFile<'a> {
         is_in_progress: bool,
         is_finished: bool,
     ) -> io::Result<()> {
-        let Some(standing) = findings.standing() else {
-            return Ok(());
-        };
         let tally = match account.tally(findings) {
             Ok(tally) => tally,
             Err(NoMemory) => return Err(Error::from(ErrorKind::OutOfMemory)),
@@ -95,7 +93,7 @@ impl<'a> MetricsFile<'a> {
         let metrics = Metrics {
             plan: self.plan,
             is_in_progress,
-            standing,
+            standing: findings.standing(),
             tally: &tally,
             digest: self.digest.as_str(),
             last: self.last.renewed(now(self.rt)?, answered, is_finished),

@@ -1,8 +1,8 @@
 //! Where, when and for which keys a progress was kept: the text of a file beside it.
 
-use kmip_account::usage_words;
 use kmip_choices::Peer;
 use kmip_plan::{Key, algorithm_word};
+use kmip_run_record::usage_words;
 use kmip_ttlv::{NoMemory, plain_text};
 use std::alloc::{AllocError, Global};
 use std::time::{SystemTime, UNIX_EPOCH};

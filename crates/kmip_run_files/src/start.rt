@@ -1,17 +1,24 @@
 //! What a run begins with.
 
 use crate::kept::Kept;
+use kmip_client::Client;
 use kmip_trouble::Trouble;
 
-/// What a run begins with: the text of its progress, and whether the server is asked about it first.
+/// What a run begins with: its progress, and whether the server is asked about it first.
 #[derive(Drop)]
 pub struct Start<'a> {
     pub(crate) kept: Kept<'a>,
+    pub(crate) client: Client<'a>,
     pub(crate) saved: Option<String>,
     pub(crate) looked_at: Option<usize>,
 }
 
 impl<'a> Start<'a> {
+    /// A client that knows what the progress says.
+    pub fn client(&self) -> &Client<'a> {
+        &self.client
+    }
+
     /// The text of the progress; none if the run begins with nothing.
     pub fn saved(&self) -> Option<&str> {
         match &self.saved {

@@ -1,9 +1,9 @@
 //! What is counted of a run, and its text. The counts and the text were worked out by hand.
 
 use Operation::{Activate, Create, Destroy, GetAttributes, Locate, Revoke};
-use kmip_account::{LastTimes, LookCounts, LookMetrics, Metrics};
 use kmip_batch_items::Operation;
 use kmip_plan::read_plan;
+use kmip_run_record::{LastTimes, LookCounts, LookMetrics, Metrics};
 use kmip_tally::{Course, RunTally, Spent, Standing};
 use std::process::Abort;
 use std::test::Fail;

@@ -1,4 +1,4 @@
-//! Tests of kmip_tally and kmip_account: what is counted of a run, and the text of metrics.
+//! Tests of kmip_tally and kmip_run_record: what is counted of a run, and the text of metrics.
 //!
 //! The counts and the text were worked out by hand.
 #![tactic(auto)]

@@ -5,14 +5,14 @@ use kmip_client::Part;
 
 /// The questions of one message.
 #[derive(Clone, Copy)]
-pub(crate) struct Asked {
+pub struct Asked {
     parts: [Part; MOST_QUESTIONS],
     count: usize,
 }
 
 impl Asked {
     /// No question.
-    pub(crate) fn none() -> Self {
+    pub fn none() -> Self {
         let part = Part {
             key: 0,
             operation: 0,
@@ -24,7 +24,7 @@ impl Asked {
     }
 
     /// These questions: a message has no more than there is room for.
-    pub(crate) fn of(parts: &[Part]) -> Self {
+    pub fn of(parts: &[Part]) -> Self {
         let mut asked = Asked::none();
         for part in parts {
             if asked.count < MOST_QUESTIONS {
@@ -35,7 +35,7 @@ impl Asked {
         asked
     }
 
-    pub(crate) fn parts(&self) -> &[Part] {
+    pub fn parts(&self) -> &[Part] {
         self.parts.get(..self.count).unwrap_or(&[])
     }
 }

@@ -2,15 +2,17 @@
 
 use crate::failure::Failure;
 use crate::peer_talk::PeerTalk;
+use byteorder::{BigEndian, ByteOrder};
 use kmip_batch_items::MessageFault;
 use kmip_probe::{ProtocolVersion, version_in};
-use kmip_ttlv::{MAX_SIZE, NoMemory};
+use kmip_protocol::LinkFault;
+use kmip_ttlv::{HEAD_SIZE, MAX_SIZE, NoMemory};
 use std::alloc::Global;
 use std::io::Error;
 
 /// Why an exchange brought no reply that can be read.
 #[derive(Clone, Copy)]
-pub(crate) enum Silence {
+pub enum Silence {
     Failed(Failure),
     /// The connection ended within a message.
     Cut,
@@ -24,8 +26,26 @@ pub(crate) enum Silence {
 }
 
 impl Silence {
+    /// Why an exchange brought no message: these were the first bytes that came, this the last failure of its
+    /// streams, and this the fault of the link.
+    pub fn of(first: &[u8], failure: Option<Failure>, fault: Option<LinkFault>) -> Silence {
+        match (PeerTalk::of(first), fault) {
+            (_, Some(LinkFault::NoMemory)) => Silence::NoMemory,
+            (PeerTalk::Kmip, Some(LinkFault::Frame)) => bad_head(first),
+            (PeerTalk::Tls | PeerTalk::Http | PeerTalk::Other, _) | (_, Some(LinkFault::Frame)) => {
+                Silence::NoKmip(PeerTalk::of(first))
+            }
+            (PeerTalk::Nothing, None) => Silence::Failed(Failure::Closed),
+            (PeerTalk::Kmip, None) => Silence::Cut,
+            (PeerTalk::Nothing | PeerTalk::Kmip, Some(LinkFault::Io)) => {
+                // A deadline that ends between two reads is no failure of a stream.
+                Silence::Failed(failure.unwrap_or(Failure::Late))
+            }
+        }
+    }
+
     /// That bytes with this fault came, which are not a message of replies.
-    pub(crate) fn unreadable(fault: MessageFault, reply: &[u8]) -> Silence {
+    pub fn unreadable(fault: MessageFault, reply: &[u8]) -> Silence {
         let version = match fault {
             MessageFault::Version => version_in(reply),
             MessageFault::Ttlv(_)
@@ -43,7 +63,7 @@ impl Silence {
     }
 
     /// Whether a message came that is no reply.
-    pub(crate) fn is_unreadable(self) -> bool {
+    pub fn is_unreadable(self) -> bool {
         matches!(self, Silence::Unreadable(_, _))
     }
 
@@ -51,7 +71,7 @@ impl Silence {
     ///
     /// # Errors
     /// If memory runs out.
-    pub(crate) fn text(self, alloc: Global, timeout: u64) -> Result<String, NoMemory> {
+    pub fn text(self, alloc: Global, timeout: u64) -> Result<String, NoMemory> {
         match self {
             Silence::Failed(failure) => failure_text(alloc, failure, timeout),
             Silence::Cut => copied(alloc, "the connection was closed within a reply"),
@@ -74,7 +94,7 @@ impl Silence {
     ///
     /// # Errors
     /// If memory runs out.
-    pub(crate) fn brief(self, alloc: Global) -> Result<String, NoMemory> {
+    pub fn brief(self, alloc: Global) -> Result<String, NoMemory> {
         match self {
             Silence::Failed(Failure::Refused) => copied(alloc, "connection refused"),
             Silence::Failed(Failure::Late) => copied(alloc, "timed out"),
@@ -92,7 +112,7 @@ impl Silence {
     ///
     /// # Errors
     /// If memory runs out.
-    pub(crate) fn told(self, alloc: Global, timeout: u64) -> Result<String, NoMemory> {
+    pub fn told(self, alloc: Global, timeout: u64) -> Result<String, NoMemory> {
         match self {
             Silence::Unreadable(fault, version) => unreadable_text(alloc, fault, version),
             silence => {
@@ -101,6 +121,20 @@ impl Silence {
                 Ok(text)
             }
         }
+    }
+}
+
+/// Why a head that begins as one of a message is none: its message is too long, or else it is not KMIP.
+fn bad_head(head: &[u8]) -> Silence {
+    if head.len() < HEAD_SIZE {
+        return Silence::NoKmip(PeerTalk::Kmip);
+    }
+    let length = BigEndian::read_u32(&head[4..HEAD_SIZE]);
+    let size = u64::from(length).saturating_add(HEAD_SIZE as u64);
+    if size > MAX_SIZE as u64 {
+        Silence::TooLong(size)
+    } else {
+        Silence::NoKmip(PeerTalk::Kmip)
     }
 }
 

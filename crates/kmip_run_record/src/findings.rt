@@ -6,9 +6,7 @@ use crate::stage::Stage;
 use crate::story::Story;
 use kmip_batch_items::Operation;
 use kmip_client::{Client, Part};
-use kmip_plan::{Key, Plan};
-use kmip_progress::ProgressFault;
-use kmip_run_command::begin;
+use kmip_plan::Key;
 use kmip_tally::{RunTally, Spent, Standing};
 use kmip_ttlv::NoMemory;
 use std::alloc::Global;
@@ -24,38 +22,36 @@ pub struct Findings {
 }
 
 impl Findings {
-    /// Of a run of this plan that begins with the text of this progress: nothing yet.
+    /// Of a run that begins with what this client knows: nothing was heard of any key yet.
     ///
     /// # Errors
     /// If memory runs out.
-    pub fn new(alloc: Global, plan: &Plan, saved: Option<&str>) -> Result<Self, NoMemory> {
-        let stories = stories_of(alloc, plan, saved)?;
-        let score = Score::new(alloc, plan, saved)?;
+    pub fn new(alloc: Global, client: &Client<'_>) -> Result<Self, NoMemory> {
         Ok(Findings {
-            stories,
-            score,
+            stories: begun_stories(alloc, client)?,
+            score: Score::new(alloc, client)?,
             is_any_new: true,
         })
     }
 
-    /// How the keys stand by what is known; none if the progress that the run is to begin with is refused.
-    pub fn standing(&self) -> Option<Standing> {
+    /// The number of keys with each verdict, by what is known.
+    pub fn standing(&self) -> Standing {
         self.score.standing()
     }
 
     /// How many steps of the key at a place were known after the exchange before; none if the plan has no key there.
-    pub(crate) fn done(&self, place: usize) -> Option<usize> {
+    pub fn done(&self, place: usize) -> Option<usize> {
         let story = self.stories.get(place)?;
         Some(story.done())
     }
 
     /// What was heard of each key, in the order of the plan.
-    pub(crate) fn stories(&self) -> &[Story] {
+    pub fn stories(&self) -> &[Story] {
         self.stories.as_slice()
     }
 
     /// Takes in an exchange. What was heard is left out if there is no memory to note it.
-    pub(crate) fn hear(&mut self, alloc: Global, exchange: &Exchange<'_>) {
+    pub fn hear(&mut self, alloc: Global, exchange: &Exchange<'_>) {
         self.score.count(exchange);
         if exchange.has_stranger() {
             self.is_any_new = true;
@@ -66,7 +62,7 @@ impl Findings {
     }
 
     /// Takes in what the client knows after an exchange that asked these questions.
-    pub(crate) fn learn(&mut self, client: &Client<'_>, asked: &[Part]) {
+    pub fn learn(&mut self, client: &Client<'_>, asked: &[Part]) {
         if self.is_any_new {
             self.know_all(client);
             self.is_any_new = false;
@@ -78,7 +74,7 @@ impl Findings {
     }
 
     /// Takes in what the client knows of each key.
-    pub(crate) fn know_all(&mut self, client: &Client<'_>) {
+    pub fn know_all(&mut self, client: &Client<'_>) {
         let count = client.plan().count();
         for place in 0..count {
             self.know_key(client, place);
@@ -89,7 +85,7 @@ impl Findings {
     ///
     /// # Errors
     /// If memory runs out.
-    pub(crate) fn tally(
+    pub fn tally(
         &self,
         alloc: Global,
         keys: &[Key],
@@ -135,24 +131,16 @@ impl Findings {
     }
 }
 
-/// The stories of the keys of a plan at the start of a run, which begins with the text of this progress. If the
-/// progress is refused, nothing is known of any key.
-fn stories_of(alloc: Global, plan: &Plan, saved: Option<&str>) -> Result<Vec<Story>, NoMemory> {
-    let count = plan.count();
+/// The stories of the keys of a client, each begun with what the client knows.
+fn begun_stories(alloc: Global, client: &Client<'_>) -> Result<Vec<Story>, NoMemory> {
+    let count = client.plan().count();
     let mut stories = Vec::with_capacity(alloc, count)?;
-    for _ in 0..count {
-        stories.push(Story::new(alloc))?;
-    }
-    match begin(alloc, plan, saved) {
-        Ok(client) => {
-            for (place, story) in stories.iter_mut().enumerate() {
-                if let Some(stage) = Stage::of(&client, place) {
-                    story.reach(stage);
-                }
-            }
-            Ok(stories)
+    for place in 0..count {
+        let mut story = Story::new(alloc);
+        if let Some(stage) = Stage::of(client, place) {
+            story.reach(stage);
         }
-        Err(ProgressFault::NoMemory) => Err(NoMemory),
-        Err(_) => Ok(stories),
+        stories.push(story)?;
     }
+    Ok(stories)
 }

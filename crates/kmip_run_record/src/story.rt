@@ -14,7 +14,7 @@ use std::alloc::Global;
 
 /// What was heard of a key, since more of it was known.
 #[derive(Drop)]
-pub(crate) struct Story {
+pub struct Story {
     stage: Stage,
     refusals: Counts,
     losses: Counts,
@@ -92,7 +92,7 @@ impl Story {
     }
 
     /// Whether the key is finished.
-    pub(crate) fn is_finished(&self) -> bool {
+    pub fn is_finished(&self) -> bool {
         self.stage.verdict == Verdict::Finished
     }
 
@@ -100,12 +100,7 @@ impl Story {
     ///
     /// # Errors
     /// Where there is no memory.
-    pub(crate) fn push_why(
-        &self,
-        alloc: Global,
-        key: &Key,
-        text: &mut String,
-    ) -> Result<(), NoMemory> {
+    pub fn push_why(&self, alloc: Global, key: &Key, text: &mut String) -> Result<(), NoMemory> {
         match self.stage.verdict {
             Verdict::Conflict(clash) => self.push_clash(alloc, clash, key, text),
             Verdict::Working | Verdict::Finished => self.push_last(alloc, text),

@@ -4,7 +4,7 @@ use std::io::{Error, ErrorKind};
 
 /// How a stream could not be opened, written or read.
 #[derive(Clone, Copy)]
-pub(crate) enum Failure {
+pub enum Failure {
     /// Nobody listens.
     Refused,
     /// It took too long.
@@ -19,7 +19,7 @@ pub(crate) enum Failure {
 
 impl Failure {
     /// The one that an error tells of.
-    pub(crate) fn of(error: &Error) -> Failure {
+    pub fn of(error: &Error) -> Failure {
         match error.kind() {
             ErrorKind::ConnectionRefused => Failure::Refused,
             ErrorKind::TimedOut | ErrorKind::WouldBlock => Failure::Late,

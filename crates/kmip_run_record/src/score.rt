@@ -4,9 +4,7 @@ use crate::exchange::Exchange;
 use crate::stage::Stage;
 use kmip_batch_items::Operation;
 use kmip_client::{Client, Part};
-use kmip_plan::{Key, Plan};
-use kmip_progress::ProgressFault;
-use kmip_run_command::begin;
+use kmip_plan::Key;
 use kmip_tally::{Course, RunTally, Spent, Standing, Verdicts};
 use kmip_ttlv::NoMemory;
 use std::alloc::Global;
@@ -16,27 +14,20 @@ use std::alloc::Global;
 pub(crate) struct Score {
     /// The course of each key, in the order of the plan.
     courses: Vec<Course>,
-    /// The verdict on each key; none where the progress that the run is to begin with is refused.
-    verdicts: Option<Verdicts>,
+    /// The verdict on each key, in the order of the plan.
+    verdicts: Verdicts,
     /// How many exchanges brought a reply that cannot be read.
     unreadable: u64,
 }
 
 impl Score {
-    /// Of a run of this plan that begins with the text of this progress.
+    /// Of a run that begins with what this client knows.
     ///
     /// # Errors
-    /// Where there is no memory.
-    pub(crate) fn new(alloc: Global, plan: &Plan, saved: Option<&str>) -> Result<Self, NoMemory> {
-        let mut courses = untaken(alloc, plan.count())?;
-        let verdicts = match begin(alloc, plan, saved) {
-            Ok(client) => {
-                begin_courses(&client, courses.as_mut_slice());
-                Some(Verdicts::of(client.verdicts(alloc)?))
-            }
-            Err(ProgressFault::NoMemory) => return Err(NoMemory),
-            Err(_) => None, // the run refuses it, and asks nothing
-        };
+    /// If memory runs out.
+    pub(crate) fn new(alloc: Global, client: &Client<'_>) -> Result<Self, NoMemory> {
+        let courses = begun_courses(alloc, client)?;
+        let verdicts = Verdicts::of(client.verdicts(alloc)?);
         Ok(Score {
             courses,
             verdicts,
@@ -44,10 +35,9 @@ impl Score {
         })
     }
 
-    /// How the keys stand; none where the progress that the run is to begin with is refused.
-    pub(crate) fn standing(&self) -> Option<Standing> {
-        let verdicts = self.verdicts.as_ref()?;
-        Some(verdicts.standing())
+    /// The number of keys with each verdict.
+    pub(crate) fn standing(&self) -> Standing {
+        self.verdicts.standing()
     }
 
     /// Counts an exchange.
@@ -66,17 +56,15 @@ impl Score {
         if place < self.courses.len() {
             self.courses[place].reach(stage.done);
         }
-        if let Some(verdicts) = &mut self.verdicts {
-            if place < verdicts.len() {
-                verdicts.set(place, stage.verdict);
-            }
+        if place < self.verdicts.len() {
+            self.verdicts.set(place, stage.verdict);
         }
     }
 
     /// The tally of a run of these keys that has spent so much.
     ///
     /// # Errors
-    /// Where there is no memory.
+    /// If memory runs out.
     pub(crate) fn tally(
         &self,
         alloc: Global,
@@ -101,24 +89,14 @@ impl Score {
     }
 }
 
-/// The courses of so many keys of which nothing is known.
-fn untaken(alloc: Global, count: usize) -> Result<Vec<Course>, NoMemory> {
-    let mut courses = Vec::with_capacity(alloc, count)?;
-    for _ in 0..count {
-        courses.push(Course::new(0))?;
+/// The courses of the keys of a client, each begun with what the client knows.
+fn begun_courses(alloc: Global, client: &Client<'_>) -> Result<Vec<Course>, NoMemory> {
+    let counts = client.counts(alloc)?;
+    let mut courses = Vec::with_capacity(alloc, counts.len())?;
+    for count in &counts {
+        courses.push(Course::new(*count))?;
     }
     Ok(courses)
-}
-
-/// Begins the course of each key with what the client knows.
-fn begin_courses(client: &Client<'_>, courses: &mut [Course]) {
-    let count = client.plan().count();
-    for place in 0..count {
-        let done = client.done(place);
-        if place < courses.len() {
-            courses[place] = Course::new(done);
-        }
-    }
 }
 
 /// Notes in the course of the key that a question is about what it asks.

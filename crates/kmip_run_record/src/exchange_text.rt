@@ -8,18 +8,11 @@ use kmip_ttlv::{Bytes, NoMemory, Text, plain_text};
 use std::alloc::Global;
 use std::str::from_utf8;
 
-/// Prints an exchange on standard error, in a line; nothing if memory runs out.
-pub fn tell_exchange(rt: &HostRuntime, request: &[u8], reply: &[u8]) {
-    if let Ok(line) = exchange_line(rt.alloc(), request, Some(reply), None) {
-        let _ = rt.eprintln(&line);
-    }
-}
-
 /// The line of an exchange: the reply in words, or why there is none.
 ///
 /// # Errors
 /// If memory runs out.
-pub(crate) fn exchange_line(
+pub fn exchange_line(
     alloc: Global,
     request: &[u8],
     reply: Option<&[u8]>,

@@ -1,7 +1,7 @@
 //! What came of an exchange, by its bytes.
 
 use crate::silence::Silence;
-use crate::wire::Wire;
+use crate::traffic::Traffic;
 use kmip_batch_items::{MessageFault, Outcome, Reply};
 use kmip_messages::read_reply;
 use kmip_protocol::LinkFault;
@@ -10,7 +10,7 @@ use std::alloc::Global;
 
 /// What came of an exchange.
 #[derive(Drop)]
-pub(crate) enum Answer {
+pub enum Answer {
     Replies(Vec<Reply>),
     /// No reply came that can be read.
     Silent(Silence),
@@ -21,10 +21,10 @@ impl Answer {
     ///
     /// # Errors
     /// If memory runs out.
-    pub(crate) fn of(
+    pub fn of(
         alloc: Global,
         answered: Result<Option<&[u8]>, LinkFault>,
-        wire: &Wire,
+        traffic: &Traffic,
     ) -> Result<Answer, NoMemory> {
         match answered {
             Ok(Some(reply)) => match read_reply(alloc, reply) {
@@ -32,13 +32,13 @@ impl Answer {
                 Err(MessageFault::NoMemory) => Err(NoMemory),
                 Err(fault) => Ok(Answer::Silent(Silence::unreadable(fault, reply))),
             },
-            Ok(None) => Ok(Answer::Silent(wire.silence(None))),
-            Err(fault) => Ok(Answer::Silent(wire.silence(Some(fault)))),
+            Ok(None) => Ok(Answer::Silent(traffic.silence(None))),
+            Err(fault) => Ok(Answer::Silent(traffic.silence(Some(fault)))),
         }
     }
 
     /// The replies; none if there is a silence.
-    pub(crate) fn replies(&self) -> &[Reply] {
+    pub fn replies(&self) -> &[Reply] {
         match self {
             Answer::Replies(replies) => replies.as_slice(),
             Answer::Silent(_) => &[],
@@ -46,7 +46,7 @@ impl Answer {
     }
 
     /// Why there is no reply that can be read, if there is none.
-    pub(crate) fn silence(&self) -> Option<Silence> {
+    pub fn silence(&self) -> Option<Silence> {
         match self {
             Answer::Replies(_) => None,
             Answer::Silent(silence) => Some(*silence),
@@ -54,7 +54,7 @@ impl Answer {
     }
 
     /// How many searches by name it answers.
-    pub(crate) fn found_names(&self) -> usize {
+    pub fn found_names(&self) -> usize {
         self.replies()
             .iter()
             .filter(|reply| matches!(reply.outcome, Outcome::Located(_)))

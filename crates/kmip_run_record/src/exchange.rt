@@ -8,24 +8,24 @@ use kmip_ttlv::Bytes;
 
 /// What was asked about keys of a plan in an exchange, and what came of it.
 #[derive(Clone, Copy)]
-pub(crate) struct Exchange<'e> {
+pub struct Exchange<'e> {
     /// The keys of the plan.
-    pub(crate) keys: &'e [Key],
-    pub(crate) asked: &'e [Part],
+    pub keys: &'e [Key],
+    pub asked: &'e [Part],
     /// The replies that came; none if there is a silence.
-    pub(crate) replies: &'e [Reply],
+    pub replies: &'e [Reply],
     /// Why there is no reply that can be read, if there is none.
-    pub(crate) silence: Option<Silence>,
+    pub silence: Option<Silence>,
 }
 
 impl<'e> Exchange<'e> {
     /// The key that a question is about.
-    pub(crate) fn key(&self, part: &Part) -> Option<&'e Key> {
+    pub fn key(&self, part: &Part) -> Option<&'e Key> {
         self.keys.get(part.key)
     }
 
     /// The answer to a question, if one came.
-    pub(crate) fn answer(&self, part: &Part) -> Option<&'e Outcome> {
+    pub fn answer(&self, part: &Part) -> Option<&'e Outcome> {
         let key = self.key(part)?;
         let replies = self.replies;
         let reply = replies.iter().find(|reply| is_about(reply, part, key))?;
@@ -33,7 +33,7 @@ impl<'e> Exchange<'e> {
     }
 
     /// Whether a reply came to what was not asked.
-    pub(crate) fn has_stranger(&self) -> bool {
+    pub fn has_stranger(&self) -> bool {
         self.replies.iter().any(|reply| !self.is_asked(reply))
     }
 
@@ -47,7 +47,7 @@ impl<'e> Exchange<'e> {
 }
 
 /// How many of some replies are refusals.
-pub(crate) fn refusals_in(replies: &[Reply]) -> usize {
+pub fn refusals_in(replies: &[Reply]) -> usize {
     replies
         .iter()
         .filter(|reply| matches!(reply.outcome, Outcome::Failed(_)))

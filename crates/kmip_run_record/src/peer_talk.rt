@@ -11,7 +11,7 @@ const TLS_VERSION: u8 = 0x03;
 
 /// What a peer speaks.
 #[derive(Clone, Copy, Debug, PartialEq, Eq)]
-pub(crate) enum PeerTalk {
+pub enum PeerTalk {
     /// Nothing came.
     Nothing,
     Kmip,
@@ -22,7 +22,7 @@ pub(crate) enum PeerTalk {
 
 impl PeerTalk {
     /// What these first bytes are the beginning of, from the first byte on.
-    pub(crate) fn of(first: &[u8]) -> PeerTalk {
+    pub fn of(first: &[u8]) -> PeerTalk {
         if first.is_empty() {
             PeerTalk::Nothing
         } else if begins_as(first, &KMIP) {
@@ -37,7 +37,7 @@ impl PeerTalk {
     }
 
     /// What is told of it behind that it is no KMIP.
-    pub(crate) fn text(self) -> &'static str {
+    pub fn text(self) -> &'static str {
         match self {
             PeerTalk::Tls => ": it answers in TLS",
             PeerTalk::Http => ": it answers in HTTP",

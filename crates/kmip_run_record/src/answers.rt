@@ -15,7 +15,7 @@ use std::str::from_utf8;
 ///
 /// # Errors
 /// Where there is no memory.
-pub(crate) fn push_answer_about(
+pub fn push_answer_about(
     alloc: Global,
     name: &[u8],
     outcome: &Outcome,
