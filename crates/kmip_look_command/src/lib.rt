@@ -9,11 +9,9 @@ mod line_words;
 mod report;
 mod running;
 mod standing;
-mod usage;
 mod verdicts;
 mod words;
 
 pub use report::push_looked;
 pub use running::run_look;
-pub use usage::usage_text;
 pub use words::{state_name, why_text};

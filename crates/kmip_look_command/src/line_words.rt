@@ -5,10 +5,10 @@ ghost use Rattle.kmip_look_command.specs.LookWords.{algorithm_name, state_name, 
 ghost use Rattle.kmip_look_command.specs.Private.{AreWordsOf};
 
 use crate::standing::Standing;
-use crate::usage::usage_text;
 use crate::words::{algorithm_name, state_name};
 use kmip_look::{Looked, Shown};
 use kmip_plan::Key;
+use kmip_trace::usage_text;
 use kmip_ttlv::NoMemory;
 use std::alloc::Global;
 

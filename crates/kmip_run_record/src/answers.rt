@@ -2,10 +2,9 @@
 
 use crate::reasons::push_reason;
 use kmip_batch_items::{Attrs, Outcome};
-use kmip_look_command::usage_text;
 use kmip_objects::standard::OBJECT_TYPE_SYMMETRIC_KEY;
 use kmip_plan::{Key, algorithm_word};
-use kmip_trace::push_outcome;
+use kmip_trace::{push_outcome, usage_text};
 use kmip_ttlv::{NoMemory, Text, plain_text};
 use std::alloc::Global;
 use std::str::from_utf8;

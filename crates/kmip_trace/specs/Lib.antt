@@ -7,3 +7,5 @@ pub mod Questions
 pub mod Answers
 -- The names of the reasons for which a server refuses.
 pub mod Reasons
+-- A usage mask.
+pub mod UsageWords

@@ -1,8 +1,8 @@
 -- The words are those of the table.
 use Rattle.std.proofs.Common.{◌++◌, ℕ, List, Bor, flat_map, string_bytes, sym, ap, ◌∙◌}
 use Rattle.std.proofs.lemmas.List.Folds.{flat_map-map}
-use Rattle.kmip_look_command.specs.LookWords.{usage_word}
-use Rattle.kmip_look_command.proofs.usage.push_usages.Goals as goal
+use Rattle.kmip_trace.specs.UsageWords.{usage_word}
+use Rattle.kmip_trace.proofs.usage.push_usages.Goals as goal
 
 abbrev told : Bor (List ℕ) × ℕ → List ℕ × ℕ
 told usage = (usage.0.now, usage.1)

@@ -1,7 +1,7 @@
 //! A usage mask, in words.
 ghost use Rattle.std.specs.Prelude.{◌≡◌, ◌++◌, IfOk, OnOk, map, string_bytes};
 ghost use Rattle.std.specs.List.{flat_map};
-ghost use Rattle.kmip_look_command.specs.LookWords.{
+ghost use Rattle.kmip_trace.specs.UsageWords.{
   mask_text,
   named_usages,
   usage_text,

@@ -1,7 +1,7 @@
 -- The words so far are those of the usages that were looked at.
 use Rattle.std.proofs.Common.{◌≡◌, ◌++◌, take, flat_map, string_bytes}
-use Rattle.kmip_look_command.specs.LookWords.{usage_word}
-use Rattle.kmip_look_command.proofs.usage.push_words.Given as goal
+use Rattle.kmip_trace.specs.UsageWords.{usage_word}
+use Rattle.kmip_trace.proofs.usage.push_words.Given as goal
 
 abbrev pub invariant-loop-usage : goal.invariant-loop-usage
 invariant-loop-usage l =
