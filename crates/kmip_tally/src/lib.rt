@@ -1,4 +1,4 @@
-//! What a run asked and learnt about each key, which keys are finished, and what is counted of it.
+//! What a run asked and learnt about each key, and what is counted of it.
 //!
 //! A `Course` is what a run asked about a key, and how many of its steps are known to have taken effect.
 //! `Verdicts` are those on the keys of a plan; how many keys have each is kept, and is at any time what

@@ -8,9 +8,9 @@ pub mod Serving
 pub mod Conversations
 -- what is seen of a link over streams, and what happens to it
 pub mod Links
--- what is claimed of a link to a server, wherever it is
-pub mod ServerLinks
 -- private: what only the clauses of private functions cite
 pub mod Private
 -- private: what only the clauses of private functions of a conversation cite
 pub mod PrivateConversations
+-- private: what is claimed of a link to a server, wherever it is
+pub mod PrivateServerLinks

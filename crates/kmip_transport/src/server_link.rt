@@ -1,5 +1,5 @@
 //! A link to a server, wherever it is.
-ghost use Rattle.kmip_transport.specs.ServerLinks.{network_of};
+ghost use Rattle.kmip_transport.specs.PrivateServerLinks.{network_of};
 
 use crate::dial::Dial;
 use crate::loopback::Loopback;
@@ -41,7 +41,7 @@ impl<T: Dial + Drop, U: Dial + Drop, R: Net + Clock + Drop, S: Records + Drop> S
 impl<T: Dial + Drop, U: Dial + Drop, R: Net + Clock + Drop, S: Records + Drop> Link
     for ServerLink<T, U, R, S> {
     ghost use Rattle.std.specs.Prelude.{⊤};
-    ghost use Rattle.kmip_transport.specs.ServerLinks.{network_of};
+    ghost use Rattle.kmip_transport.specs.PrivateServerLinks.{network_of};
 
     ghost seen = { λ link. network_of link };
 

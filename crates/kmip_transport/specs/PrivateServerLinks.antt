@@ -1,4 +1,4 @@
--- What is claimed of a link to a server, wherever it is.
+-- Private: what is claimed of a link to a server, wherever it is.
 -- Source: own (view).
 use Rattle.kmip_protocol.specs.Private.{unclaimed}
 use Rattle.kmip_protocol.specs.Seen.{Seen}
