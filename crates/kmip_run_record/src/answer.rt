@@ -1,4 +1,6 @@
 //! What came of an exchange, by its bytes.
+ghost use Rattle.std.specs.Prelude.{◌≡◌};
+ghost use Rattle.kmip_run_record.specs.Outcomes.{replies_of, silence_in};
 
 use crate::silence::Silence;
 use crate::traffic::Traffic;
@@ -38,7 +40,10 @@ impl Answer {
     }
 
     /// The replies; none if there is a silence.
-    pub fn replies(&self) -> &[Reply] {
+    pub fn replies(&self) -> &[Reply]
+        // They are those that came.
+        ensures { result.now ≡ replies_of self.now }
+    {
         match self {
             Answer::Replies(replies) => replies.as_slice(),
             Answer::Silent(_) => &[],
@@ -46,7 +51,10 @@ impl Answer {
     }
 
     /// Why there is no reply that can be read, if there is none.
-    pub fn silence(&self) -> Option<Silence> {
+    pub fn silence(&self) -> Option<Silence>
+        // It is the one that was found.
+        ensures { result ≡ silence_in self.now }
+    {
         match self {
             Answer::Replies(_) => None,
             Answer::Silent(silence) => Some(*silence),

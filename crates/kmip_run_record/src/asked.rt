@@ -1,4 +1,6 @@
 //! What the message under way asks.
+ghost use Rattle.std.specs.Prelude.{◌≡◌, [], take};
+ghost use Rattle.kmip_run_record.specs.Exchanges.{parts_of};
 
 use kmip_batch_items::standard::MOST_QUESTIONS;
 use kmip_client::Part;
@@ -12,7 +14,9 @@ pub struct Asked {
 
 impl Asked {
     /// No question.
-    pub fn none() -> Self {
+    pub fn none() -> Self
+        ensures { parts_of result ≡ [] }
+    {
         let part = Part {
             key: 0,
             operation: 0,
@@ -23,19 +27,24 @@ impl Asked {
         }
     }
 
-    /// These questions: a message has no more than there is room for.
-    pub fn of(parts: &[Part]) -> Self {
+    /// These questions: a message has at most as many as are kept.
+    pub fn of(parts: &[Part]) -> Self
+        // The first eight are kept.
+        ensures { parts_of result ≡ take 8 parts.now }
+    {
         let mut asked = Asked::none();
-        for part in parts {
-            if asked.count < MOST_QUESTIONS {
-                asked.parts[asked.count] = *part;
-                asked.count += 1;
-            }
+        let count = parts.len().min(MOST_QUESTIONS);
+        for place in 0..count {
+            asked.parts[place] = parts[place];
         }
+        asked.count = count;
         asked
     }
 
-    pub fn parts(&self) -> &[Part] {
-        self.parts.get(..self.count).unwrap_or(&[])
+    /// The questions, in their order.
+    pub fn parts(&self) -> &[Part]
+        ensures { result.now ≡ parts_of self.now }
+    {
+        &self.parts[..self.count.min(MOST_QUESTIONS)]
     }
 }

@@ -4,6 +4,11 @@
 //! what was asked of which keys, and what came of it. `Findings` are what a run finds out of its keys: a `Story`
 //! for each, its course and its verdict, from which the `RunTally` is counted. `Metrics` and `LookMetrics` are what
 //! is counted, as a text for a collector. kmip_account prints what is here, and has the clock.
+//!
+//! The clauses say what is counted and learnt of each exchange, which reply answers which question, and why no reply
+//! came, with its words. No clause says which failure an `io::Error` is, nor the words of an error of the system or of
+//! a fault of a message. None says which bytes of a stream are noted, nor the words for what a server answers, nor the
+//! text of metrics: test_account has rows for that text.
 #![tactic(auto)]
 
 mod answer;

@@ -1,6 +1,20 @@
-//! What is counted of a run beside what its progress line shows.
+//! What is counted of a run in addition to what its progress line shows.
+ghost use Rattle.std.specs.Prelude.{◌≡◌, ◌-◌, IfOk, None, map, slice_get};
+ghost use Rattle.std.specs.List.{fold};
+ghost use Rattle.kmip_client.specs.Verdicts.{counts_of, verdicts_of};
+ghost use Rattle.kmip_tally.specs.Counting.{standing_by};
+ghost use Rattle.kmip_run_record.specs.Scores.{
+  begun_course,
+  changed_at,
+  course_at,
+  courses_after,
+  steps_at,
+  steps_of,
+  unreadable_after,
+};
 
 use crate::exchange::Exchange;
+use crate::silence::Silence;
 use crate::stage::Stage;
 use kmip_batch_items::Operation;
 use kmip_client::{Client, Part};
@@ -9,7 +23,7 @@ use kmip_tally::{Course, RunTally, Spent, Standing, Verdicts};
 use kmip_ttlv::NoMemory;
 use std::alloc::Global;
 
-/// What is counted of a run beside what its progress line shows.
+/// What is counted of a run in addition to what its progress line shows.
 #[derive(Drop)]
 pub(crate) struct Score {
     /// The course of each key, in the order of the plan.
@@ -25,7 +39,13 @@ impl Score {
     ///
     /// # Errors
     /// If memory runs out.
-    pub(crate) fn new(alloc: Global, client: &Client<'_>) -> Result<Self, NoMemory> {
+    pub(crate) fn new(alloc: Global, client: &Client<'_>) -> Result<Self, NoMemory>
+        ensures courses { IfOk result (λ score.
+            score.courses.items ≡ map begun_course (counts_of client.now.knowns)) }
+        ensures verdicts { IfOk result (λ score.
+            score.verdicts ≡ verdicts_of client.now.keys client.now.knowns) }
+        ensures unreadable { IfOk result (λ score. score.unreadable ≡ 0) }
+    {
         let courses = begun_courses(alloc, client)?;
         let verdicts = Verdicts::of(client.verdicts(alloc)?);
         Ok(Score {
@@ -36,23 +56,34 @@ impl Score {
     }
 
     /// The number of keys with each verdict.
-    pub(crate) fn standing(&self) -> Standing {
+    pub(crate) fn standing(&self) -> Standing
+        ensures { result ≡ standing_by self.now.verdicts }
+    {
         self.verdicts.standing()
     }
 
     /// Counts an exchange.
-    pub(crate) fn count(&mut self, exchange: &Exchange<'_>) {
-        let courses = self.courses.as_mut_slice();
-        for part in exchange.asked {
-            note_asked(courses, part);
-        }
-        if matches!(exchange.silence, Some(silence) if silence.is_unreadable()) {
+    pub(crate) fn count(&mut self, exchange: &Exchange<'_>)
+        ensures courses { self.new.courses.items
+            ≡ fold courses_after self.old.courses.items exchange.now.asked.now }
+        ensures verdicts { self.new.verdicts ≡ self.old.verdicts }
+        ensures unreadable { self.new.unreadable
+            ≡ unreadable_after exchange.now.silence self.old.unreadable }
+    {
+        note_all_asked(self.courses.as_mut_slice(), exchange.asked);
+        if let Some(Silence::Unreadable(_, _)) = exchange.silence {
             self.unreadable = self.unreadable.saturating_add(1);
         }
     }
 
     /// So much is known now of the key at a place.
-    pub(crate) fn know(&mut self, place: usize, stage: Stage) {
+    pub(crate) fn know(&mut self, place: usize, stage: Stage)
+        ensures courses { self.new.courses.items
+            ≡ changed_at (course_at stage.done) self.old.courses.items place }
+        ensures verdicts { self.new.verdicts
+            ≡ changed_at (λ verdict. stage.verdict) self.old.verdicts place }
+        ensures unreadable { self.new.unreadable ≡ self.old.unreadable }
+    {
         if place < self.courses.len() {
             self.courses[place].reach(stage.done);
         }
@@ -71,11 +102,17 @@ impl Score {
         keys: &[Key],
         spent: Spent,
         milliseconds: u64,
-    ) -> Result<RunTally, NoMemory> {
-        let mut steps = Vec::with_capacity(alloc, keys.len())?;
-        for (key, course) in keys.iter().zip(&self.courses) {
-            steps.push(course.taken(key))?;
-        }
+    ) -> Result<RunTally, NoMemory>
+        ensures exchanges { IfOk result (λ tally. tally.exchanges ≡ spent.exchanges) }
+        ensures lost { IfOk result (λ tally. tally.lost ≡ spent.lost - self.now.unreadable) }
+        ensures unreadable { IfOk result (λ tally. tally.unreadable ≡ self.now.unreadable) }
+        ensures refused { IfOk result (λ tally. tally.refused ≡ spent.refused) }
+        ensures milliseconds { IfOk result (λ tally. tally.milliseconds ≡ milliseconds) }
+        ensures steps { IfOk result (λ tally.
+            tally.steps.items ≡ steps_of keys.now self.now.courses.items) }
+        ensures unanswered { IfOk result (λ tally. tally.unanswered ≡ None) }
+    {
+        let steps = steps_of(alloc, keys, self.courses.as_slice())?;
         let without_reply = spent.lost as u64;
         Ok(RunTally {
             exchanges: spent.exchanges as u64,
@@ -89,8 +126,32 @@ impl Score {
     }
 }
 
+/// How many steps of each key the run took.
+fn steps_of(alloc: Global, keys: &[Key], courses: &[Course]) -> Result<Vec<u64>, NoMemory>
+    ensures { IfOk result (λ steps. steps.items ≡ steps_of keys.now courses.now) }
+{
+    let mut steps = Vec::with_capacity(alloc, keys.len())?;
+    for place in 0..keys.len() {
+        steps.push(steps_at(&keys[place], courses, place))?;
+    }
+    Ok(steps)
+}
+
+/// How many steps of the key at a place the run took; 0 if there is no course.
+fn steps_at(key: &Key, courses: &[Course], place: usize) -> u64
+    ensures { result ≡ steps_at key.now (slice_get courses.now place) }
+{
+    match courses.get(place) {
+        Some(course) => course.taken(key),
+        None => 0,
+    }
+}
+
 /// The courses of the keys of a client, each begun with what the client knows.
-fn begun_courses(alloc: Global, client: &Client<'_>) -> Result<Vec<Course>, NoMemory> {
+fn begun_courses(alloc: Global, client: &Client<'_>) -> Result<Vec<Course>, NoMemory>
+    ensures { IfOk result (λ courses.
+        courses.items ≡ map begun_course (counts_of client.now.knowns)) }
+{
     let counts = client.counts(alloc)?;
     let mut courses = Vec::with_capacity(alloc, counts.len())?;
     for count in &counts {
@@ -99,8 +160,19 @@ fn begun_courses(alloc: Global, client: &Client<'_>) -> Result<Vec<Course>, NoMe
     Ok(courses)
 }
 
+/// Notes in the courses what these questions ask.
+fn note_all_asked(courses: &mut [Course], asked: &[Part])
+    ensures { courses.new ≡ fold courses_after courses.old asked.now }
+{
+    for part in asked {
+        note_asked(courses, part);
+    }
+}
+
 /// Notes in the course of the key that a question is about what it asks.
-fn note_asked(courses: &mut [Course], part: &Part) {
+fn note_asked(courses: &mut [Course], part: &Part)
+    ensures { courses.new ≡ courses_after courses.old part.now }
+{
     if let Some(operation) = Operation::with_number(part.operation) {
         if part.key < courses.len() {
             courses[part.key].ask(operation);

@@ -1,4 +1,15 @@
 //! What was heard of a key in a run.
+ghost use Rattle.std.specs.Prelude.{◌≡◌, OnOk, OnErr};
+ghost use Rattle.std.specs.Option.{option_copied};
+ghost use Rattle.kmip_client.specs.Verdicts.{is_finished};
+ghost use Rattle.kmip_run_record.specs.Stories.{
+  answered_after,
+  begun,
+  losses_after,
+  reaching,
+  refusals_after,
+  setback_after,
+};
 
 use crate::answers::{push_object, push_wanted};
 use crate::counts::Counts;
@@ -11,8 +22,10 @@ use kmip_plan::Key;
 use kmip_trace::operation_word;
 use kmip_ttlv::NoMemory;
 use std::alloc::Global;
+use std::marker::Model;
 
-/// What was heard of a key, since more of it was known.
+/// What was heard of a key, since more of it was known. A contract sees the stage, the counts, the setback, what was
+/// answered last, and the bytes of the words.
 #[derive(Drop)]
 pub struct Story {
     stage: Stage,
@@ -26,15 +39,29 @@ pub struct Story {
     told: String,
 }
 
+impl Model for Story {
+    ghost use Rattle.std.specs.Prelude.{string_bytes};
+    ghost use Rattle.kmip_run_record.specs.Stories.{StoryState};
+
+    ghost Value = { StoryState };
+
+    ghost view = { λ s. record {
+      stage = s.stage;
+      refusals = s.refusals;
+      losses = s.losses;
+      setback = s.setback;
+      answered = s.answered;
+      told = string_bytes s.told;
+    } };
+}
+
 impl Story {
-    /// Of a key about which nothing was asked.
-    pub(crate) fn new(alloc: Global) -> Self {
+    /// Of a key that is known to be so far, and about which nothing was asked.
+    pub(crate) fn new(alloc: Global, stage: Stage) -> Self
+        ensures { result ≡ begun stage }
+    {
         Story {
-            stage: Stage {
-                done: 0,
-                is_identified: false,
-                verdict: Verdict::Working,
-            },
+            stage,
             refusals: Counts::none(),
             losses: Counts::none(),
             setback: None,
@@ -43,17 +70,34 @@ impl Story {
         }
     }
 
-    /// A question about the key of this name was asked, and this came of it; none where no answer came.
+    /// A question about the key of this name was asked, and this came of it; none if no answer came.
     ///
     /// # Errors
-    /// Where there is no memory.
+    /// If memory runs out for the words of an answer.
     pub(crate) fn hear(
         &mut self,
         alloc: Global,
         operation: Operation,
         name: &[u8],
         outcome: Option<&Outcome>,
-    ) -> Result<(), NoMemory> {
+    ) -> Result<(), NoMemory>
+        // How far the key is known to be stays.
+        ensures stage { self.new.stage ≡ self.old.stage }
+        // A refusal counts one more refusal of the operation.
+        ensures refusals { self.new.refusals
+            ≡ refusals_after operation (option_copied outcome.entry) self.old.refusals }
+        // No answer counts one more loss of it.
+        ensures losses { self.new.losses
+            ≡ losses_after operation (option_copied outcome.entry) self.old.losses }
+        // A refusal or a loss is the last setback. An answer leaves a refusal of another operation.
+        ensures setback { OnOk result (self.new.setback
+            ≡ setback_after operation (option_copied outcome.entry) self.old.setback) }
+        // An answer is the last answer; a refusal is none.
+        ensures answered { OnOk result (self.new.answered
+            ≡ answered_after operation (option_copied outcome.entry) self.old.answered) }
+        // If memory runs out, the story stays as it was.
+        ensures same { OnErr result (self.new ≡ self.old) }
+    {
         match outcome {
             None => {
                 self.losses.add(operation);
@@ -74,8 +118,10 @@ impl Story {
         Ok(())
     }
 
-    /// The key is known to be so far: where that is further than before, the setbacks of before are over.
-    pub(crate) fn reach(&mut self, stage: Stage) {
+    /// The key is known to be so far: if that is further than before, the setbacks of before are over.
+    pub(crate) fn reach(&mut self, stage: Stage)
+        ensures { self.new ≡ reaching stage self.old }
+    {
         let is_further = self.stage.done < stage.done
             || (stage.is_identified && !self.stage.is_identified);
         if is_further {
@@ -87,19 +133,24 @@ impl Story {
     }
 
     /// How many steps of the key are known to have taken effect.
-    pub(crate) fn done(&self) -> usize {
+    pub(crate) fn done(&self) -> usize
+        ensures { result ≡ self.now.stage.done }
+    {
         self.stage.done
     }
 
     /// Whether the key is finished.
-    pub fn is_finished(&self) -> bool {
-        self.stage.verdict == Verdict::Finished
+    pub fn is_finished(&self) -> bool
+        // It is the verdict on the key that it is finished.
+        ensures { result ≡ is_finished self.now.stage.verdict }
+    {
+        matches!(self.stage.verdict, Verdict::Finished)
     }
 
     /// Appends why the key is not finished: what was heard last of it, and how often.
     ///
     /// # Errors
-    /// Where there is no memory.
+    /// If memory runs out.
     pub fn push_why(&self, alloc: Global, key: &Key, text: &mut String) -> Result<(), NoMemory> {
         match self.stage.verdict {
             Verdict::Conflict(clash) => self.push_clash(alloc, clash, key, text),
@@ -107,7 +158,7 @@ impl Story {
         }
     }
 
-    /// Appends what stands against the key.
+    /// Appends why the key is in conflict.
     fn push_clash(
         &self,
         alloc: Global,
@@ -133,7 +184,7 @@ impl Story {
         }
     }
 
-    /// Appends the setback that came last, or else what was answered last.
+    /// Appends the setback that came last, or otherwise what was answered last.
     fn push_last(&self, alloc: Global, text: &mut String) -> Result<(), NoMemory> {
         match (self.setback, self.answered) {
             (Some(setback), _) => self.push_setback(alloc, setback, text)?,
