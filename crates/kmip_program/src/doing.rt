@@ -201,12 +201,12 @@ fn simulate(
     further: Option<Plan>,
     script: &str,
 ) -> Result<ExitStatus, Trouble> {
-    let mut writer = BufWriter::new(rt.alloc(), standard_output(rt))?;
     let input = SimInput {
         detail: telling.detail,
         batch: batch_of(telling.batch),
         script,
     };
     let form = telling.format.form();
-    Ok(run_sim(rt.alloc(), form, plan, further, &input, &mut writer))
+    let mut output = standard_output(rt);
+    Ok(run_sim(rt.alloc(), form, plan, further, &input, &mut output))
 }

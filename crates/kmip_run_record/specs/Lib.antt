@@ -2,8 +2,6 @@
 
 -- how often something happened to each operation
 pub mod OperationCounts
--- which setback an answer leaves
-pub mod Setbacks
 -- how far a key is known to be
 pub mod Stages
 -- when a server last replied
@@ -22,3 +20,9 @@ pub mod Outcomes
 pub mod Silences
 -- the words for that
 pub mod Words
+-- private: how often something happened to an operation
+pub mod PrivateCounts
+-- private: which setback an answer leaves
+pub mod PrivateSetbacks
+-- private: what an exchange makes of a story
+pub mod PrivateStories

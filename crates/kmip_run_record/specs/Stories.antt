@@ -1,15 +1,10 @@
 -- What was heard of a key in a run.
 -- Source: own (view, choice).
-use Rattle.std.specs.Prelude.{ℕ, nat_lt, ◌&&◌, ◌||◌, not, Bool, true, false, List, [], Option, Some, None, if◌then◌else◌}
-use Rattle.std.specs.Option.{option_and_then}
+use Rattle.std.specs.Prelude.{ℕ, nat_lt, ◌&&◌, ◌||◌, not, Bool, true, false, List, [], Option, None, if◌then◌else◌}
 use Rattle.kmip_batch_items.specs.declared.operation.Operation.{Operation}
-use Rattle.kmip_batch_items.specs.declared.outcome.Outcome.{Outcome}
-use Rattle.kmip_batch_items.specs.declared.outcome.Outcome.TheVariants.{Failed}
-use Rattle.kmip_run_record.specs.OperationCounts.{counting, no_counts}
-use Rattle.kmip_run_record.specs.Setbacks.{left_by}
+use Rattle.kmip_run_record.specs.OperationCounts.{no_counts}
 use Rattle.kmip_run_record.specs.declared.counts.Counts.{Counts}
 use Rattle.kmip_run_record.specs.declared.setback.Setback.{Setback}
-use Rattle.kmip_run_record.specs.declared.setback.Setback.TheVariants.{Refused, Lost}
 use Rattle.kmip_run_record.specs.declared.stage.Stage.{Stage}
 
 -- What a contract sees of a story: how far the key is known to be, how often each operation was refused and not
@@ -35,25 +30,3 @@ abbrev pub reaching : Stage → StoryState → StoryState
 reaching stage story =
     if is_further story.stage stage then record story { stage = stage; refusals = no_counts; losses = no_counts; setback = None }
     else record story { stage = stage }
-
--- The refusals, once this came of an operation.
-abbrev pub refusals_after : Operation → Option Outcome → Counts → Counts
-refusals_after operation (Some (Failed reason)) counts = counting operation counts
-refusals_after operation outcome counts = counts
-
--- The questions without an answer, once this came of an operation.
-abbrev pub losses_after : Operation → Option Outcome → Counts → Counts
-losses_after operation None counts = counting operation counts
-losses_after operation outcome counts = counts
-
--- The last setback, once this came of an operation.
-abbrev pub setback_after : Operation → Option Outcome → Option Setback → Option Setback
-setback_after operation None setback = Some (Lost operation)
-setback_after operation (Some (Failed reason)) setback = Some (Refused operation reason)
-setback_after operation outcome setback = option_and_then (left_by operation) setback
-
--- What was answered last, once this came of an operation. A refusal is no answer.
-abbrev pub answered_after : Operation → Option Outcome → Option Operation → Option Operation
-answered_after operation None answered = answered
-answered_after operation (Some (Failed reason)) answered = answered
-answered_after operation outcome answered = Some operation

@@ -1,6 +1,7 @@
 //! How often something happened to each operation.
 ghost use Rattle.std.specs.Prelude.{◌≡◌};
-ghost use Rattle.kmip_run_record.specs.OperationCounts.{count_of, counting, no_counts};
+ghost use Rattle.kmip_run_record.specs.OperationCounts.{no_counts};
+ghost use Rattle.kmip_run_record.specs.PrivateCounts.{count_of, counting};
 
 use kmip_batch_items::Operation;
 

@@ -1,6 +1,6 @@
 //! Why a question about a key came to nothing.
 ghost use Rattle.std.specs.Prelude.{◌≡◌};
-ghost use Rattle.kmip_run_record.specs.Setbacks.{left_by};
+ghost use Rattle.kmip_run_record.specs.PrivateSetbacks.{left_by};
 
 use kmip_batch_items::Operation;
 

@@ -2,14 +2,13 @@
 ghost use Rattle.std.specs.Prelude.{◌≡◌, OnOk, OnErr};
 ghost use Rattle.std.specs.Option.{option_copied};
 ghost use Rattle.kmip_client.specs.Verdicts.{is_finished};
-ghost use Rattle.kmip_run_record.specs.Stories.{
+ghost use Rattle.kmip_run_record.specs.PrivateStories.{
   answered_after,
-  begun,
   losses_after,
-  reaching,
   refusals_after,
   setback_after,
 };
+ghost use Rattle.kmip_run_record.specs.Stories.{begun, reaching};
 
 use crate::answers::{push_object, push_wanted};
 use crate::counts::Counts;

@@ -1,8 +1,11 @@
 -- Private: definitions that only clauses of private functions cite.
 -- Source: own (view): parts of the public definitions of this crate.
-use Rattle.std.specs.Prelude.{◌≡◌, ◌<◌, ℕ, List, [], ◌∷◌, codes, Result, Ok, Err}
+use Rattle.std.specs.Prelude.{◌≡◌, ◌<◌, ◌⊎◌, ℕ, List, [], ◌∷◌, ◌++◌, codes, Option, Result, Ok, Err}
+use Rattle.std.specs.Io.KnownBytes.{Appends}
 use Rattle.kmip_report.specs.Documents.{words_of}
 use Rattle.kmip_report.specs.Pieces.{Piece, noted, number, said}
+use Rattle.kmip_report.specs.declared.command_fault.CommandFault.{CommandFault}
+use Rattle.kmip_report.specs.declared.command_fault.CommandFault.TheVariants as faults
 use Rattle.kmip_plan.specs.declared.key.Key.{Key}
 use Rattle.kmip_scripted.specs.ScriptTexts.{IsScript}
 use Rattle.kmip_scripted.specs.Words.{crashes, prolongings}
@@ -32,3 +35,7 @@ Plays batch keys words end = ⊥
 abbrev pub ask_pieces : ℕ → List ℕ → List (List ℕ) → List Piece
 ask_pieces n asked texts =
     number (codes "ask ") (codes "ask") n ∷ said (codes " ") ∷ said asked ∷ noted (codes "requests") (words_of texts) ∷ []
+
+-- Memory ran out, and exactly the text and the line were printed; or the printer failed.
+abbrev pub FailsAfter : List ℕ → List ℕ → CommandFault → CommandFault → Option (List ℕ) → Option (List ℕ) → Type 0
+FailsAfter text line fault own_fault old new = ((fault ≡ faults.NoMemory) × Appends old new (text ++ line)) ⊎ (fault ≡ own_fault)

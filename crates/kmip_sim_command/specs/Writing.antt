@@ -4,6 +4,8 @@ use Rattle.std.specs.Prelude.{◌≡◌, ◌⊎◌, ℕ, Bool, List, [], ◌++�
 use Rattle.std.specs.Io.KnownBytes.{Appends}
 use Rattle.kmip_ttlv.specs.declared.no_memory.NoMemory.{NoMemory}
 use Rattle.kmip_plan.specs.declared.key.Key.{Key}
+use Rattle.kmip_report.specs.declared.command_fault.CommandFault.{CommandFault}
+use Rattle.kmip_report.specs.declared.command_fault.CommandFault.TheVariants as faults
 use Rattle.kmip_report.specs.declared.form.Form.{Form}
 use Rattle.kmip_sim_command.specs.SimEnds.{EndsSim}
 use Rattle.kmip_sim_command.specs.SimReport.{sim_outcome, sim_text}
@@ -39,3 +41,8 @@ pub record BreaksOffSim (form : Form) (keys : List Key) (further : Option (List 
   pub tells : (text ≡ []) ⊎ ((want : NoMemory) × TellsSim form keys further input (Err want) text)
   -- Both were written, and nothing else.
   pub written : Appends old new (text ++ tail)
+
+-- `sim` failed. Memory ran out, and exactly the runs before that and this line were printed; or its printer failed.
+abbrev pub FailsSim : Form → List Key → Option (List Key) → SimInput → List ℕ → CommandFault → CommandFault → Option (List ℕ) → Option (List ℕ) → Type 0
+FailsSim form keys further input line fault own_fault old new =
+    ((fault ≡ faults.NoMemory) × BreaksOffSim form keys further input line old new) ⊎ (fault ≡ own_fault)

@@ -1,67 +1,62 @@
-//! The command `sim`, in memory and over a writer.
-ghost use Rattle.std.specs.Prelude.{◌≡◌, ◌≢◌, ◌++◌, [], Some, IfOk, IsTrue, OnErr};
-ghost use Rattle.std.specs.Io.KnownBytes.{Appends};
+//! The command `sim`, in memory and over a printer.
+ghost use Rattle.std.specs.Prelude.{◌≡◌, [], Some, IfOk, IsTrue, OnErr};
 ghost use Rattle.kmip_messages.specs.Members.{may_have};
-ghost use Rattle.kmip_report.specs.Endings.{FailsBy, IfFailed, IfWhole, UnlessOutput};
+ghost use Rattle.kmip_report.specs.Endings.{FailsBy, IfFailed, IfWhole};
 ghost use Rattle.kmip_report.specs.FaultLines.{no_memory};
 ghost use Rattle.kmip_report.specs.Pieces.{line_in};
-ghost use Rattle.kmip_report.specs.declared.command_fault.CommandFault.TheVariants as Fault;
-ghost use Rattle.kmip_sim_command.specs.Writing.{BreaksOffSim, TellsSim, WritesSim};
+ghost use Rattle.kmip_sim_command.specs.Private.{FailsAfter};
+ghost use Rattle.kmip_sim_command.specs.Writing.{BreaksOffSim, FailsSim, TellsSim, WritesSim};
 
 use crate::ending::push_sim_end;
 use crate::playing::sim_to_end;
 use crate::sim_input::SimInput;
 use kmip_plan::Plan;
-use kmip_report::{CommandFault, ExitStatus, Form, print_report, push_text, send};
+use kmip_report::{ExitStatus, Form, Printer, print_report, push_text};
 use kmip_ttlv::NoMemory;
 use std::alloc::Global;
-use std::io::Write;
 
 /// Runs `sim`: carries out a plan over a link to a server in memory, which follows a script, and prints
 /// the report of what came of it in this form. If there is a further plan, the script has the word
 /// `prolong` once, and the runs after it are for the further plan. A message asks about at most `batch`
-/// keys. Nothing is written before all of it is made.
+/// keys. Nothing is printed before all of it is made.
 ///
 /// If memory runs out, it prints the line of that, after the runs before it if it ran out in a run.
 /// Returns how the program ends.
-pub fn run_sim<W: Write>(
+pub fn run_sim<P: Printer>(
     alloc: Global,
     form: Form,
     plan: Plan,
     further: Option<Plan>,
     input: &SimInput<'_>,
-    writer: &mut W,
+    printer: &mut P,
 ) -> ExitStatus
     // The `batch` of the input is a number from 1 to 8.
     requires batch { IsTrue (may_have input.now.batch) }
-    // If it did not break off, exactly what `sim` reports was written. It ends with `Done` exactly if the
+    // If it did not break off, exactly what `sim` reports was printed. It ends with `Done` exactly if the
     // last run of a simulation finished all keys, else with `Refused`. It never ends with `Usage`.
     ensures text { IfWhole result (λ r. WritesSim form plan further input.now r
-        (W.contents writer.old) (W.contents writer.new)) }
-    // If it failed, but not by its writer, nothing was written, or the runs before memory ran out; and
-    // then the line of that.
-    ensures broken { IfFailed result (λ fault. UnlessOutput fault (BreaksOffSim form plan further
-        input.now (line_in form no_memory) (W.contents writer.old) (W.contents writer.new))) }
-    // The fault is never that of a reader.
-    ensures no_input { IfFailed result (λ fault. fault ≢ Fault.Input) }
+        (P.contents printer.old) (P.contents printer.new)) }
+    // If it ends with `Failed`, memory ran out, and exactly the runs before that and the line of it are
+    // printed; or the printer failed.
+    ensures broken { IfFailed result (λ fault. FailsSim form plan further input.now
+        (line_in form no_memory) fault P.own_fault
+        (P.contents printer.old) (P.contents printer.new)) }
 {
     let mut report = Vec::new(alloc);
     match push_report(alloc, form, plan, further, input, &mut report) {
-        Ok(Ok(is_refused)) => print_report(form, Ok(is_refused), report.as_slice(), writer),
-        Ok(Err(NoMemory)) => print_runs_before(form, report.as_slice(), writer),
-        Err(NoMemory) => print_runs_before(form, &[], writer),
+        Ok(Ok(is_refused)) => print_report(form, Ok(is_refused), report.as_slice(), printer),
+        Ok(Err(NoMemory)) => print_runs_before(form, report.as_slice(), printer),
+        Err(NoMemory) => print_runs_before(form, &[], printer),
     }
 }
 
 /// Prints the runs before memory ran out, and then the line of that.
-fn print_runs_before<W: Write>(form: Form, runs: &[u8], writer: &mut W) -> ExitStatus
-    ensures broken { FailsBy result (λ fault. UnlessOutput fault
-        (Appends (W.contents writer.old) (W.contents writer.new)
-        (runs.now ++ line_in form no_memory))) }
-    ensures no_input { FailsBy result (λ fault. fault ≢ Fault.Input) }
+fn print_runs_before<P: Printer>(form: Form, runs: &[u8], printer: &mut P) -> ExitStatus
+    ensures { FailsBy result (λ fault. FailsAfter runs.now (line_in form no_memory) fault P.own_fault
+        (P.contents printer.old) (P.contents printer.new)) }
 {
-    match send(runs, false, writer) {
-        Ok(()) => print_report(form, Err(NoMemory), &[], writer),
+    match printer.print(runs) {
+        Ok(()) => print_report(form, Err(NoMemory), &[], printer),
         Err(fault) => ExitStatus::Failed(fault),
     }
 }

@@ -1,5 +1,5 @@
 -- The pieces are these, in one line.
-use Rattle.std.proofs.Common.{ℕ, List, refl, ap}
+use Rattle.std.proofs.Common.{ℕ, List, ap}
 use Rattle.serde_json.specs.Data.{Data}
 use Rattle.kmip_report.specs.Pieces.{noted}
 use Rattle.kmip_report.proofs.ForCallers.{last_piece, line_of, report_of_one, then_pieces}

@@ -1,7 +1,6 @@
 -- The pieces are those of the requests.
-use Rattle.std.proofs.Common.{◌≡◌, ℕ, List, ap, ap₂, map, string_bytes, ◌∙◌}
+use Rattle.std.proofs.Common.{ap, ap₂, map, string_bytes, ◌∙◌}
 use Rattle.kmip_report.proofs.ForCallers.{line_of}
-use Rattle.kmip_report.specs.PieceViews.{pieces_of}
 use Rattle.kmip_sim_command.specs.Private.{ask_pieces}
 use Rattle.kmip_sim_command.specs.SimReport.{ask_line}
 use Rattle.kmip_sim_command.proofs.report.push_ask.Goals as goal

@@ -1,4 +1,4 @@
--- Which setback of a key is left after an answer.
+-- Private: which setback of a key is left after an answer.
 -- Source: own (choice).
 use Rattle.std.specs.Prelude.{◌==◌, Option, Some, None, if◌then◌else◌}
 use Rattle.kmip_batch_items.specs.Operations.{operation_number}
