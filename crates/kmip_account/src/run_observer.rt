@@ -3,8 +3,8 @@
 use crate::account::Account;
 use kmip_batch_items::Reply;
 use kmip_client::{Client, Listener, Part};
-use kmip_run_command::Counting;
 use kmip_protocol::NoReplyReason;
+use kmip_run_command::Counting;
 use kmip_run_record::{Asked, Exchange, Findings, Silence};
 use kmip_runs::{ExchangeNews, Observer};
 use kmip_tally::{RunTally, Unanswered};

@@ -1,10 +1,10 @@
 //! The program `look`, over sockets.
 
-use crate::observed::Observed;
 use crate::last_answer::LastAnswer;
 use crate::linking::{loopback, tcp_link, unix_link};
 use crate::look_pause::LookPause;
 use crate::look_watcher::LookWatcher;
+use crate::observed::Observed;
 use kmip_account::ExchangeLog;
 use kmip_choices::{LookOptions, Peer};
 use kmip_client::Verdict;

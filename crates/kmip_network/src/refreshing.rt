@@ -2,13 +2,13 @@
 ghost use Rattle.std.specs.Prelude.{IsTrue};
 ghost use Rattle.kmip_messages.specs.Members.{may_have};
 
-use crate::observed::Observed;
 use crate::agreeing::Agreeing;
 use crate::disagreeing::{contradiction, report_unanswered};
 use crate::last_answer::LastAnswer;
 use crate::look_pause::LookPause;
 use crate::look_watcher::LookWatcher;
 use crate::looking::{MARK_BYTES, new_mark, tell_given_up};
+use crate::observed::Observed;
 use crate::repeating::Repeating;
 use crate::running::{first_wait, tell_end};
 use crate::until_run::UntilRun;
@@ -21,10 +21,10 @@ use kmip_refresh::{
 };
 use kmip_report::{ExitStatus, print_report};
 use kmip_run_command::{RunEnd, RunInput, begin, push_run_end};
-use kmip_run_record::Findings;
-use kmip_tally::Unanswered;
 use kmip_run_files::{MachineKeeper, Start};
+use kmip_run_record::Findings;
 use kmip_runs::Pace;
+use kmip_tally::Unanswered;
 use kmip_trouble::{Obstacle, Trouble, standard_output};
 use kmip_ttlv::NoMemory;
 use std::cell::Cell;

@@ -4,8 +4,7 @@ use Operation::{Activate, Create, Destroy, GetAttributes, Locate, Revoke};
 use kmip_batch_items::Operation;
 use kmip_plan::read_plan;
 use kmip_run_record::{LastTimes, LookCounts, LookMetrics, Metrics};
-use kmip_tally::{RunTally, Spent};
-use kmip_tally::{Course, Standing};
+use kmip_tally::{Course, RunTally, Spent, Standing};
 use std::process::Abort;
 use std::test::Fail;
 
