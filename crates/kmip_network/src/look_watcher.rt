@@ -1,7 +1,7 @@
 //! What a look reports of its exchanges while it works, and when it was answered last.
 
-use crate::last_answer::LastAnswer;
 use crate::link_observer::LinkObserver;
+use crate::last_answer::LastAnswer;
 use crate::looking::MARK_BYTES;
 use crate::unmarked::{unmarked_reply, unmarked_request};
 use kmip_account::ExchangeLog;

@@ -1,7 +1,7 @@
 //! The program `probe`, over sockets.
 
-use crate::linking::{loopback, tcp_link, unix_link};
 use crate::observed::Observed;
+use crate::linking::{loopback, tcp_link, unix_link};
 use crate::watcher::Watcher;
 use kmip_account::ExchangeLog;
 use kmip_choices::{Peer, ProbeOptions};
