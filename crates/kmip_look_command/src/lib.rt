@@ -6,6 +6,8 @@
 
 mod line;
 mod line_words;
+mod look_input;
+mod look_observer;
 mod report;
 mod running;
 mod standing;
@@ -13,6 +15,8 @@ mod usage;
 mod verdicts;
 mod words;
 
+pub use look_input::LookInput;
+pub use look_observer::LookObserver;
 pub use report::push_looked;
 pub use running::run_look;
 pub use usage::usage_text;
