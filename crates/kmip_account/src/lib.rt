@@ -13,7 +13,6 @@
 #![tactic(auto)]
 
 mod account;
-mod answer;
 mod answers;
 mod asked;
 mod counts;
@@ -30,6 +29,7 @@ mod metrics;
 mod noted;
 mod peer_talk;
 mod progress_line;
+mod questions;
 mod reach;
 mod reasons;
 mod run_observer;
@@ -52,4 +52,5 @@ pub use look_counts::LookCounts;
 pub use look_metrics::LookMetrics;
 pub use metrics::Metrics;
 pub use noted::Noted;
+pub use questions::Questions;
 pub use run_observer::RunObserver;

@@ -7,8 +7,8 @@ use crate::findings::Findings;
 use crate::silence::Silence;
 use kmip_batch_items::Reply;
 use kmip_client::{Client, Listener, Part};
-use kmip_run_command::Counting;
 use kmip_protocol::NoReplyReason;
+use kmip_run_command::Counting;
 use kmip_runs::{ExchangeNews, Observer};
 use kmip_tally::{RunTally, Unanswered};
 use kmip_ttlv::NoMemory;
@@ -84,13 +84,7 @@ impl<'a> Observer for RunObserver<'a> {
     }
 
     fn missed(&mut self, reason: &NoReplyReason<'_>) {
-        let wire = self.account.log().wire();
-        let silence = match reason {
-            NoReplyReason::Lost => wire.silence(None),
-            NoReplyReason::Failed(fault) => wire.silence(Some(*fault)),
-            NoReplyReason::Unreadable(fault, reply) => Silence::unreadable(*fault, reply),
-            NoReplyReason::NoMemory => Silence::NoMemory,
-        };
+        let silence = self.account.log().silence(reason);
         self.exchanged(&[], Some(silence));
     }
 

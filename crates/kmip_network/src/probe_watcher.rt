@@ -1,25 +1,39 @@
 //! What `probe` reports of its exchanges while it works.
 
-use crate::link_observer::LinkObserver;
-use kmip_account::ExchangeLog;
-use kmip_protocol::LinkFault;
+use kmip_account::{ExchangeLog, Questions};
+use kmip_batch_items::{Reply, Request};
+use kmip_client::Listener;
+use kmip_protocol::{ExchangeObserver, NoReplyReason};
 
 /// Gives each exchange to the log.
 #[derive(Drop)]
-pub(crate) struct Watcher<'a> {
+pub(crate) struct ProbeWatcher<'a> {
     log: &'a ExchangeLog<'a>,
+    /// The question of the message under way, if exchanges are reported.
+    questions: Option<Questions>,
 }
 
-impl<'a> Watcher<'a> {
+impl<'a> ProbeWatcher<'a> {
     pub(crate) fn new(log: &'a ExchangeLog<'a>) -> Self {
-        Watcher { log }
+        ProbeWatcher {
+            log,
+            questions: None,
+        }
     }
 }
 
-impl<'a> LinkObserver for Watcher<'a> {
-    fn exchanged(&mut self, request: &[u8], answered: Result<Option<&[u8]>, LinkFault>) {
-        let _ = self.log.exchanged(request, answered);
+impl<'a> Listener for ProbeWatcher<'a> {
+    fn replied(&mut self, replies: &[Reply]) {
+        self.log.replied(self.questions.as_ref(), replies);
+    }
+}
+
+impl<'a> ExchangeObserver for ProbeWatcher<'a> {
+    fn asking(&mut self, requests: &[Request]) {
+        self.questions = self.log.asking(requests, &[]);
     }
 
-    fn ended(&mut self) {}
+    fn missed(&mut self, reason: &NoReplyReason<'_>) {
+        self.log.missed(self.questions.as_ref(), reason);
+    }
 }

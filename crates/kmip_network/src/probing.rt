@@ -1,15 +1,13 @@
 //! The program `probe`, over sockets.
 
-use crate::observed::Observed;
 use crate::linking::{loopback, tcp_link, unix_link};
-use crate::watcher::Watcher;
+use crate::probe_watcher::ProbeWatcher;
 use kmip_account::ExchangeLog;
 use kmip_choices::{Peer, ProbeOptions};
-use kmip_probe_command::{probe, run_probe};
+use kmip_probe_command::run_probe;
 use kmip_protocol::Link;
-use kmip_report::{CommandFault, ExitStatus, Form};
-use kmip_trouble::{Trouble, print_made, standard_output};
-use kmip_ttlv::NoMemory;
+use kmip_report::ExitStatus;
+use kmip_trouble::{Trouble, standard_output};
 use std::io::BufWriter;
 use std::time::Duration;
 
@@ -43,25 +41,15 @@ fn probe_over<L: Link + Drop>(
     link: L,
 ) -> Result<ExitStatus, Trouble> {
     let rt = log.rt();
-    let mut link = Observed::new(link, Watcher::new(log));
+    let mut link = link;
     let mut writer = BufWriter::new(rt.alloc(), standard_output(rt))?;
-    let (form, prefix) = (options.format.form(), options.prefix.as_str());
-    match form {
-        Form::Text => Ok(run_probe(rt.alloc(), prefix, form, &mut link, &mut writer)),
-        Form::Json => {
-            let ended = probe(rt.alloc(), prefix, form, &mut link, &mut writer);
-            Ok(status_in_json(rt, ended))
-        }
-    }
-}
-
-/// How the program ends after a probe whose documents are printed. If memory ran out, the document of
-/// that is printed here.
-fn status_in_json(rt: &HostRuntime, ended: Result<bool, CommandFault>) -> ExitStatus {
-    match ended {
-        Ok(false) => ExitStatus::Done,
-        Ok(true) => ExitStatus::Refused,
-        Err(CommandFault::NoMemory) => print_made(rt, Form::Json, Err(NoMemory), &[]),
-        Err(fault) => ExitStatus::Failed(fault),
-    }
+    let status = run_probe(
+        rt.alloc(),
+        options.prefix.as_str(),
+        options.format.form(),
+        &mut link,
+        &mut ProbeWatcher::new(log),
+        &mut writer,
+    );
+    Ok(status)
 }
