@@ -4,9 +4,10 @@ use crate::progress_line::ProgressLine;
 use crate::reach::Reach;
 use crate::spell::Spell;
 use crate::wire::Wire;
+use kmip_batch_items::{Reply, Request};
 use kmip_choices::Peer;
-use kmip_protocol::LinkFault;
-use kmip_run_record::{Answer, Silence, exchange_line, refusals_in};
+use kmip_protocol::NoReplyReason;
+use kmip_run_record::{Questions, Silence, exchange_line, refusals_in};
 use kmip_tally::Spent;
 use kmip_ttlv::{NoMemory, plain_text};
 use std::alloc::Global;
@@ -134,21 +135,43 @@ impl<'a> ExchangeLog<'a> {
         self.exchange_began.set(Instant::now(self.rt).ok());
     }
 
-    /// An exchange was made: the bytes that were sent, and what came of it. Reports it in words. Returns how
-    /// many searches by name it answered.
-    pub fn exchanged(&self, request: &[u8], answered: Result<Option<&[u8]>, LinkFault>) -> usize {
-        let found = match Answer::of(self.rt.alloc(), answered, &self.wire.traffic()) {
-            Ok(answer) => {
-                self.note(answer.silence(), refusals_in(answer.replies()), false);
-                if self.is_verbose {
-                    let _ = self.report_in_words(request, answered, answer.silence());
-                }
-                answer.found_names()
-            }
-            Err(NoMemory) => 0,
-        };
+    /// A message of these requests is about to be sent. Returns what its line names, if exchanges are reported.
+    /// `mark` is in the ids of the requests after the operation, and is not reported.
+    pub fn asking(&self, requests: &[Request], mark: &[u8]) -> Option<Questions> {
         self.begin_exchange();
-        found
+        if !self.is_verbose {
+            return None;
+        }
+        Questions::of(self.rt.alloc(), requests, mark).ok()
+    }
+
+    /// These replies came to the message. Reports them in words.
+    pub fn replied(&self, questions: Option<&Questions>, replies: &[Reply]) {
+        self.note(None, refusals_in(replies), false);
+        if let Some(questions) = questions {
+            let _ = self.report_in_words(questions, Ok(replies));
+        }
+    }
+
+    /// No reply came to the message. Reports why. Nothing if memory ran out, as the command ends then.
+    pub fn missed(&self, questions: Option<&Questions>, reason: &NoReplyReason<'_>) {
+        if matches!(reason, NoReplyReason::NoMemory) {
+            return;
+        }
+        self.note(Some(self.silence(reason)), 0, false);
+        if let Some(questions) = questions {
+            let _ = self.report_silence_in_words(questions, reason);
+        }
+    }
+
+    /// Why there is no reply that can be read, by what was noted of the streams.
+    pub(crate) fn silence(&self, reason: &NoReplyReason<'_>) -> Silence {
+        match reason {
+            NoReplyReason::Lost => self.wire.silence(None),
+            NoReplyReason::Failed(fault) => self.wire.silence(Some(*fault)),
+            NoReplyReason::Unreadable(fault, reply) => Silence::unreadable(*fault, reply),
+            NoReplyReason::NoMemory => Silence::NoMemory,
+        }
     }
 
     /// Counts an exchange, and reports that the server stopped or began to reply. `refusals` is how many of its
@@ -316,27 +339,25 @@ impl<'a> ExchangeLog<'a> {
         )
     }
 
+    /// Reports in words that no reply came, and why, with the times of the exchange.
+    fn report_silence_in_words(
+        &self,
+        questions: &Questions,
+        reason: &NoReplyReason<'_>,
+    ) -> Result<(), NoMemory> {
+        let why = self.silence(reason).told(self.rt.alloc(), self.timeout)?;
+        self.report_in_words(questions, Err(why.as_str()))
+    }
+
     /// Reports an exchange in words, with its times.
     fn report_in_words(
         &self,
-        request: &[u8],
-        answered: Result<Option<&[u8]>, LinkFault>,
-        silence: Option<Silence>,
+        questions: &Questions,
+        replied: Result<&[Reply], &str>,
     ) -> Result<(), NoMemory> {
-        let alloc = self.rt.alloc();
         let now = Instant::now(self.rt).ok();
         let mut line = self.time_text(now)?;
-        match silence {
-            Some(silence) => {
-                let why = silence.told(alloc, self.timeout)?;
-                let words = exchange_line(alloc, request, None, Some(why.as_str()))?;
-                line.push_str(words.as_str())?;
-            }
-            None => {
-                let words = exchange_line(alloc, request, answered.unwrap_or(None), None)?;
-                line.push_str(words.as_str())?;
-            }
-        }
+        line.push_str(exchange_line(self.rt.alloc(), questions, replied)?.as_str())?;
         line.push_str(self.took_text(now)?.as_str())?;
         self.report(line.as_str());
         Ok(())

@@ -81,13 +81,7 @@ impl<'a> Observer for RunObserver<'a> {
     }
 
     fn missed(&mut self, reason: &NoReplyReason<'_>) {
-        let wire = self.account.log().wire();
-        let silence = match reason {
-            NoReplyReason::Lost => wire.silence(None),
-            NoReplyReason::Failed(fault) => wire.silence(Some(*fault)),
-            NoReplyReason::Unreadable(fault, reply) => Silence::unreadable(*fault, reply),
-            NoReplyReason::NoMemory => Silence::NoMemory,
-        };
+        let silence = self.account.log().silence(reason);
         self.exchanged(&[], Some(silence));
     }
 

@@ -21,10 +21,10 @@ use crate::putting::put;
 use kmip_batch_items::Request;
 use kmip_objects::laws::found_laws;
 use kmip_plan::{Key, Plan};
-use kmip_protocol::Link;
 use kmip_protocol::laws::{
     deliveries_join, deliveries_keep_the_requests, what_is_taken_is_delivered,
 };
+use kmip_protocol::{ExchangeObserver, Link};
 use kmip_server::laws::a_name_is_found;
 use kmip_ttlv::NoMemory;
 use std::alloc::Global;
@@ -43,15 +43,18 @@ const MOST_TRIES: usize = 4;
 /// The id of each question is its operation in one byte, the mark, and the name of the key. The mark has at
 /// most 16 bytes, and is to be one that no question asked before has (`IsFresh`).
 ///
+/// The observer is told of each exchange as it is made.
+///
 /// # Errors
 /// Where there is no memory; then nothing is said of any key.
-pub fn look<L: Link, P: Pause>(
+pub fn look<L: Link, P: Pause, O: ExchangeObserver>(
     alloc: Global,
     plan: &Plan,
     link: &mut L,
     mark: &[u8],
     batch: usize,
     pause: &mut P,
+    observer: &mut O,
 ) -> Result<Vec<Looked>, NoMemory>
     // A message may ask this many questions: one to eight.
     requires batch { IsTrue (may_have batch) }
@@ -66,7 +69,7 @@ pub fn look<L: Link, P: Pause>(
         → P.has_given_up pause.new ≡ false → IfOk result (λ v. AllZip
         (IsTried mark.now (L.seen link.old).past (L.seen link.new).past) plan.now v.items) }
 {
-    look_at_keys(alloc, plan.keys(), link, mark, batch, pause)
+    look_at_keys(alloc, plan.keys(), link, mark, batch, pause, observer)
 }
 
 /// Looks at these keys as `look` does at those of a plan: by Locate and Get Attributes alone, in groups of
@@ -74,13 +77,14 @@ pub fn look<L: Link, P: Pause>(
 ///
 /// # Errors
 /// If memory runs out; then nothing is said of any key.
-pub fn look_at_keys<L: Link, P: Pause>(
+pub fn look_at_keys<L: Link, P: Pause, O: ExchangeObserver>(
     alloc: Global,
     keys: &[Key],
     link: &mut L,
     mark: &[u8],
     batch: usize,
     pause: &mut P,
+    observer: &mut O,
 ) -> Result<Vec<Looked>, NoMemory>
     // A message may ask this many questions: one to eight.
     requires batch { IsTrue (may_have batch) }
@@ -102,7 +106,7 @@ pub fn look_at_keys<L: Link, P: Pause>(
     let mut rest = keys;
     while !rest.is_empty() {
         let (group, later) = rest.split_at(batch.min(rest.len()));
-        let mut looked = look_group(alloc, group, link, mark, pause, &mut goes_on)?;
+        let mut looked = look_group(alloc, group, link, mark, pause, &mut goes_on, observer)?;
         lookeds.append(&mut looked)?;
         rest = later;
     }
@@ -113,13 +117,14 @@ pub fn look_at_keys<L: Link, P: Pause>(
 ///
 /// # Errors
 /// Where there is no memory.
-fn look_group<L: Link, P: Pause>(
+fn look_group<L: Link, P: Pause, O: ExchangeObserver>(
     alloc: Global,
     keys: &[Key],
     link: &mut L,
     mark: &[u8],
     pause: &mut P,
     goes_on: &mut bool,
+    observer: &mut O,
 ) -> Result<Vec<Looked>, NoMemory>
     requires many { IsTrue (may_have (length keys.now)) }
     requires mark { length mark.now ≤ 16 }
@@ -144,7 +149,7 @@ fn look_group<L: Link, P: Pause>(
     if !*goes_on {
         return Ok(lookeds);
     }
-    let more = ask_group(alloc, keys, link, mark, pause, &mut lookeds)?;
+    let more = ask_group(alloc, keys, link, mark, pause, &mut lookeds, observer)?;
     *goes_on = more;
     Ok(lookeds)
 }
@@ -165,31 +170,50 @@ fn all_unasked(alloc: Global, count: usize) -> Result<Vec<Looked>, NoMemory>
 ///
 /// # Errors
 /// Where there is no memory.
-fn ask_group<L: Link, P: Pause>(
+fn ask_group<L: Link, P: Pause, O: ExchangeObserver>(
     alloc: Global,
     keys: &[Key],
     link: &mut L,
     mark: &[u8],
     pause: &mut P,
     lookeds: &mut Vec<Looked>,
+    observer: &mut O,
 ) -> Result<bool, NoMemory>
     requires { IsGroup keys.now mark.now lookeds.old.items }
     ensures { AsksParts both_parts (record { keys = keys.now; mark = mark.now; most = 8 })
         lookeds.old.items (L.seen link.old) result lookeds.new.items (L.seen link.new)
         (P.has_given_up pause.new) }
 {
-    let goes_on = ask_part(alloc, Part::Find, keys, link, mark, pause, lookeds)?;
+    let goes_on = ask_part(
+        alloc,
+        Part::Find,
+        keys,
+        link,
+        mark,
+        pause,
+        lookeds,
+        observer,
+    )?;
     if !goes_on {
         return Ok(false);
     }
-    ask_part(alloc, Part::Tell, keys, link, mark, pause, lookeds)
+    ask_part(
+        alloc,
+        Part::Tell,
+        keys,
+        link,
+        mark,
+        pause,
+        lookeds,
+        observer,
+    )
 }
 
 /// Puts the messages of a part about the keys of a group, and says whether more may be asked.
 ///
 /// # Errors
 /// Where there is no memory.
-fn ask_part<L: Link, P: Pause>(
+fn ask_part<L: Link, P: Pause, O: ExchangeObserver>(
     alloc: Global,
     part: Part,
     keys: &[Key],
@@ -197,6 +221,7 @@ fn ask_part<L: Link, P: Pause>(
     mark: &[u8],
     pause: &mut P,
     lookeds: &mut Vec<Looked>,
+    observer: &mut O,
 ) -> Result<bool, NoMemory>
     requires { IsGroup keys.now mark.now lookeds.old.items }
     ensures { AsksParts (one_part part)
@@ -211,7 +236,7 @@ fn ask_part<L: Link, P: Pause>(
         if tried > 0 && !pause.again() {
             return Ok(false);
         }
-        ask_once(alloc, part, keys, link, mark, lookeds)?;
+        ask_once(alloc, part, keys, link, mark, lookeds, observer)?;
     }
     Ok(true)
 }
@@ -220,13 +245,14 @@ fn ask_part<L: Link, P: Pause>(
 ///
 /// # Errors
 /// Where there is no memory.
-fn ask_once<L: Link>(
+fn ask_once<L: Link, O: ExchangeObserver>(
     alloc: Global,
     part: Part,
     keys: &[Key],
     link: &mut L,
     mark: &[u8],
     lookeds: &mut Vec<Looked>,
+    observer: &mut O,
 ) -> Result<(), NoMemory>
     requires { IsGroup keys.now mark.now lookeds.old.items }
     ensures { AsksOnce part (record { keys = keys.now; mark = mark.now; most = 1 })
@@ -236,14 +262,23 @@ fn ask_once<L: Link>(
     if requests.is_empty() {
         return Ok(());
     }
-    ask(alloc, part, keys, link, mark, requests.as_slice(), lookeds)
+    ask(
+        alloc,
+        part,
+        keys,
+        link,
+        mark,
+        requests.as_slice(),
+        lookeds,
+        observer,
+    )
 }
 
 /// Puts these requests of a part in a message, and learns of what comes.
 ///
 /// # Errors
 /// Where there is no memory.
-fn ask<L: Link>(
+fn ask<L: Link, O: ExchangeObserver>(
     alloc: Global,
     part: Part,
     keys: &[Key],
@@ -251,6 +286,7 @@ fn ask<L: Link>(
     mark: &[u8],
     requests: &[Request],
     lookeds: &mut Vec<Looked>,
+    observer: &mut O,
 ) -> Result<(), NoMemory>
     requires fit { IsTrue (requests_fit requests.now) }
     requires asks { requests.now ≡ requests_of part mark.now keys.now lookeds.old.items }
@@ -259,7 +295,7 @@ fn ask<L: Link>(
         lookeds.old.items (L.seen link.old) result lookeds.new.items (L.seen link.new) }
 {
     laws_below();
-    let heard = put(alloc, link, requests)?;
+    let heard = put(alloc, link, requests, observer)?;
     hear_each(alloc, part, mark, keys, &heard, lookeds)
 }
 

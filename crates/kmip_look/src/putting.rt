@@ -13,18 +13,20 @@ use crate::why::Why;
 use kmip_batch_items::{MessageFault, Request};
 use kmip_messages::{read_reply, write_request};
 use kmip_protocol::laws::deliveries_keep_the_requests;
-use kmip_protocol::{Link, answer_or_loss};
+use kmip_protocol::{ExchangeObserver, Link, LinkFault, NoReplyReason, answer_or_loss};
 use kmip_ttlv::NoMemory;
 use std::alloc::Global;
 
-/// Puts the requests in one message over the link, and gives what comes of it.
+/// Sends the requests in one message over the link, and returns what comes of it. The observer is told of the
+/// exchange as it is made.
 ///
 /// # Errors
-/// Where there is no memory.
-pub(crate) fn put<L: Link>(
+/// If memory runs out.
+pub(crate) fn put<L: Link, O: ExchangeObserver>(
     alloc: Global,
     link: &mut L,
     requests: &[Request],
+    observer: &mut O,
 ) -> Result<Heard, NoMemory>
     requires { IsTrue (requests_fit requests.now) }
     ensures fits { IfOk result (λ heard. All (λ r. IsTrue (answer_fits r)) heard.replies.items) }
@@ -40,17 +42,36 @@ pub(crate) fn put<L: Link>(
 {
     deliveries_keep_the_requests();
     let bytes = write_request(alloc, requests)?;
-    let Ok(handed) = answer_or_loss(link.exchange(alloc, bytes.as_slice())) else {
+    observer.asking(requests);
+    let answered = link.exchange(alloc, bytes.as_slice());
+    tell_nothing_came(&answered, observer);
+    let Ok(handed) = answer_or_loss(answered) else {
         return Err(NoMemory);
     };
-    heard_in(alloc, handed)
+    heard_in(alloc, handed, observer)
 }
 
-/// What comes with the answer to a message.
+/// Tells the observer why nothing came; nothing is told if something did.
+fn tell_nothing_came<O: ExchangeObserver>(
+    answered: &Result<Option<Vec<u8>>, LinkFault>,
+    observer: &mut O,
+) {
+    match answered {
+        Ok(Some(_)) => {}
+        Ok(None) => observer.missed(&NoReplyReason::Lost),
+        Err(fault) => observer.missed(&NoReplyReason::Failed(*fault)),
+    }
+}
+
+/// What comes with the answer to a message. The observer is told of its replies, or why it has none.
 ///
 /// # Errors
-/// Where there is no memory.
-fn heard_in(alloc: Global, handed: Option<Vec<u8>>) -> Result<Heard, NoMemory>
+/// If memory runs out.
+fn heard_in<O: ExchangeObserver>(
+    alloc: Global,
+    handed: Option<Vec<u8>>,
+    observer: &mut O,
+) -> Result<Heard, NoMemory>
     ensures fits { IfOk result (λ heard. All (λ r. IsTrue (answer_fits r)) heard.replies.items) }
     ensures why { IfOk result (λ heard. is_refused heard.why ≡ false) }
     ensures said { IfOk result (λ heard. heard.replies.items
@@ -60,26 +81,36 @@ fn heard_in(alloc: Global, handed: Option<Vec<u8>>) -> Result<Heard, NoMemory>
         return Ok(nothing(alloc, Why::NoReply));
     };
     match read_reply(alloc, given.as_slice()) {
-        Ok(replies) => Ok(Heard {
-            replies,
-            why: Why::NoReply,
-        }),
-        Err(fault) => unreadable(alloc, fault),
+        Ok(replies) => {
+            observer.replied(replies.as_slice());
+            Ok(Heard {
+                replies,
+                why: Why::NoReply,
+            })
+        }
+        Err(fault) => unreadable(alloc, &fault, given.as_slice(), observer),
     }
 }
 
-/// Bytes came that can't be read as replies, for this fault.
+/// These bytes came, which can't be read as replies, for this fault. The observer is told why.
 ///
 /// # Errors
-/// Where the fault is that there is no memory.
-fn unreadable(alloc: Global, fault: MessageFault) -> Result<Heard, NoMemory>
+/// If the fault is that memory ran out.
+fn unreadable<O: ExchangeObserver>(
+    alloc: Global,
+    fault: &MessageFault,
+    bytes: &[u8],
+    observer: &mut O,
+) -> Result<Heard, NoMemory>
     ensures none { IfOk result (λ heard. heard.replies.items ≡ []) }
     ensures why { IfOk result (λ heard. is_refused heard.why ≡ false) }
-    ensures told { IfOk result (λ heard. is_no_memory fault ≡ false) }
+    ensures told { IfOk result (λ heard. is_no_memory fault.now ≡ false) }
 {
     if fault.is_no_memory() {
+        observer.missed(&NoReplyReason::NoMemory);
         return Err(NoMemory);
     }
+    observer.missed(&NoReplyReason::Unreadable(*fault, bytes));
     Ok(nothing(alloc, Why::Unreadable))
 }
 

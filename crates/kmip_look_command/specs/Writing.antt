@@ -1,17 +1,15 @@
 -- What the command `look` does: it asks, and writes what was seen.
 -- Source: own (view): how a contract sees a look and what is written of it.
-use Rattle.std.specs.Prelude.{◌≡◌, ◌≢◌, ℕ, Bool, false, not, List, Option, Result, Ok, Err, IfOk}
+use Rattle.std.specs.Prelude.{◌≡◌, ℕ, Bool, false, not, List, Option, Result, Ok, Err, IfOk}
 use Rattle.std.specs.Io.KnownBytes.{Appends}
 use Rattle.std.specs.List.{AllZip}
-use Rattle.kmip_report.specs.FaultLines.{no_memory}
-use Rattle.kmip_report.specs.Pieces.{line_in, report_in}
+use Rattle.kmip_report.specs.Pieces.{report_in}
 use Rattle.kmip_report.specs.declared.form.Form.{Form}
 use Rattle.kmip_ttlv.specs.declared.no_memory.NoMemory.{NoMemory}
 use Rattle.kmip_plan.specs.declared.key.Key.{Key}
 use Rattle.kmip_protocol.specs.Past.{Names}
 use Rattle.kmip_protocol.specs.Seen.{Seen}
-use Rattle.kmip_report.specs.Endings.{IfFailed, IfWhole, UnlessOutput}
-use Rattle.kmip_report.specs.declared.command_fault.CommandFault.TheVariants.{Input}
+use Rattle.kmip_report.specs.Endings.{IfWhole}
 use Rattle.kmip_report.specs.declared.exit_status.ExitStatus.{ExitStatus}
 use Rattle.kmip_look.specs.Looks.{IsTried, Looks}
 use Rattle.kmip_look.specs.declared.looked.Looked.{Looked}
@@ -36,7 +34,3 @@ pub record WritesLook (form : Form) (before : Seen) (keys : List Key) (mark : Li
   -- It never ends with `Usage`. If it ends with `Done` or `Refused`, exactly the report of what was seen
   -- is written; `Done` if each key is finished, and else `Refused`.
   pub whole : IfWhole status (TellsLooked form keys looked old new)
-  -- If it ends with `Failed`, exactly the line for running out of memory is written, unless the writer failed.
-  pub broken : IfFailed status (λ fault. UnlessOutput fault (Appends old new (line_in form no_memory)))
-  -- The fault is never that of a reader.
-  pub no_input : IfFailed status (λ fault. fault ≢ Input)

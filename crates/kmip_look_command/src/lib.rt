@@ -6,12 +6,16 @@
 
 mod line;
 mod line_words;
+mod look_input;
+mod look_observer;
 mod report;
 mod running;
 mod standing;
 mod verdicts;
 mod words;
 
+pub use look_input::LookInput;
+pub use look_observer::LookObserver;
 pub use report::push_looked;
 pub use running::run_look;
 pub use words::{state_name, why_text};

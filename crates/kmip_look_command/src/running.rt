@@ -1,67 +1,80 @@
 //! The command `look`: how each key of a plan stands on the server.
-ghost use Rattle.std.specs.Prelude.{◌≤◌, IsTrue, length};
+ghost use Rattle.std.specs.Prelude.{◌≤◌, IsTrue, Some, length};
 ghost use Rattle.kmip_messages.specs.Members.{may_have};
+ghost use Rattle.kmip_report.specs.Endings.{FailsToPrint, IfFailed};
+ghost use Rattle.kmip_report.specs.FaultLines.{no_memory};
+ghost use Rattle.kmip_report.specs.Pieces.{line_in};
 ghost use Rattle.kmip_look_command.specs.Private.{AppendsLook};
 ghost use Rattle.kmip_look_command.specs.Writing.{WritesLook};
 
+use crate::look_input::LookInput;
+use crate::look_observer::LookObserver;
 use crate::report::push_looked;
 use kmip_look::{Pause, look};
 use kmip_plan::Plan;
 use kmip_protocol::Link;
-use kmip_report::{ExitStatus, Form, print_report};
+use kmip_report::{ExitStatus, Printer, print_report};
 use kmip_ttlv::NoMemory;
 use std::alloc::Global;
-use std::io::Write;
 
-/// Looks at each key of the plan over the link, and prints in this form how they stand, or that
-/// memory ran out. Returns how the program ends: `Done` if each key is finished, else `Refused`, and
-/// `Failed` with the fault. It asks Locate and Get Attributes alone. Nothing is written before all
-/// was asked.
+/// Looks at each key of the plan over the link, and prints the status of each. It sends Locate and Get
+/// Attributes alone. `pause` waits if no answer came, and returns true if the message is sent again.
+/// `observer` is told of each exchange, and of what the look found before that is printed.
 ///
-/// `mark` is new for each look: at most 16 bytes, with which the ids of its questions begin. A
-/// message asks about at most `batch` keys. `pause` waits if no answer came, and returns true if it
-/// is asked again.
-pub fn run_look<L: Link, P: Pause, W: Write>(
+/// Returns `Done` if each key is finished, else `Refused`. Returns `Failed` if memory ran out, and then
+/// the line of that is printed instead, or if the printer failed.
+pub fn run_look<L: Link, P: Pause, O: LookObserver, R: Printer>(
     alloc: Global,
-    form: Form,
     plan: &Plan,
+    input: &LookInput<'_>,
     link: &mut L,
-    mark: &[u8],
-    batch: usize,
     pause: &mut P,
-    writer: &mut W,
+    observer: &mut O,
+    printer: &mut R,
 ) -> ExitStatus
-    // The batch is a number from 1 to 8.
-    requires batch { IsTrue (may_have batch) }
-    // The mark has at most 16 bytes.
-    requires mark { length mark.now ≤ 16 }
-    ensures { WritesLook form (L.seen link.old) plan.now mark.now (L.seen link.new)
-        (P.has_given_up pause.new) result (W.contents writer.old) (W.contents writer.new) }
+    // The `batch` of the input is a number from 1 to 8.
+    requires batch { IsTrue (may_have input.now.batch) }
+    // Its mark has at most 16 bytes.
+    requires mark { length input.now.mark.now ≤ 16 }
+    // It made one look over the link. If it ends with `Done` or `Refused`, exactly the report of what was
+    // seen is printed. It ends with `Done` exactly if each key is finished.
+    ensures text { WritesLook input.now.form (L.seen link.old) plan.now input.now.mark.now
+        (L.seen link.new) (P.has_given_up pause.new) result
+        (R.contents printer.old) (R.contents printer.new) }
+    // If it ends with `Failed`, memory ran out, and exactly the line of that is printed; or the printer
+    // failed.
+    ensures broken { IfFailed result (λ fault. FailsToPrint (line_in input.now.form no_memory) fault
+        R.own_fault R.IsWhole (R.contents printer.old) (R.contents printer.new)) }
 {
     let mut text = Vec::new(alloc);
-    let made = push_look(alloc, form, plan, link, mark, batch, pause, &mut text);
-    print_report(form, made, text.as_slice(), writer)
+    let made = push_look(alloc, plan, input, link, pause, observer, &mut text);
+    print_report(input.form, made, text.as_slice(), printer)
 }
 
-/// Looks at each key of the plan over the link, and appends in this form how they stand. Returns
-/// true if a key is not finished.
-fn push_look<L: Link, P: Pause>(
+/// Looks at each key of the plan over the link, and appends the status of each. Returns true if a key
+/// is not finished.
+///
+/// # Errors
+/// If memory runs out. A part may have been appended then.
+fn push_look<L: Link, P: Pause, O: LookObserver>(
     alloc: Global,
-    form: Form,
     plan: &Plan,
+    input: &LookInput<'_>,
     link: &mut L,
-    mark: &[u8],
-    batch: usize,
     pause: &mut P,
+    observer: &mut O,
     text: &mut Vec<u8>,
 ) -> Result<bool, NoMemory>
-    requires batch { IsTrue (may_have batch) }
-    requires mark { length mark.now ≤ 16 }
-    ensures { AppendsLook form (L.seen link.old) plan.now mark.now (L.seen link.new)
-        (P.has_given_up pause.new) result text.old.items text.new.items }
+    requires batch { IsTrue (may_have input.now.batch) }
+    requires mark { length input.now.mark.now ≤ 16 }
+    ensures { AppendsLook input.now.form (L.seen link.old) plan.now input.now.mark.now
+        (L.seen link.new) (P.has_given_up pause.new) result text.old.items text.new.items }
 {
-    match look(alloc, plan, link, mark, batch, pause) {
-        Ok(lookeds) => push_looked(alloc, form, plan.keys(), lookeds.as_slice(), text),
+    match look(alloc, plan, link, input.mark, input.batch, pause, observer) {
+        Ok(lookeds) => {
+            observer.looked(plan.keys(), lookeds.as_slice());
+            push_looked(alloc, input.form, plan.keys(), lookeds.as_slice(), text)
+        }
         Err(NoMemory) => Err(NoMemory),
     }
 }

@@ -5,28 +5,21 @@ use kmip_account::Account;
 use kmip_refresh::{Beginning, KeyLook};
 use kmip_run_files::Start;
 use kmip_trouble::Trouble;
-use std::cell::Cell;
 
 /// Begins a run once the server agrees with its progress: PATH.origin is written first.
 #[derive(Drop)]
 pub(crate) struct Agreeing<'a> {
     account: &'a Account<'a>,
     start: &'a Start<'a>,
-    has_begun: &'a Cell<bool>,
     /// Why the run cannot begin.
     trouble: Option<Trouble>,
 }
 
 impl<'a> Agreeing<'a> {
-    pub(crate) fn new(
-        account: &'a Account<'a>,
-        start: &'a Start<'a>,
-        has_begun: &'a Cell<bool>,
-    ) -> Self {
+    pub(crate) fn new(account: &'a Account<'a>, start: &'a Start<'a>) -> Self {
         Agreeing {
             account,
             start,
-            has_begun,
             trouble: None,
         }
     }
@@ -42,7 +35,6 @@ impl<'a> Beginning for Agreeing<'a> {
         report_gone(self.account, looks);
         match self.start.agree() {
             Ok(()) => {
-                self.has_begun.set(true);
                 self.account.begin_run();
                 true
             }

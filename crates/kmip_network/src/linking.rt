@@ -37,7 +37,7 @@ pub(crate) fn link_to<'a>(
 }
 
 /// A link to the server at an address and port. An exchange takes no longer than `limit`.
-pub(crate) fn tcp_link<'a>(
+fn tcp_link<'a>(
     log: &'a ExchangeLog<'a>,
     address: SocketAddrV4,
     limit: Duration,
@@ -50,7 +50,7 @@ pub(crate) fn tcp_link<'a>(
 ///
 /// # Errors
 /// If the path is too long for one of a socket.
-pub(crate) fn unix_link<'a>(
+fn unix_link<'a>(
     log: &'a ExchangeLog<'a>,
     path: &str,
     limit: Duration,
@@ -68,7 +68,7 @@ pub(crate) fn unix_link<'a>(
 ///
 /// # Errors
 /// Where no port is free.
-pub(crate) fn loopback<'a>(
+fn loopback<'a>(
     rt: &'a HostRuntime,
     limit: Duration,
 ) -> Result<Loopback<&'a HostRuntime, IndexedStore>, Trouble> {

@@ -1,7 +1,6 @@
 //! How long `look` waits before it asks again, and when it gives up.
 
 use crate::last_answer::LastAnswer;
-use kmip_account::ExchangeLog;
 use kmip_look::Pause;
 use kmip_runs::{next_wait, wait_within};
 use std::time::Clock;
@@ -12,7 +11,6 @@ use std::time::Clock;
 pub(crate) struct LookPause<'a, C> {
     clock: C,
     last: &'a LastAnswer,
-    log: &'a ExchangeLog<'a>,
     /// The first wait and the last one, in milliseconds.
     first: u64,
     wait: u64,
@@ -24,17 +22,10 @@ pub(crate) struct LookPause<'a, C> {
 impl<'a, C: Clock> LookPause<'a, C> {
     /// A pause with its first wait in milliseconds, 0 for none ever, and with the seconds without an
     /// answer after which it gives up, 0 for never.
-    pub(crate) fn new(
-        clock: C,
-        log: &'a ExchangeLog<'a>,
-        last: &'a LastAnswer,
-        first: u64,
-        most: u64,
-    ) -> Self {
+    pub(crate) fn new(clock: C, last: &'a LastAnswer, first: u64, most: u64) -> Self {
         LookPause {
             clock,
             last,
-            log,
             first,
             wait: 0,
             most,
@@ -55,7 +46,6 @@ impl<'a, C: Clock> Pause for LookPause<'a, C> {
         let before = if self.last.take_new() { 0 } else { self.wait };
         self.wait = next_wait(before, self.first, false);
         self.has_given_up = !wait_within(&self.clock, self.wait, self.last.at(), self.most);
-        self.log.begin_exchange();
         !self.has_given_up
     }
 }

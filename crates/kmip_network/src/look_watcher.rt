@@ -1,34 +1,42 @@
 //! What a look reports of its exchanges while it works, and when it was answered last.
 
 use crate::last_answer::LastAnswer;
-use crate::link_observer::LinkObserver;
 use crate::looking::MARK_BYTES;
-use crate::unmarked::{unmarked_reply, unmarked_request};
 use kmip_account::ExchangeLog;
-use kmip_protocol::LinkFault;
-use std::cell::Cell;
+use kmip_batch_items::{Outcome, Reply, Request};
+use kmip_client::{Listener, Verdict};
+use kmip_look::Looked;
+use kmip_look_command::LookObserver;
+use kmip_plan::Key;
+use kmip_protocol::{ExchangeObserver, NoReplyReason};
+use kmip_run_files::LookMetricsFile;
+use kmip_run_record::{LookCounts, Questions};
 
-/// Notes when an answer came, and gives each exchange to the log. The mark of the look, which is in the ids of
-/// its questions, is not reported.
+/// Notes when an answer came, and gives each exchange of a look to the log. It writes the metrics of the look once
+/// that has ended.
 #[derive(Drop)]
 pub(crate) struct LookWatcher<'a> {
     log: &'a ExchangeLog<'a>,
     last: &'a LastAnswer,
-    mark: &'a Cell<[u8; MARK_BYTES]>,
+    /// What is in the ids of the look's questions. It is not reported.
+    mark: [u8; MARK_BYTES],
     /// How many keys the look is about.
     count: usize,
-    /// Of how many of them the names were searched for, under which mark.
+    /// Of how many of them the names were searched for.
     found: usize,
-    found_under: [u8; MARK_BYTES],
+    /// The questions of the message under way, if exchanges are reported.
+    questions: Option<Questions>,
+    metrics: Option<LookMetricsFile<'a>>,
 }
 
 impl<'a> LookWatcher<'a> {
-    /// Of a look at this number of keys, whose questions have the mark that is set there.
+    /// Of a look at this number of keys, whose questions have this mark.
     pub(crate) fn new(
         log: &'a ExchangeLog<'a>,
         last: &'a LastAnswer,
-        mark: &'a Cell<[u8; MARK_BYTES]>,
+        mark: [u8; MARK_BYTES],
         count: usize,
+        metrics: Option<LookMetricsFile<'a>>,
     ) -> Self {
         LookWatcher {
             log,
@@ -36,39 +44,20 @@ impl<'a> LookWatcher<'a> {
             mark,
             count,
             found: 0,
-            found_under: mark.get(),
+            questions: None,
+            metrics,
         }
     }
 
-    /// Gives an exchange to the log without the mark, or as it is if memory runs out.
-    fn report(&self, request: &[u8], answered: Result<Option<&[u8]>, LinkFault>) -> usize {
-        let (alloc, mark) = (self.log.rt().alloc(), self.mark.get());
-        let unmarked = unmarked_request(alloc, request, &mark);
-        let request = match &unmarked {
-            Some(bytes) => bytes.as_slice(),
-            None => request,
-        };
-        match answered {
-            Ok(Some(reply)) => {
-                let unmarked = unmarked_reply(alloc, reply, &mark);
-                let reply = match &unmarked {
-                    Some(bytes) => bytes.as_slice(),
-                    None => reply,
-                };
-                self.log.exchanged(request, Ok(Some(reply)))
-            }
-            other => self.log.exchanged(request, other),
-        }
+    /// The mark of the look's questions.
+    pub(crate) fn mark(&self) -> [u8; MARK_BYTES] {
+        self.mark
     }
 
-    /// The names of this number of keys more were searched for. A look with a new mark begins anew.
-    fn count_found(&mut self, found: usize) {
-        let mark = self.mark.get();
-        if self.found_under != mark {
-            self.found = 0;
-            self.found_under = mark;
-        }
-        self.found = self.found.saturating_add(found);
+    /// Bytes came from the server.
+    fn note_answer(&self) {
+        self.last.note(self.log.rt());
+        self.log.note_news();
     }
 
     /// Shows how far the look is. Nothing if memory runs out.
@@ -86,18 +75,63 @@ impl<'a> LookWatcher<'a> {
     }
 }
 
-impl<'a> LinkObserver for LookWatcher<'a> {
-    fn exchanged(&mut self, request: &[u8], answered: Result<Option<&[u8]>, LinkFault>) {
-        if let Ok(Some(_)) = answered {
-            self.last.note(self.log.rt());
-            self.log.note_news();
-        }
-        let found = self.report(request, answered);
-        self.count_found(found);
+impl<'a> Listener for LookWatcher<'a> {
+    fn replied(&mut self, replies: &[Reply]) {
+        self.note_answer();
+        self.log.replied(self.questions.as_ref(), replies);
+        self.found = self.found.saturating_add(located(replies));
         self.show();
     }
+}
 
-    fn ended(&mut self) {
-        self.log.end_line();
+impl<'a> ExchangeObserver for LookWatcher<'a> {
+    fn asking(&mut self, requests: &[Request]) {
+        self.questions = self.log.asking(requests, &self.mark);
     }
+
+    fn missed(&mut self, reason: &NoReplyReason<'_>) {
+        match reason {
+            NoReplyReason::Unreadable(_, _) | NoReplyReason::NoMemory => self.note_answer(),
+            NoReplyReason::Lost | NoReplyReason::Failed(_) => {}
+        }
+        self.log.missed(self.questions.as_ref(), reason);
+        self.show();
+    }
+}
+
+impl<'a> LookObserver for LookWatcher<'a> {
+    fn looked(&mut self, keys: &[Key], lookeds: &[Looked]) {
+        self.log.end_line();
+        if let Some(metrics) = &self.metrics {
+            metrics.write(self.log, counts_of(keys, lookeds));
+        }
+    }
+}
+
+/// How many searches by name these replies answer.
+fn located(replies: &[Reply]) -> usize {
+    replies
+        .iter()
+        .filter(|reply| matches!(reply.outcome, Outcome::Located(_)))
+        .count()
+}
+
+/// How many keys have which status.
+fn counts_of(keys: &[Key], lookeds: &[Looked]) -> LookCounts {
+    let mut counts = LookCounts {
+        finished: 0,
+        working: 0,
+        conflict: 0,
+        not_told: 0,
+    };
+    for (key, looked) in keys.iter().zip(lookeds) {
+        let count = match looked.known.verdict(key) {
+            Verdict::Finished => &mut counts.finished,
+            Verdict::Conflict(_) => &mut counts.conflict,
+            Verdict::Working if looked.is_told() => &mut counts.working,
+            Verdict::Working => &mut counts.not_told,
+        };
+        *count = count.saturating_add(1);
+    }
+    counts
 }

@@ -1,26 +1,18 @@
 //! The program `look`, over sockets.
 
 use crate::last_answer::LastAnswer;
-use crate::linking::{loopback, tcp_link, unix_link};
+use crate::linking::{PeerLink, link_to};
 use crate::look_pause::LookPause;
 use crate::look_watcher::LookWatcher;
-use crate::observed::Observed;
 use kmip_account::ExchangeLog;
 use kmip_choices::{LookOptions, Peer};
-use kmip_client::Verdict;
-use kmip_look::{Looked, look};
-use kmip_look_command::{push_looked, run_look};
-use kmip_plan::{Key, Plan};
-use kmip_protocol::Link;
-use kmip_report::{ExitStatus, Form, print_report};
+use kmip_look_command::{LookInput, run_look};
+use kmip_plan::Plan;
+use kmip_report::ExitStatus;
 use kmip_run_command::batch_of;
 use kmip_run_files::{LookMetricsFile, plan_at};
-use kmip_run_record::LookCounts;
 use kmip_trouble::{Cannot, Trouble, standard_output};
-use kmip_ttlv::NoMemory;
-use std::cell::Cell;
 use std::random::RandomSource;
-use std::time::Duration;
 
 /// How many bytes the ids of a look's questions have after their operation, before the name (own).
 pub(crate) const MARK_BYTES: usize = 8;
@@ -38,7 +30,6 @@ const RANDOM_BYTES: &str = "random bytes of the system";
 /// What ends it before anything is asked.
 pub fn look_at_server(rt: &HostRuntime, options: &LookOptions) -> Result<ExitStatus, Trouble> {
     let file = plan_at(rt, options.plan.as_str())?;
-    let limit = Duration::from_secs(options.timeout);
     let log = ExchangeLog::new(
         rt,
         &options.peer,
@@ -46,97 +37,52 @@ pub fn look_at_server(rt: &HostRuntime, options: &LookOptions) -> Result<ExitSta
         options.give_up,
         options.is_verbose,
     )?;
-    match &options.peer {
-        Peer::Tcp(address) => {
-            let mut link = tcp_link(&log, *address, limit);
-            link.hold_none();
-            look_over(&log, options, &file.plan, FIRST_WAIT, link)
-        }
-        Peer::Unix(path) => {
-            let mut link = unix_link(&log, path.as_str(), limit)?;
-            link.hold_none();
-            look_over(&log, options, &file.plan, FIRST_WAIT, link)
-        }
-        Peer::Loopback => look_over(&log, options, &file.plan, 0, loopback(rt, limit)?),
+    let mut link = link_to(&log, &options.peer, options.timeout)?;
+    link.hold_none();
+    look_over(&log, options, &file.plan, link)
+}
+
+/// How long `look` waits first before it asks again, in milliseconds. It does not wait for a server in this process.
+fn first_wait(peer: &Peer) -> u64 {
+    match peer {
+        Peer::Tcp(_) | Peer::Unix(_) => FIRST_WAIT,
+        Peer::Loopback => 0,
     }
 }
 
-/// Asks the server over this link. Before a question is sent again it waits, this many milliseconds first.
-fn look_over<L: Link + Drop>(
+/// Asks the server over this link, and prints the status of each key.
+fn look_over(
     log: &ExchangeLog<'_>,
     options: &LookOptions,
     plan: &Plan,
-    first_wait: u64,
-    link: L,
+    link: PeerLink<'_>,
 ) -> Result<ExitStatus, Trouble> {
     let rt = log.rt();
-    let new = new_mark(rt)?;
-    let mark = Cell::new(new);
+    let mark = new_mark(rt)?;
     let metrics = LookMetricsFile::of(rt, options);
     let last = LastAnswer::none_yet(rt);
-    let mut link = Observed::new(link, LookWatcher::new(log, &last, &mark, plan.count()));
-    let mut pause = LookPause::new(rt, log, &last, first_wait, options.give_up);
-    let batch = batch_of(options.batch);
-    let form = options.format.form();
-    let status = match metrics {
-        None => run_look(
-            rt.alloc(),
-            form,
-            plan,
-            &mut link,
-            &new,
-            batch,
-            &mut pause,
-            &mut standard_output(rt),
-        ),
-        Some(metrics) => {
-            let looked = look(rt.alloc(), plan, &mut link, &new, batch, &mut pause);
-            if let Ok(lookeds) = &looked {
-                metrics.write(log, counts_of(plan.keys(), lookeds.as_slice()));
-            }
-            print_looked(rt, form, plan.keys(), looked)
-        }
+    let mut link = link;
+    let mut pause = LookPause::new(rt, &last, first_wait(&options.peer), options.give_up);
+    let mut watcher = LookWatcher::new(log, &last, mark, plan.count(), metrics);
+    let input = LookInput {
+        form: options.format.form(),
+        mark: &mark,
+        batch: batch_of(options.batch),
     };
+    let status = run_look(
+        rt.alloc(),
+        plan,
+        &input,
+        &mut link,
+        &mut pause,
+        &mut watcher,
+        &mut standard_output(rt),
+    );
     log.end_line();
     if pause.has_given_up() {
         tell_given_up(rt, options.give_up);
     }
     Ok(status)
-}
-
-/// Prints how the keys stand, or that memory ran out. Returns how the program ends.
-fn print_looked(
-    rt: &HostRuntime,
-    form: Form,
-    keys: &[Key],
-    looked: Result<Vec<Looked>, NoMemory>,
-) -> ExitStatus {
-    let mut text = Vec::new(rt.alloc());
-    let made = match looked {
-        Ok(lookeds) => push_looked(rt.alloc(), form, keys, lookeds.as_slice(), &mut text),
-        Err(NoMemory) => Err(NoMemory),
-    };
-    print_report(form, made, text.as_slice(), &mut standard_output(rt))
-}
-
-/// How many keys have which status.
-fn counts_of(keys: &[Key], lookeds: &[Looked]) -> LookCounts {
-    let mut counts = LookCounts {
-        finished: 0,
-        working: 0,
-        conflict: 0,
-        not_told: 0,
-    };
-    for (key, looked) in keys.iter().zip(lookeds) {
-        let count = match looked.known.verdict(key) {
-            Verdict::Finished => &mut counts.finished,
-            Verdict::Conflict(_) => &mut counts.conflict,
-            Verdict::Working if looked.is_told() => &mut counts.working,
-            Verdict::Working => &mut counts.not_told,
-        };
-        *count = count.saturating_add(1);
-    }
-    counts
 }
 
 /// A mark that no look had before: random bytes of the system.

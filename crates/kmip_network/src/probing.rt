@@ -1,17 +1,13 @@
 //! The program `probe`, over sockets.
 
-use crate::linking::{loopback, tcp_link, unix_link};
-use crate::observed::Observed;
-use crate::watcher::Watcher;
+use crate::linking::link_to;
+use crate::probe_watcher::ProbeWatcher;
 use kmip_account::ExchangeLog;
-use kmip_choices::{Peer, ProbeOptions};
-use kmip_probe_command::{probe, run_probe};
-use kmip_protocol::Link;
-use kmip_report::{CommandFault, ExitStatus, Form};
-use kmip_trouble::{Trouble, print_made, standard_output};
-use kmip_ttlv::NoMemory;
+use kmip_choices::ProbeOptions;
+use kmip_probe_command::run_probe;
+use kmip_report::ExitStatus;
+use kmip_trouble::{Trouble, standard_output};
 use std::io::BufWriter;
-use std::time::Duration;
 
 /// The command `probe`: the server is asked, and what its answers tell is printed. Each question goes
 /// over a stream of its own, so a server that closes the stream after each reply answers all.
@@ -19,49 +15,17 @@ use std::time::Duration;
 /// # Errors
 /// What ends it before anything is asked.
 pub fn probe_server(rt: &HostRuntime, options: &ProbeOptions) -> Result<ExitStatus, Trouble> {
-    let limit = Duration::from_secs(options.timeout);
     let log = ExchangeLog::new(rt, &options.peer, options.timeout, 0, options.is_verbose)?;
-    match &options.peer {
-        Peer::Tcp(address) => {
-            let mut link = tcp_link(&log, *address, limit);
-            link.hold_none();
-            probe_over(&log, options, link)
-        }
-        Peer::Unix(path) => {
-            let mut link = unix_link(&log, path.as_str(), limit)?;
-            link.hold_none();
-            probe_over(&log, options, link)
-        }
-        Peer::Loopback => probe_over(&log, options, loopback(rt, limit)?),
-    }
-}
-
-/// Asks the server over this link. Each exchange is reported, if it is to be.
-fn probe_over<L: Link + Drop>(
-    log: &ExchangeLog<'_>,
-    options: &ProbeOptions,
-    link: L,
-) -> Result<ExitStatus, Trouble> {
-    let rt = log.rt();
-    let mut link = Observed::new(link, Watcher::new(log));
+    let mut link = link_to(&log, &options.peer, options.timeout)?;
+    link.hold_none();
     let mut writer = BufWriter::new(rt.alloc(), standard_output(rt))?;
-    let (form, prefix) = (options.format.form(), options.prefix.as_str());
-    match form {
-        Form::Text => Ok(run_probe(rt.alloc(), prefix, form, &mut link, &mut writer)),
-        Form::Json => {
-            let ended = probe(rt.alloc(), prefix, form, &mut link, &mut writer);
-            Ok(status_in_json(rt, ended))
-        }
-    }
-}
-
-/// How the program ends after a probe whose documents are printed. If memory ran out, the document of
-/// that is printed here.
-fn status_in_json(rt: &HostRuntime, ended: Result<bool, CommandFault>) -> ExitStatus {
-    match ended {
-        Ok(false) => ExitStatus::Done,
-        Ok(true) => ExitStatus::Refused,
-        Err(CommandFault::NoMemory) => print_made(rt, Form::Json, Err(NoMemory), &[]),
-        Err(fault) => ExitStatus::Failed(fault),
-    }
+    let status = run_probe(
+        rt.alloc(),
+        options.prefix.as_str(),
+        options.format.form(),
+        &mut link,
+        &mut ProbeWatcher::new(&log),
+        &mut writer,
+    );
+    Ok(status)
 }

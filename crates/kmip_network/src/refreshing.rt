@@ -7,11 +7,9 @@ use crate::disagreeing::{contradiction, report_unanswered};
 use crate::last_answer::LastAnswer;
 use crate::look_pause::LookPause;
 use crate::look_watcher::LookWatcher;
-use crate::looking::{MARK_BYTES, new_mark, tell_given_up};
-use crate::observed::Observed;
+use crate::looking::{new_mark, tell_given_up};
 use crate::repeating::Repeating;
 use crate::running::{first_wait, tell_end};
-use crate::until_run::UntilRun;
 use kmip_account::{Account, RunObserver};
 use kmip_choices::RunOptions;
 use kmip_look::{Pause, Why};
@@ -27,7 +25,6 @@ use kmip_runs::Pace;
 use kmip_tally::Unanswered;
 use kmip_trouble::{Obstacle, Trouble, standard_output};
 use kmip_ttlv::NoMemory;
-use std::cell::Cell;
 
 /// What a run that first looks is given.
 #[derive(Clone, Copy)]
@@ -120,23 +117,39 @@ pub(crate) fn run_after_look<L: Link + Drop>(
 ) -> Result<ExitStatus, Trouble>
     requires { IsTrue (may_have input.now.batch) }
 {
+    let last = LastAnswer::none_yet(keeper.account().rt());
+    look_until_told(refreshing, input, keeper, findings, &last, link)
+}
+
+/// Does the same, and notes there when the server answered last.
+///
+/// # Errors
+/// If the server contradicts the progress, or the run cannot begin.
+fn look_until_told<'a, L: Link + Drop>(
+    refreshing: &'a Refreshing<'a>,
+    input: &RunInput<'_>,
+    keeper: &mut MachineKeeper<'_>,
+    findings: &'a mut Findings,
+    last: &'a LastAnswer,
+    link: L,
+) -> Result<ExitStatus, Trouble>
+    requires { IsTrue (may_have input.now.batch) }
+{
     let (account, options) = (refreshing.account, refreshing.options);
     let (rt, log) = (account.rt(), account.log());
-    let (mark, has_begun) = (Cell::new([0; MARK_BYTES]), Cell::new(false));
-    let last = LastAnswer::none_yet(rt);
-    let look = LookWatcher::new(log, &last, &mark, refreshing.count);
-    let mut link = Observed::new(link, UntilRun::new(look, &has_begun));
+    let mut link = link;
     let mut pace = Pace::new(rt, first_wait(options), options.give_up);
     let mut observer = RunObserver::new(account, findings);
-    let mut pause = LookPause::new(rt, log, &last, first_wait(options), options.give_up);
-    let mut beginning = Agreeing::new(account, refreshing.start, &has_begun);
+    let mut pause = LookPause::new(rt, last, first_wait(options), options.give_up);
+    let mut beginning = Agreeing::new(account, refreshing.start);
     let mut repeating = Repeating::new(rt, options.give_up);
     for _ in 0..u64::MAX {
-        mark.set(new_mark(rt)?);
+        let mark = new_mark(rt)?;
+        let watcher = LookWatcher::new(log, last, mark, refreshing.count, None);
         let (ended, paused, begun) = attempt(
             refreshing,
             input,
-            &mark,
+            watcher,
             (pause, beginning),
             &mut link,
             keeper,
@@ -159,11 +172,11 @@ pub(crate) fn run_after_look<L: Link + Drop>(
     Ok(ExitStatus::Refused) // the server was silent 2^64 - 1 times
 }
 
-/// Looks at the keys under this mark, and makes the run if the server agrees.
+/// Looks at the keys, of which the watcher is told, and makes the run if the server agrees.
 fn attempt<'b, L: Link, P: Pause, B: Beginning>(
     refreshing: &'b Refreshing<'_>,
     input: &RunInput<'_>,
-    mark: &Cell<[u8; MARK_BYTES]>,
+    watcher: LookWatcher<'_>,
     parts: (P, B),
     link: &mut L,
     keeper: &mut MachineKeeper<'_>,
@@ -172,12 +185,13 @@ fn attempt<'b, L: Link, P: Pause, B: Beginning>(
 ) -> (Result<Refreshed<'b>, NoMemory>, P, B)
     requires { IsTrue (may_have input.now.batch) }
 {
-    let mark = mark.get();
+    let mark = watcher.mark();
     let (pause, beginning) = parts;
     let mut refresh = Refresh {
         mark: &mark,
         pause,
         beginning,
+        observer: watcher,
     };
     let ended = run_refreshed(
         refreshing.account.rt().alloc(),

@@ -14,6 +14,7 @@ use crate::kind::Kind;
 use crate::unread::{Unread, version_in};
 use kmip_batch_items::{MessageFault, Outcome, Reply};
 use kmip_messages::read_reply;
+use kmip_protocol::{ExchangeObserver, NoReplyReason};
 use kmip_ttlv::{Bytes, NoMemory, Text};
 use std::alloc::Global;
 
@@ -101,15 +102,16 @@ pub(crate) fn located(outcome: Option<&Outcome>) -> Option<&[Text]>
 }
 
 /// What was handed over says of the question of a number, from 0: nothing, unless it is a message
-/// of one reply, or can't be read.
+/// of one reply, or can't be read. The observer is told of the replies, or why there are none.
 ///
 /// # Errors
 /// Where there is no memory.
-pub(crate) fn answer_to(
+pub(crate) fn answer_to<O: ExchangeObserver>(
     alloc: Global,
     number: u8,
     prefix: &str,
     handed: Option<Vec<u8>>,
+    observer: &mut O,
 ) -> Result<Answer, NoMemory>
     ensures answer { IfOk result (λ answer. answer
         ≡ answer_to number prefix.now (option_map (λ v. v.items) handed)) }
@@ -119,24 +121,33 @@ pub(crate) fn answer_to(
         return Ok(Answer::Nothing);
     };
     match read_reply(alloc, given.as_slice()) {
-        Ok(replies) => Ok(answer_in(number, prefix, replies)),
-        Err(fault) => unreadable(&fault, given.as_slice()),
+        Ok(replies) => {
+            observer.replied(replies.as_slice());
+            Ok(answer_in(number, prefix, replies))
+        }
+        Err(fault) => unreadable(&fault, given.as_slice(), observer),
     }
 }
 
-/// The answer that bytes are which can't be read as replies for this fault.
+/// The answer that bytes are which can't be read as replies for this fault. The observer is told why.
 ///
 /// # Errors
 /// Where the fault is that there is no memory.
-fn unreadable(fault: &MessageFault, given: &[u8]) -> Result<Answer, NoMemory>
+fn unreadable<O: ExchangeObserver>(
+    fault: &MessageFault,
+    given: &[u8],
+    observer: &mut O,
+) -> Result<Answer, NoMemory>
     ensures answer { IfOk result (λ answer. answer
         ≡ Answer.Unreadable (record { fault = fault.now; version = version_in given.now })) }
     ensures lawful { IfOk result IsLawful }
     ensures told { IfOk result (λ answer. is_no_memory fault.now ≡ false) }
 {
     if fault.is_no_memory() {
+        observer.missed(&NoReplyReason::NoMemory);
         return Err(NoMemory);
     }
+    observer.missed(&NoReplyReason::Unreadable(*fault, given));
     let version = version_in(given);
     Ok(Answer::Unreadable(Unread {
         fault: *fault,

@@ -26,18 +26,24 @@ use kmip_messages::laws::answer_laws;
 use kmip_messages::write_request;
 use kmip_objects::laws::{added_laws, found_laws, restated_laws};
 use kmip_protocol::laws::deliveries_keep_the_requests;
-use kmip_protocol::{Link, answer_or_loss};
+use kmip_protocol::{ExchangeObserver, Link, LinkFault, NoReplyReason, answer_or_loss};
 use kmip_ttlv::{Bytes, NoMemory, Text};
 use std::alloc::Global;
 
 /// Asks the questions of a probe over the link, one after the other, and returns what came of each. Where one
 /// of the names is there already, or it could not be told, nothing more is asked, and nothing was made. A
 /// question about an identifier that no answer told is passed over. A Locate is sent again while no reply
-/// comes, up to three times in all. Nothing else is sent twice.
+/// comes, up to three times in all. Nothing else is sent twice. The observer is told of each exchange as it is
+/// made.
 ///
 /// # Errors
 /// Where there is no memory; what was made until then stays.
-pub fn probe<L: Link>(alloc: Global, prefix: &str, link: &mut L) -> Result<Vec<Answer>, NoMemory>
+pub fn probe<L: Link, O: ExchangeObserver>(
+    alloc: Global,
+    prefix: &str,
+    link: &mut L,
+    observer: &mut O,
+) -> Result<Vec<Answer>, NoMemory>
     // The prefix can begin names: it is the name of a key, of at most 62 characters.
     requires { IsTrue (is_prefix prefix.now) }
     // No question is left: none follows these answers.
@@ -65,22 +71,23 @@ pub fn probe<L: Link>(alloc: Global, prefix: &str, link: &mut L) -> Result<Vec<A
         × (answers.items ≡ map Answer.Told (outcomes_of prefix.now first second))) }
 {
     let mut answers = Vec::new(alloc);
-    ask_on(alloc, prefix, link, QUESTIONS, &mut answers)?;
+    ask_on(alloc, prefix, link, QUESTIONS, observer, &mut answers)?;
     Ok(answers)
 }
 
 /// Asks on after the answers that have come, one question after the other over the link, until there are
 /// `most`, and appends what came of each. Where one of the names is there already, or it could not be told,
 /// nothing more is asked. A question about an identifier that no answer told is passed over. A Locate is sent
-/// again as `probe` sends it.
+/// again as `probe` sends it. The observer is told of each exchange as it is made.
 ///
 /// # Errors
 /// Where there is no memory; what came until then is appended, and what was made stays.
-pub fn ask_on<L: Link>(
+pub fn ask_on<L: Link, O: ExchangeObserver>(
     alloc: Global,
     prefix: &str,
     link: &mut L,
     most: usize,
+    observer: &mut O,
     answers: &mut Vec<Answer>,
 ) -> Result<(), NoMemory>
     // The prefix can begin names: it is the name of a key, of at most 62 characters.
@@ -132,7 +139,7 @@ pub fn ask_on<L: Link>(
         let Some(inquiry) = next_inquiry(answers.as_slice()) else {
             return Ok(());
         };
-        let answer = put(alloc, prefix, link, inquiry, answers.as_slice())?;
+        let answer = put(alloc, prefix, link, inquiry, observer, answers.as_slice())?;
         answers.push(answer)?;
     }
     Ok(())
@@ -203,11 +210,12 @@ fn first_uid(answers: &[Answer]) -> Option<&Text>
 ///
 /// # Errors
 /// Where there is no memory.
-fn put<L: Link>(
+fn put<L: Link, O: ExchangeObserver>(
     alloc: Global,
     prefix: &str,
     link: &mut L,
     inquiry: Inquiry,
+    observer: &mut O,
     answers: &[Answer],
 ) -> Result<Answer, NoMemory>
     requires few { length answers.now < QUESTIONS }
@@ -233,7 +241,15 @@ fn put<L: Link>(
         return Ok(Answer::Nothing);
     };
     let most = most_sends(inquiry.1);
-    ask(alloc, prefix, link, answers.len() as u8, most, &request)
+    ask(
+        alloc,
+        prefix,
+        link,
+        answers.len() as u8,
+        most,
+        &request,
+        observer,
+    )
 }
 
 /// Sends a request in a message of its own, up to `most` times, and returns what the reply says of the
@@ -241,13 +257,14 @@ fn put<L: Link>(
 ///
 /// # Errors
 /// Where there is no memory.
-fn ask<L: Link>(
+fn ask<L: Link, O: ExchangeObserver>(
     alloc: Global,
     prefix: &str,
     link: &mut L,
     number: u8,
     most: usize,
     request: &Request,
+    observer: &mut O,
 ) -> Result<Answer, NoMemory>
     requires fits { IsTrue (request_fits request.now) }
     requires some { 0 < most }
@@ -264,20 +281,22 @@ fn ask<L: Link>(
 {
     answer_laws();
     let bytes = write_request(alloc, std::slice::from_ref(request))?;
-    let handed = send_up_to(alloc, link, bytes.as_slice(), most)?;
-    answer_to(alloc, number, prefix, handed)
+    let handed = send_up_to(alloc, link, request, bytes.as_slice(), most, observer)?;
+    answer_to(alloc, number, prefix, handed, observer)
 }
 
-/// Sends a message, and again while no reply comes, up to `most` times in all. Returns the reply, or none if
-/// none came.
+/// Sends the message of a request, and again while no reply comes, up to `most` times in all. Returns the reply,
+/// or none if none came.
 ///
 /// # Errors
 /// If memory runs out.
-fn send_up_to<L: Link>(
+fn send_up_to<L: Link, O: ExchangeObserver>(
     alloc: Global,
     link: &mut L,
+    request: &Request,
     message: &[u8],
     most: usize,
+    observer: &mut O,
 ) -> Result<Option<Vec<u8>>, NoMemory>
     requires { 0 < most }
     ensures put { (names : Names) → (L.seen link.old).honest names → (L.seen link.new).honest names
@@ -291,13 +310,28 @@ fn send_up_to<L: Link>(
 {
     deliveries_keep_the_requests();
     for _turn in 0..most {
-        match answer_or_loss(link.exchange(alloc, message)) {
+        observer.asking(std::slice::from_ref(request));
+        let answered = link.exchange(alloc, message);
+        tell_nothing_came(&answered, observer);
+        match answer_or_loss(answered) {
             Ok(None) => {}
             Ok(Some(reply)) => return Ok(Some(reply)),
             Err(NoMemory) => return Err(NoMemory),
         }
     }
     Ok(None)
+}
+
+/// Tells the observer why nothing came; nothing is told if something did.
+fn tell_nothing_came<O: ExchangeObserver>(
+    answered: &Result<Option<Vec<u8>>, LinkFault>,
+    observer: &mut O,
+) {
+    match answered {
+        Ok(Some(_)) => {}
+        Ok(None) => observer.missed(&NoReplyReason::Lost),
+        Err(fault) => observer.missed(&NoReplyReason::Failed(*fault)),
+    }
 }
 
 /// The question as it is asked after these answers; none where it needs an identifier and none is

@@ -5,7 +5,9 @@ use Rattle.std.specs.List.{concat}
 use Rattle.std.specs.Io.KnownBytes.{Appends}
 use Rattle.std.proofs.KnownBytes.{Appends-kept, Appends-trans}
 use Rattle.std.proofs.lemmas.List.{take_at}
-use Rattle.kmip_report.specs.Endings.{Finishes, IfFailed, UnlessOutput, fault_line}
+use Rattle.kmip_report.specs.Endings.{IfFailed, UnlessOutput}
+use Rattle.kmip_report.specs.FaultLines.{no_memory}
+use Rattle.kmip_report.specs.Pieces.{line_in}
 use Rattle.kmip_report.specs.Private.{Fails}
 use Rattle.kmip_report.specs.declared.exit_status.ExitStatus.{ExitStatus}
 use Rattle.kmip_report.specs.declared.exit_status.ExitStatus.TheVariants.{Done, Refused, Failed, Usage}
@@ -13,7 +15,7 @@ use Rattle.kmip_report.specs.declared.command_fault.CommandFault.{CommandFault}
 use Rattle.kmip_report.specs.declared.command_fault.CommandFault.TheVariants.{Input, Output, NoMemory}
 use Rattle.kmip_probe.specs.declared.answer.Answer.{Answer}
 use Rattle.kmip_report.specs.declared.form.Form.{Form}
-use Rattle.kmip_probe_command.specs.Private.{BreaksMidway}
+use Rattle.kmip_probe_command.specs.Private.{BreaksMidway, EndsIn}
 use Rattle.kmip_probe_command.specs.Midway.{TellsSome, answers_before, lines_by}
 
 -- ---- how it breaks off
@@ -85,7 +87,7 @@ pub front_is_kept : (fault : CommandFault) (form : Form) (prefix old new : List 
 front_is_kept fault form prefix old new (inl (is, some)) = front_kept form prefix old new some
 front_is_kept fault form prefix old new (inr (is, some)) = front_kept form prefix old new (some tt)
 
--- ---- behind it the line of the fault
+-- ---- after it the line for running out of memory
 
 with_line : (form : Form) (prefix line : List ℕ) (old between new : Option (List ℕ)) → TellsSome form prefix [] old between → Appends between new line → TellsSome form prefix line old new
 with_line form prefix line old between new some written = record {
@@ -97,23 +99,17 @@ with_line form prefix line old between new some written = record {
   written = subst (λ bytes. Appends old new (bytes ++ line)) (append-nil (concat some.told)) (Appends-trans old between new (concat some.told ++ []) line some.written written);
 }
 
-unless_output : (last fault : CommandFault) (form : Form) (prefix : List ℕ) (old between new : Option (List ℕ))
-    → UnlessOutput last ((last ≡ fault) × Appends between new (fault_line fault)) → UnlessOutput fault (TellsSome form prefix [] old between)
-    → UnlessOutput last (TellsSome form prefix (fault_line last) old new)
-unless_output Output fault form prefix old between new ends some = tt
-unless_output Input Input form prefix old between new (is, written) some = with_line form prefix (fault_line Input) old between new some written
-unless_output NoMemory NoMemory form prefix old between new (is, written) some = with_line form prefix (fault_line NoMemory) old between new some written
-unless_output Input Output form prefix old between new (is, written) some = absurd cc
-unless_output Input NoMemory form prefix old between new (is, written) some = absurd cc
-unless_output NoMemory Input form prefix old between new (is, written) some = absurd cc
-unless_output NoMemory Output form prefix old between new (is, written) some = absurd cc
-
-pub ends_midway : (ended : Result Bool CommandFault) (status : ExitStatus) (form : Form) (prefix : List ℕ) (old between new : Option (List ℕ))
-    → Finishes ended status between new → IfErr ended (λ fault. UnlessOutput fault (TellsSome form prefix [] old between))
-    → IfFailed status (λ last. UnlessOutput last (TellsSome form prefix (fault_line last) old new))
-ends_midway (Ok false) status form prefix old between new (is, same) some = rw is tt
-ends_midway (Ok true) status form prefix old between new (is, same) some = rw is tt
-ends_midway (Err fault) Done form prefix old between new ends some = tt
-ends_midway (Err fault) Refused form prefix old between new ends some = tt
-ends_midway (Err fault) Usage form prefix old between new ends some = absurd ends
-ends_midway (Err fault) (Failed last) form prefix old between new ends some = unless_output last fault form prefix old between new ends some
+pub ends_midway : (form : Form) (ended : Result Bool CommandFault) (status : ExitStatus) (prefix : List ℕ) (old between new : Option (List ℕ))
+    → EndsIn form ended status between new → IfErr ended (λ fault. UnlessOutput fault (TellsSome form prefix [] old between)) → IfErr ended (λ fault. fault ≢ Input)
+    → IfFailed status (λ last. UnlessOutput last (TellsSome form prefix (line_in form no_memory) old new))
+ends_midway form (Ok false) status prefix old between new (is, same) some none = rw is tt
+ends_midway form (Ok true) status prefix old between new (is, same) some none = rw is tt
+ends_midway form (Err NoMemory) Done prefix old between new ends some none = absurd ends
+ends_midway form (Err NoMemory) Refused prefix old between new ends some none = absurd ends
+ends_midway form (Err NoMemory) Usage prefix old between new ends some none = absurd ends
+ends_midway form (Err NoMemory) (Failed Input) prefix old between new (is, written) some none = absurd cc
+ends_midway form (Err NoMemory) (Failed Output) prefix old between new ends some none = tt
+ends_midway form (Err NoMemory) (Failed NoMemory) prefix old between new (is, written) some none =
+    with_line form prefix (line_in form no_memory) old between new some written
+ends_midway form (Err Output) status prefix old between new is some none = rw is tt
+ends_midway form (Err Input) status prefix old between new is some none = absurd (none refl)

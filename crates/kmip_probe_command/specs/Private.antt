@@ -1,6 +1,6 @@
 -- Private: definitions that only clauses of private functions cite.
 -- Source: own (view): parts of the public definitions of this crate.
-use Rattle.std.specs.Prelude.{ℕ, Bool, List, [], ◌++◌, ◌≡◌, ◌⊎◌, Option, not}
+use Rattle.std.specs.Prelude.{ℕ, Bool, List, [], ◌++◌, ◌≡◌, ◌⊎◌, Option, Result, Ok, Err, not}
 use Rattle.kmip_probe_command.specs.declared.premise.Premise.TheVariants as premise
 use Rattle.kmip_probe.specs.declared.findings.Findings.{Findings}
 use Rattle.kmip_report.specs.declared.form.Form.{Form}
@@ -8,7 +8,12 @@ use Rattle.kmip_probe_command.specs.ProbeText.{end_text, line_of}
 use Rattle.kmip_probe_command.specs.Wording.{are_all_kept}
 use Rattle.std.specs.Io.KnownBytes.{Appends}
 use Rattle.kmip_report.specs.declared.command_fault.CommandFault.{CommandFault}
-use Rattle.kmip_report.specs.declared.command_fault.CommandFault.TheVariants.{NoMemory}
+use Rattle.kmip_report.specs.declared.command_fault.CommandFault.TheVariants.{Input, Output, NoMemory}
+use Rattle.kmip_report.specs.Endings.{FailsBy, UnlessOutput, status_of}
+use Rattle.kmip_report.specs.FaultLines.{no_memory}
+use Rattle.kmip_report.specs.Pieces.{line_in}
+use Rattle.kmip_report.specs.declared.exit_status.ExitStatus.{ExitStatus}
+use Rattle.kmip_report.specs.declared.exit_status.ExitStatus.TheVariants.{Failed}
 use Rattle.kmip_probe.specs.Judging.{AreFindings}
 use Rattle.kmip_probe.specs.declared.answer.Answer.{Answer}
 use Rattle.kmip_probe_command.specs.Midway.{TellsSome}
@@ -28,3 +33,11 @@ BreaksMidway form fault own_fault IsWhole prefix old new =
 abbrev pub TellsEnd : (Findings → List ℕ) → List ℕ → List Answer → Bool → Option (List ℕ) → Option (List ℕ) → Type 0
 TellsEnd text prefix answers refused old new =
     (findings : Findings) × AreFindings prefix answers findings × (refused ≡ not (are_all_kept findings)) × Appends old new (text findings)
+
+-- How the program ends after a probe, and what it writes then: if memory ran out, the line of that in this form.
+abbrev pub EndsIn : Form → Result Bool CommandFault → ExitStatus → Option (List ℕ) → Option (List ℕ) → Type 0
+EndsIn form (Ok refused) status old new = (status ≡ status_of refused) × (new ≡ old)
+EndsIn form (Err NoMemory) status old new =
+    FailsBy status (λ last. UnlessOutput last ((last ≡ NoMemory) × Appends old new (line_in form no_memory)))
+EndsIn form (Err Output) status old new = status ≡ Failed Output
+EndsIn form (Err Input) status old new = status ≡ Failed Input

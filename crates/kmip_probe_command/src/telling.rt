@@ -23,7 +23,7 @@ use kmip_probe::laws::the_profile_keeps_all;
 use kmip_probe::{
     Answer, Findings, LOOK_FIRST, LOOK_SECOND, LOOKS, MOST_MESSAGES, QUESTIONS, ask_on, findings_of,
 };
-use kmip_protocol::Link;
+use kmip_protocol::{ExchangeObserver, Link};
 use kmip_report::{CommandFault, Form, Printer};
 use kmip_ttlv::NoMemory;
 use std::alloc::Global;
@@ -34,11 +34,12 @@ use std::alloc::Global;
 /// # Errors
 ///
 /// `NoMemory`, and the fault of the printer.
-pub(crate) fn tell<L: Link, P: Printer>(
+pub(crate) fn tell<L: Link, O: ExchangeObserver, P: Printer>(
     alloc: Global,
     prefix: &str,
     form: Form,
     link: &mut L,
+    observer: &mut O,
     printer: &mut P,
 ) -> Result<bool, CommandFault>
     requires { IsTrue (is_prefix prefix.now) }
@@ -57,10 +58,10 @@ pub(crate) fn tell<L: Link, P: Printer>(
 {
     the_profile_keeps_all();
     let mut answers = Vec::new(alloc);
-    ask_on(alloc, prefix, link, LOOKS, &mut answers)?;
+    ask_on(alloc, prefix, link, LOOKS, observer, &mut answers)?;
     match unbegun_text(alloc, prefix, form, answers.as_slice())? {
         Some(text) => print_refusal(text.as_slice(), printer),
-        None => tell_on(alloc, prefix, form, link, printer, &mut answers),
+        None => tell_on(alloc, prefix, form, link, observer, printer, &mut answers),
     }
 }
 
@@ -70,11 +71,12 @@ pub(crate) fn tell<L: Link, P: Printer>(
 /// # Errors
 ///
 /// `NoMemory`, and the fault of the printer.
-fn tell_on<L: Link, P: Printer>(
+fn tell_on<L: Link, O: ExchangeObserver, P: Printer>(
     alloc: Global,
     prefix: &str,
     form: Form,
     link: &mut L,
+    observer: &mut O,
     printer: &mut P,
     answers: &mut Vec<Answer>,
 ) -> Result<bool, CommandFault>
@@ -104,11 +106,11 @@ fn tell_on<L: Link, P: Printer>(
         → IfOk result (λ r. AreServed prefix.now answers.new.items (L.seen link.new).past) }
 {
     print_making(alloc, prefix, form, printer)?;
-    ask_on(alloc, prefix, link, EARLY_ANSWERS, answers)?;
+    ask_on(alloc, prefix, link, EARLY_ANSWERS, observer, answers)?;
     print_lines(alloc, prefix, form, answers.as_slice(), &EARLY, printer)?;
-    ask_on(alloc, prefix, link, LATE_ANSWERS, answers)?;
+    ask_on(alloc, prefix, link, LATE_ANSWERS, observer, answers)?;
     print_lines(alloc, prefix, form, answers.as_slice(), &LATE, printer)?;
-    ask_on(alloc, prefix, link, QUESTIONS, answers)?;
+    ask_on(alloc, prefix, link, QUESTIONS, observer, answers)?;
     print_rest(alloc, prefix, form, answers.as_slice(), printer)
 }
 

@@ -26,7 +26,7 @@ use kmip_look::{Pause, look_at_keys};
 use kmip_plan::chain_laws::states_have_places;
 use kmip_plan::{Key, Plan};
 use kmip_progress::{Known, ProgressFault};
-use kmip_protocol::Link;
+use kmip_protocol::{ExchangeObserver, Link};
 use kmip_run_command::{RunEnd, RunInput, begin, run_to_end};
 use kmip_runs::{Keeper, Observer, Patience, Stop};
 use kmip_ttlv::NoMemory;
@@ -38,15 +38,26 @@ use std::alloc::Global;
 /// as many keys in a message as the input says. Each answer is compared with what the progress says. The run
 /// is made if the judgement on all of them is `Agreed` and `Beginning::begin` returns true.
 ///
+/// The observer of `refresh` is told of each exchange of the look, and `observer` of each one of the run.
+///
 /// If the text is not a progress of the plan, nothing is sent, and the outcome is `Ran(RunEnd::Refused(..))`.
 ///
 /// # Errors
 /// If memory runs out. What the keeper was given stays.
-pub fn run_refreshed<'a, L: Link, K: Keeper, E: Patience, O: Observer, P: Pause, B: Beginning>(
+pub fn run_refreshed<
+    'a,
+    L: Link,
+    K: Keeper,
+    E: Patience,
+    O: Observer,
+    P: Pause,
+    B: Beginning,
+    X: ExchangeObserver,
+>(
     alloc: Global,
     plan: &'a Plan,
     input: &RunInput<'_>,
-    refresh: &mut Refresh<'_, P, B>,
+    refresh: &mut Refresh<'_, P, B, X>,
     link: &mut L,
     keeper: &mut K,
     patience: &mut E,
@@ -110,11 +121,20 @@ pub fn run_refreshed<'a, L: Link, K: Keeper, E: Patience, O: Observer, P: Pause,
 ///
 /// # Errors
 /// If memory runs out.
-fn look_and_run<'a, L: Link, K: Keeper, E: Patience, O: Observer, P: Pause, B: Beginning>(
+fn look_and_run<
+    'a,
+    L: Link,
+    K: Keeper,
+    E: Patience,
+    O: Observer,
+    P: Pause,
+    B: Beginning,
+    X: ExchangeObserver,
+>(
     alloc: Global,
     plan: &'a Plan,
     input: &RunInput<'_>,
-    refresh: &mut Refresh<'_, P, B>,
+    refresh: &mut Refresh<'_, P, B, X>,
     link: &mut L,
     keeper: &mut K,
     patience: &mut E,
@@ -180,11 +200,11 @@ fn look_and_run<'a, L: Link, K: Keeper, E: Patience, O: Observer, P: Pause, B: B
 ///
 /// # Errors
 /// If memory runs out.
-fn look<L: Link, P: Pause, B>(
+fn look<L: Link, P: Pause, B, X: ExchangeObserver>(
     alloc: Global,
     client: &Client<'_>,
     batch: usize,
-    refresh: &mut Refresh<'_, P, B>,
+    refresh: &mut Refresh<'_, P, B, X>,
     link: &mut L,
 ) -> Result<Vec<KeyLook>, NoMemory>
     requires batch { IsTrue (may_have batch) }
@@ -196,14 +216,24 @@ fn look<L: Link, P: Pause, B>(
     let plan = client.plan();
     let mark = refresh.mark;
     let pause = &mut refresh.pause;
-    look_at_known(alloc, plan.keys(), saved.known(), link, mark, batch, pause)
+    let observer = &mut refresh.observer;
+    look_at_known(
+        alloc,
+        plan.keys(),
+        saved.known(),
+        link,
+        mark,
+        batch,
+        pause,
+        observer,
+    )
 }
 
 /// Looks at the keys of which an identifier is known, and compares each answer with what is known.
 ///
 /// # Errors
 /// If memory runs out.
-fn look_at_known<L: Link, P: Pause>(
+fn look_at_known<L: Link, P: Pause, X: ExchangeObserver>(
     alloc: Global,
     keys: &[Key],
     known: &[Known],
@@ -211,6 +241,7 @@ fn look_at_known<L: Link, P: Pause>(
     mark: &[u8],
     batch: usize,
     pause: &mut P,
+    observer: &mut X,
 ) -> Result<Vec<KeyLook>, NoMemory>
     requires as_many { length known.now ≡ length keys.now }
     requires fit { list_all key_fits keys.now ≡ true }
@@ -220,7 +251,7 @@ fn look_at_known<L: Link, P: Pause>(
         result (L.seen link.new) }
 {
     let copies = known_keys(alloc, keys, known)?;
-    let lookeds = look_at_keys(alloc, copies.as_slice(), link, mark, batch, pause)?;
+    let lookeds = look_at_keys(alloc, copies.as_slice(), link, mark, batch, pause, observer)?;
     let looks = looks_judged(alloc, keys, known, lookeds)?;
     Ok(looks)
 }

@@ -11,7 +11,6 @@
 //! text of metrics: test_account has rows for that text.
 #![tactic(auto)]
 
-mod answer;
 mod answers;
 mod asked;
 mod counts;
@@ -25,6 +24,7 @@ mod look_metrics;
 mod metric;
 mod metrics;
 mod peer_talk;
+mod questions;
 mod reasons;
 mod sample_text;
 mod score;
@@ -34,11 +34,10 @@ mod stage;
 mod story;
 mod traffic;
 
-pub use answer::Answer;
 pub use answers::{push_answer_about, usage_words};
 pub use asked::Asked;
 pub use exchange::{Exchange, refusals_in};
-pub use exchange_text::exchange_line;
+pub use exchange_text::{exchange_line, line_of_bytes};
 pub use failure::Failure;
 pub use findings::Findings;
 pub use last_times::LastTimes;
@@ -46,6 +45,7 @@ pub use look_counts::LookCounts;
 pub use look_metrics::LookMetrics;
 pub use metrics::Metrics;
 pub use peer_talk::PeerTalk;
+pub use questions::Questions;
 pub use silence::Silence;
 pub use story::Story;
 pub use traffic::Traffic;

@@ -4,8 +4,9 @@ ghost use Rattle.kmip_messages.specs.Members.{may_have};
 
 use crate::board::Board;
 use crate::settings::batch_of;
+use kmip_client::NoListener;
 use kmip_look::Pause;
-use kmip_look_command::run_look;
+use kmip_look_command::{LookInput, run_look};
 use kmip_plan::{Plan, read_plan};
 use kmip_report::Form;
 use std::alloc::Global;
@@ -78,14 +79,18 @@ fn look_over(
     let mut board = Board::of(alloc, lines)?;
     let mut pause = Times::new(times);
     let mut written = Vec::new(alloc);
+    let input = LookInput {
+        form: Form::Text,
+        mark: MARK,
+        batch,
+    };
     let status = run_look(
         alloc,
-        Form::Text,
         plan,
+        &input,
         &mut board,
-        MARK,
-        batch,
         &mut pause,
+        &mut NoListener,
         &mut written,
     );
     text.push_str(from_utf8(written.as_slice())?)?;

@@ -4,6 +4,7 @@ use crate::breaking::Breaking;
 use crate::lacking::Lacking;
 use crate::peer::Peer;
 use crate::repeating_peer::Repeating;
+use kmip_client::NoListener;
 use kmip_probe_command::{probe_bytes, run_probe};
 use kmip_protocol::Link;
 use kmip_report::Form;
@@ -53,7 +54,14 @@ fn probe_server(alloc: Global, text: &mut String, script: &str, times: u32) -> R
 fn probe_in_memory(alloc: Global, text: &mut String, script: &str) -> Result<(), Fail> {
     let mut link = script_link(alloc, script)?;
     let mut written = Vec::new(alloc);
-    let is_refused = probe_bytes(alloc, "probe", Form::Text, &mut link, &mut written)?;
+    let is_refused = probe_bytes(
+        alloc,
+        "probe",
+        Form::Text,
+        &mut link,
+        &mut NoListener,
+        &mut written,
+    )?;
     text.push_str(from_utf8(written.as_slice())?)?;
     writeln!(text, "refused: {is_refused}")?;
     Ok(())
@@ -70,7 +78,14 @@ pub(crate) fn script_link(alloc: Global, script: &str) -> Result<Scripted<ListSt
 /// Writes what a probe over the link writes, and its exit status.
 fn push_probed<L: Link>(alloc: Global, text: &mut String, link: &mut L) -> Result<(), Fail> {
     let mut written = Vec::new(alloc);
-    let status = run_probe(alloc, "probe", Form::Text, link, &mut written);
+    let status = run_probe(
+        alloc,
+        "probe",
+        Form::Text,
+        link,
+        &mut NoListener,
+        &mut written,
+    );
     text.push_str(from_utf8(written.as_slice())?)?;
     writeln!(text, "exit status {}", status.code())?;
     Ok(())

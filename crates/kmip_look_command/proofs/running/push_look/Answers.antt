@@ -10,10 +10,10 @@ returns-in-Ok g c = record {
   looked = Ok c.in-Ok.lookeds.items;
   looks =
       looks_list _ _ _ _ _ _
-      (subst (λ r. Looks (λ v. v.items) c.args.plan.now c.args.mark.now (g.L.Link.seen c.args.link.now) r (g.L.Link.seen c.look.new.link)) c.in-Ok.is c.look.ensures.looks);
+      (subst (λ r. Looks (λ v. v.items) c.args.plan.now c.args.input.now.mark.now (g.L.Link.seen c.args.link.now) r (g.L.Link.seen c.look.new.link)) c.in-Ok.is c.look.ensures.looks);
   tried = λ names honest patient.
       subst
-      (λ r. IfOk r (λ v. AllZip (IsTried c.args.mark.now (g.L.Link.seen c.args.link.now).past (g.L.Link.seen c.look.new.link).past) c.args.plan.now v.items))
+      (λ r. IfOk r (λ v. AllZip (IsTried c.args.input.now.mark.now (g.L.Link.seen c.args.link.now).past (g.L.Link.seen c.look.new.link).past) c.args.plan.now v.items))
       c.in-Ok.is (c.look.ensures.tried names honest patient);
   whole = search (rules, c.push_looked.ensures.text, c.push_looked.ensures.refused, c.keys.ensures, c.as_slice.ensures.value);
 }
@@ -23,7 +23,7 @@ returns-in-Err g c = record {
   looked = Err c.in-Err.field-0;
   looks =
       looks_lack _ _ _ _ _ _
-      (subst (λ r. Looks (λ v. v.items) c.args.plan.now c.args.mark.now (g.L.Link.seen c.args.link.now) r (g.L.Link.seen c.look.new.link)) c.in-Err.is c.look.ensures.looks);
+      (subst (λ r. Looks (λ v. v.items) c.args.plan.now c.args.input.now.mark.now (g.L.Link.seen c.args.link.now) r (g.L.Link.seen c.look.new.link)) c.in-Err.is c.look.ensures.looks);
   tried = λ names honest patient. tt;
   whole = tt;
 }
