@@ -14,8 +14,6 @@ pub mod Stories
 pub mod Scores
 -- what a run finds out of its keys
 pub mod RunFindings
--- what came of an exchange
-pub mod Outcomes
 -- why no reply came
 pub mod Silences
 -- the words for that
