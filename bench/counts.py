@@ -1,6 +1,6 @@
 #!/usr/bin/env python3
 """Counts the allocations and the instructions of `kmipctl answer` a message, of the baseline too, and of `sim` an
-exchange; and how often `run` reads a reply.
+exchange; and how often `run`, `look` and `probe` read a reply.
 
     bench/counts.py PROGRAM OUT
 
@@ -8,7 +8,7 @@ OUT is a folder that has `baseline` and `input`, as bench/bench.sh builds them. 
 with some messages more, and the difference is divided by their number. So what it does at its start does not count.
 The counts do not depend on what else the machine does.
 
-Each reply to `run` is to be read once, with --verbose too: it fails if callgrind counts more calls of `read_reply`, or of
+Each reply is to be read once, with --verbose too: it fails if callgrind counts more calls of `read_reply`, or of
 `requests_in`, which reads what was asked.
 
 Allocations are calls of malloc, calloc and realloc, which bench/count.c counts; that needs cc. Instructions are those
@@ -39,6 +39,8 @@ RUN_KEYS = 20
 # A function that a line of callgrind names, by a number, and with its name the first time; and how often it is called.
 NAMED = re.compile(r'(c?fn)=\((\d+)\)(?: (.*))?$')
 CALLED = re.compile(r'calls=(\d+)')
+# The line of an exchange on standard error.
+EXCHANGE = re.compile(r'^\d+\.\d{3} ', re.M)
 
 
 class Allocations:
@@ -81,10 +83,10 @@ class Instructions:
         found = re.search(r'^totals: (\d+)', self.count(words, source), re.M)
         return int(found.group(1)) if found else fail(words, 'callgrind counts nothing')
 
-    def calls(self, words):
-        """How often a program calls each of its functions."""
+    def calls(self, words, wanted):
+        """How often a program calls each of its functions, which has to end with this status."""
         names, calls, called = {}, collections.Counter(), None
-        for line in self.count(words, os.devnull, stderr=subprocess.DEVNULL).splitlines():
+        for line in self.count(words, os.devnull, wanted=wanted, stderr=subprocess.DEVNULL).splitlines():
             if named := NAMED.match(line):
                 kind, number, name = named.groups()
                 names.setdefault(number, name)
@@ -123,22 +125,35 @@ class Counts:
             counts.append(counter.of([self.program, 'sim', '--plan', plan, '--script', script], os.devnull))
         return (counts[1] - counts[0]) / (3 * (MANY - FEW))
 
+    def exchanges(self, words):
+        """How many exchanges a command makes, by the lines of --verbose."""
+        ended = subprocess.run([*words, '--verbose'], stdin=subprocess.DEVNULL, capture_output=True, text=True)
+        return len(EXCHANGE.findall(ended.stderr))
+
+    def tell_reading(self, counter, command, wanted, words):
+        """Prints how often a command reads a reply, and what it asked, and fails if that is more than it has to."""
+        progress = self.path('run.progress')
+        remove_progress(progress)
+        words = [self.program, command, *words, '--loopback', *(['--progress', progress] if command == 'run' else [])]
+        exchanges = self.exchanges(words)
+        for options in [], ['--verbose']:
+            remove_progress(progress)
+            calls = counter.calls([*words, *options], wanted)
+            read, asked = (sum(count for name, count in calls.items() if name.endswith(f'::{word}'))
+                           for word in ('read_reply', 'requests_in'))
+            print(f'{command}{"".join(f" {option}" for option in options)}, {exchanges} exchanges: '
+                  f'{read} replies read, {asked} requests read', flush=True)
+            if not exchanges or (read, asked) != (exchanges, 0):
+                fail([*words, *options], 'each reply is to be read once, and no request')
+
     def tell_readings(self):
-        """Prints how often `run` reads a reply, and what it asked, and fails if that is more than it has to."""
+        """Prints how often each command that asks a server reads a reply."""
         if not shutil.which(Instructions.needs):
             return
         counter, plan = Instructions(self.out), write_plan(self.path('plan.toml'), RUN_KEYS)
-        for options in [], ['--verbose']:
-            progress = self.path('run.progress')
-            remove_progress(progress)
-            words = [self.program, 'run', '--plan', plan, '--progress', progress, '--loopback', *options]
-            calls = counter.calls(words)
-            read, asked = (sum(count for name, count in calls.items() if name.endswith(f'::{word}'))
-                           for word in ('read_reply', 'requests_in'))
-            print(f'run{"".join(f" {option}" for option in options)}, {3 * RUN_KEYS} exchanges: '
-                  f'{read} replies read, {asked} requests read', flush=True)
-            if (read, asked) != (3 * RUN_KEYS, 0):
-                fail(words, 'each reply is to be read once, and no request')
+        # The server has no object, so a look ends with 1.
+        for command, wanted, *words in ('run', 0, '--plan', plan), ('look', 1, '--plan', plan), ('probe', 0, '--name-prefix', 'p'):
+            self.tell_reading(counter, command, wanted, words)
 
     def tell(self, kind, digits):
         """Prints what a counter of this kind counts, or that the machine lacks what it needs."""
