@@ -55,6 +55,10 @@ pub fn run<L: Link, K: Keeper + Unsaved, E: Patience, O: Observer + Counting, P:
     // Let that be so. Then the link is still honest among others of the plan, and all that has happened is sound.
     ensures among_others { IsGoodStart (saved_text input.now) (L.seen link.old) plan.now
         → GoodLink plan.now (L.seen link.new) }
+    // Let that be so. Then a link that was honest for the names of the plan is so still.
+    ensures honest { IsGoodStart (saved_text input.now) (L.seen link.old) plan.now
+        → (L.seen link.old).honest (is_planned plan.now)
+        → (L.seen link.new).honest (is_planned plan.now) }
     // Let that be so. Then the objects have gone onward, and others of the plan may go on with theirs.
     ensures onward { IsGoodStart (saved_text input.now) (L.seen link.old) plan.now
         → WentOn plan.now (L.seen link.old).past (L.seen link.new).past }
