@@ -52,8 +52,8 @@ pub fn run_sim<P: Printer>(
 
 /// Prints the runs before memory ran out, and then the line of that.
 fn print_runs_before<P: Printer>(form: Form, runs: &[u8], printer: &mut P) -> ExitStatus
-    ensures { FailsBy result (λ fault. FailsAfter runs.now (line_in form no_memory) fault P.own_fault
-        (P.contents printer.old) (P.contents printer.new)) }
+    ensures { FailsBy result (λ fault. FailsAfter runs.now (line_in form no_memory) fault
+        P.own_fault (P.contents printer.old) (P.contents printer.new)) }
 {
     match printer.print(runs) {
         Ok(()) => print_report(form, Err(NoMemory), &[], printer),
