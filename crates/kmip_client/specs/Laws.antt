@@ -9,6 +9,7 @@ use Rattle.kmip_plan.specs.Plans.{IsLawful}
 use Rattle.kmip_plan.specs.Prolonging.{GoesOn, Prolongs}
 use Rattle.kmip_plan.specs.declared.key.Key.{Key}
 use Rattle.kmip_progress.specs.Reading.{read_text}
+use Rattle.kmip_progress.specs.Texts.{progress_text, progress_text_1}
 use Rattle.kmip_progress.specs.Suiting.{Suits, nothing_known, are_texts}
 use Rattle.kmip_progress.specs.declared.known.Known.{Known}
 use Rattle.kmip_client.specs.declared.clash.Clash.{Clash}
@@ -116,3 +117,24 @@ abbrev pub AsksWhatItMay : Type 0
 AsksWhatItMay =
     (objects : List Object) (key : Key) (known : Knowledge) → IsHeld objects key known → is_working key known ≡ true
     → MayAsk objects key (ask_about key known)
+
+-- What holds of all that clients know and ask.
+pub record ClientLaws : Type 0 where
+  pub itself : OnwardToItself
+  pub twice : OnwardTwice
+  pub asked_for_good : JustifiedForGood
+  pub told_for_good : TrueForGood
+  pub known_for_good : HeldForGood
+  pub known_of_prolonged : TrueOfProlonged
+  pub text_of_prolonged : TextsStayTrue progress_text
+  pub old_text_of_prolonged : TextsStayTrue progress_text_1
+  pub positions : PositionsAreNoLess
+  pub asked_of_prolonged : JustifiedOfProlonged
+  pub told_of_prolonged : TrueOfGoneOn
+  pub blind : HearingIsBlind
+  pub losses_teach_nothing : LossesTeachNothing
+  pub heard : HearingKeepsTheTruth
+  pub lost : LosingKeepsTheTruth
+  pub settled : SettledIsNotWorked
+  pub no_conflict : HeldIsNoConflict
+  pub asks : AsksWhatItMay

@@ -27,8 +27,7 @@ use crate::question::{Question, request_about};
 use kmip_batch_items::Request;
 use kmip_messages::write_request;
 use kmip_plan::Key;
-use kmip_plan::chain_laws::steps_have_places;
-use kmip_plan::laws::keys_have_names;
+use kmip_plan::laws::the_laws_of_plans_hold;
 use kmip_ttlv::{Bytes, NoMemory};
 use std::alloc::Global;
 
@@ -105,8 +104,7 @@ pub(crate) fn question_at(
     ensures justified { (objects : List Object) → Held objects keys.now knowns.now
         → IfOk result (λ q. JustifiedMessage keys.now objects q.bytes) }
 {
-    steps_have_places();
-    keys_have_names();
+    the_laws_of_plans_hold(); // proof
     let mut parts = Vec::with_capacity(alloc, places.len())?;
     let mut requests = Vec::with_capacity(alloc, places.len())?;
     for place in places {

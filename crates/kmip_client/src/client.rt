@@ -41,7 +41,7 @@ use crate::question::Question;
 use crate::saving::{all_knowledge, all_known, count_working};
 use crate::verdicts::{all_counts, all_verdicts, tells, verdict_of};
 use crate::{HearFault, Knowledge, Verdict};
-use kmip_plan::chain_laws::{states_have_places, steps_have_places};
+use kmip_plan::laws::the_laws_of_plans_hold;
 use kmip_plan::{Key, Plan};
 use kmip_progress::Progress;
 use kmip_ttlv::{NoMemory, Text};
@@ -239,8 +239,7 @@ impl<'p> Client<'p> {
             → TrueMessage self.old.keys objects bytes.now
             → Held objects self.new.keys self.new.knowns }
     {
-        steps_have_places();
-        states_have_places();
+        the_laws_of_plans_hold(); // proof
         let keys = self.plan.keys();
         let likely = self.next.saturating_sub(1);
         let (knowns, working) = (&mut self.knowns, &mut self.working);

@@ -9,7 +9,7 @@ ghost use Rattle.kmip_client.specs.Private.{is_named_at};
 
 use kmip_batch_items::Operation;
 use kmip_objects::Step;
-use kmip_plan::laws::keys_have_names;
+use kmip_plan::laws::the_laws_of_plans_hold;
 use kmip_plan::{Key, step_place};
 use kmip_ttlv::Bytes;
 
@@ -104,7 +104,7 @@ fn place_named(keys: &[Key], likely: usize, name: &[u8]) -> Option<usize>
     requires { IsLawful keys.now }
     ensures { result ≡ place_named name.now keys.now }
 {
-    keys_have_names();
+    the_laws_of_plans_hold(); // proof
     if is_named_at(keys, likely, name) {
         return Some(likely);
     }

@@ -143,7 +143,7 @@ asked_paid (key ∷ keys) (known ∷ knowns) p more = omega (arith, left_paid_on
 
 held_lost : Lawbook → (objects : List Object) (keys : List Key) (parts : List Part) (knowns : List Knowledge) → Held objects keys knowns → Held objects keys (lost_each keys parts knowns)
 held_lost l objects keys [] knowns held = held
-held_lost l objects keys (part ∷ parts) knowns held = held_lost l objects keys parts (changed_at lost_working keys knowns part.key) (l.loses objects keys knowns part.key held)
+held_lost l objects keys (part ∷ parts) knowns held = held_lost l objects keys parts (changed_at lost_working keys knowns part.key) (l.client.lost objects keys knowns part.key held)
 
 held_by : Lawbook → (objects : List Object) (keys : List Key) (parts : List Part) (knowns : List Knowledge) (lesson : Result (List (Result Heard HearFault) × List Knowledge) HearFault)
     → Held objects keys knowns → Held objects keys (knowns_heard knowns lesson) → Held objects keys (taught_by keys parts knowns lesson)
@@ -155,7 +155,7 @@ held_then : Lawbook → (keys : List Key) (p : Past) (knowns : List Knowledge) (
 held_then l keys p knowns question None sound given held = held_lost l p.objects keys question.parts knowns held
 held_then l keys p knowns question (Some bytes) sound given held =
     held_by l p.objects keys question.parts knowns (hear keys knowns bytes) held
-    (held_read l keys p.objects knowns bytes (replies_read bytes) refl (l.answers keys p bytes sound given) held)
+    (held_read l keys p.objects knowns bytes (replies_read bytes) refl (l.exchanges.answers keys p bytes sound given) held)
 
 -- ---- what passes
 
@@ -167,7 +167,7 @@ given_then names old new sent answer handed = subst (λ p. IfSome answer (AreGiv
 
 asked_then : Lawbook → (names : Names) (old new : Past) (sent : List ℕ) (answer : Option (List ℕ)) → HandsOver names old sent answer new
     → new.requests ≡ old.requests ++ requests_in sent
-asked_then l names old new sent answer handed = ap (λ p. p.requests) handed.is ∙ (l.grows names (with_asked sent old) handed.between handed.delivered).requests
+asked_then l names old new sent answer handed = ap (λ p. p.requests) handed.is ∙ (l.exchanges.requests_stay names (with_asked sent old) handed.between handed.delivered).requests
 
 message_justified : Lawbook → (keys : List Key) (s : Standing) (places : List ℕ) (question : Question) → IsLawful keys → StandsWell keys s → IsAbout keys s.knowns places question
     → JustifiedMessage keys s.past.objects question.bytes
@@ -175,14 +175,14 @@ message_justified l keys s places question lawful well about =
     subst (λ requests. All (Justified keys s.past.objects) requests) (sym about.asks) (all_justified l keys s.past.objects s.knowns places lawful well.held about.works)
 
 stands_well : Lawbook → (keys : List Key) (passing : Passing) (s : Standing) → IsLawful keys → StandsWell keys s → MayPass keys passing s → StandsWell keys (after_passing keys passing s)
-stands_well l keys (OthersAsk requests) s lawful well may = record { sound = l.asking keys s.past requests well.sound may; held = well.held }
+stands_well l keys (OthersAsk requests) s lawful well may = record { sound = l.exchanges.asking keys s.past requests well.sound may; held = well.held }
 stands_well l keys (Arrives past) s lawful well may = record {
-  sound = l.deliveries keys s.past past well.sound may;
-  held = l.known keys s.knowns s.past.objects past.objects lawful (l.onward keys s.past past well.sound may) well.held;
+  sound = l.exchanges.deliveries keys s.past past well.sound may;
+  held = l.client.known_for_good keys s.knowns s.past.objects past.objects lawful (l.exchanges.onward keys s.past past well.sound may) well.held;
 }
 stands_well l keys (Exchanges is_well places question answer past) s lawful well may =
-    let kept = l.exchanged keys s.past past question.bytes (Ok answer) well.sound (message_justified l keys s places question lawful well may.0) may.1 in
-    let held = l.known keys s.knowns s.past.objects past.objects lawful kept.1 well.held in
+    let kept = l.exchanges.exchanges keys s.past past question.bytes (Ok answer) well.sound (message_justified l keys s places question lawful well may.0) may.1 in
+    let held = l.client.known_for_good keys s.knowns s.past.objects past.objects lawful kept.1 well.held in
     record {
       sound = kept.0;
       held = held_then l keys past s.knowns question answer kept.0 (given_then (is_planned keys) s.past past question.bytes answer may.1) held;
@@ -194,8 +194,8 @@ others_paid keys requests s = asked_paid keys s.knowns s.past requests
 arrived_paid : Lawbook → (keys : List Key) (past : Past) (s : Standing) → IsLawful keys → StandsWell keys s → Delivered (is_planned keys) s.past past
     → left_amid keys (after_passing keys (Arrives past) s) ≤ left_amid keys s
 arrived_paid l keys past s lawful well may =
-    let late = l.late keys s.past past s.knowns lawful well.sound well.held may in
-    let same : unasked keys past.requests ≡ unasked keys s.past.requests = ap (unasked keys) (l.grows (is_planned keys) s.past past may).requests in
+    let late = l.losing.late keys s.past past s.knowns lawful well.sound well.held may in
+    let same : unasked keys past.requests ≡ unasked keys s.past.requests = ap (unasked keys) (l.exchanges.requests_stay (is_planned keys) s.past past may).requests in
     omega (arith, late, same)
 
 fewer_unasked : Lawbook → (keys : List Key) (question : Question) (answer : Option (List ℕ)) (past : Past) (s : Standing) → HandsOver (is_planned keys) s.past question.bytes answer past
@@ -207,7 +207,7 @@ fewer_unasked l keys question answer past s handed =
 well_paid : Lawbook → (keys : List Key) (places : List ℕ) (question : Question) (answer : Option (List ℕ)) (past : Past) (s : Standing) → IsLawful keys → StandsWell keys s
     → MayPass keys (Exchanges true places question answer past) s → 1 + left_amid keys (after_passing keys (Exchanges true places question answer past) s) ≤ left_amid keys s
 well_paid l keys places question answer past s lawful well may =
-    let nearer = l.clean keys s.past past s.knowns places question answer lawful well.sound well.held may.0 may.2 in
+    let nearer = l.losing.clean keys s.past past s.knowns places question answer lawful well.sound well.held may.0 may.2 in
     let fewer = fewer_unasked l keys question answer past s may.1 in
     let some = may.0.some in
     omega (arith, nearer, fewer, some)
@@ -216,7 +216,7 @@ ill_paid : Lawbook → (keys : List Key) (places : List ℕ) (question : Questio
     → MayPass keys (Exchanges false places question answer past) s
     → left_amid keys (after_passing keys (Exchanges false places question answer past) s) ≤ left_amid keys s + (2 * length places + strange_handed (is_planned keys) question.bytes answer)
 ill_paid l keys places question answer past s lawful well may =
-    let costs = l.disturbed keys s.past past s.knowns places question answer lawful well.sound well.held may.0 may.1 in
+    let costs = l.losing.disturbed keys s.past past s.knowns places question answer lawful well.sound well.held may.0 may.1 in
     let fewer = fewer_unasked l keys question answer past s may.1 in
     omega (arith, costs, fewer)
 
@@ -253,15 +253,15 @@ unasked_within l [] requests = omega arith
 unasked_within l (key ∷ keys) requests =
     let one = filter_within (λ step. not (was_asked key requests step)) (chain key.target) in
     let more = unasked_within l keys requests in
-    let sums = l.bounds.1 key keys in
+    let sums = l.plan.bounds.1 key keys in
     omega (arith, one, more, sums)
 
 pub kept_bounded : Lawbook → (keys : List Key) (p : Past) (passings : List Passing) → IsLawful keys → Opening keys p
     → AllMayPass keys passings (record { knowns = (fresh keys).knowns; past = p }) → went_well passings ≤ 2 * bound keys + all_cost keys passings
 kept_bounded l keys p passings lawful opening may =
     let begun : Standing = record { knowns = (fresh keys).knowns; past = p } in
-    let paid = left_paid l keys passings begun lawful (record { sound = l.begins keys p opening; held = held_fresh p.objects keys }) may in
-    let left = l.all_left keys p lawful opening in
+    let paid = left_paid l keys passings begun lawful (record { sound = l.exchanges.begins keys p opening; held = held_fresh p.objects keys }) may in
+    let left = l.losing.all_left keys p lawful opening in
     let within = unasked_within l keys p.requests in
     omega (arith, paid, left, within)
 
@@ -270,5 +270,5 @@ kept_bounded l keys p passings lawful opening may =
 pub nothing_left : Lawbook → (keys : List Key) (s : Standing) → StandsWell keys s → left_amid keys s ≡ 0
     → (place : ℕ) → place < length keys → verdict_at keys s.knowns place ≡ Finished
 nothing_left l keys s well none =
-    let needs = l.needs_left keys s.past s.knowns in
-    l.needless keys s.past.objects s.knowns well.held (omega (arith, needs, none))
+    let needs = l.losing.needs_left keys s.past s.knowns in
+    l.settling.needless keys s.past.objects s.knowns well.held (omega (arith, needs, none))

@@ -43,7 +43,7 @@ use Rattle.kmip_company.proofs.TruthLemmas.{all_justified, all_reached, counts_r
 -- ---- the objects go onward
 
 pub member_on : Lawbook → (keys : List Key) (old new : List Object) (c : ClientState) → IsLawful keys → Onward keys old new → IsMember keys old c → IsMember keys new c
-member_on l keys old new c lawful on m = record { keys_are = m.keys_are; held = l.known keys c.knowns old new lawful on m.held }
+member_on l keys old new c lawful on m = record { keys_are = m.keys_are; held = l.client.known_for_good keys c.knowns old new lawful on m.held }
 
 pub reached_on : (keys : List Key) (old new : Past) (effect : Effect) → Onward keys old.objects new.objects → IsReached keys old effect → IsReached keys new effect
 reached_on keys old new effect on r =
@@ -111,8 +111,8 @@ good_asked : Lawbook → (keys : List Key) (w : Company) (place : ℕ) (c : Clie
     → IsGoodCompany keys (with_client place (after_ask c) (record w { past = with_asked question.bytes w.past }))
 good_asked l keys w place c question lawful good is about =
     let m = all_at (IsMember keys w.past.objects) w.clients place c good.members is in
-    let sound = l.asking keys w.past (requests_in question.bytes) good.sound (justified_message l keys w.past.objects c question lawful m about) in
-    let asked = good_on l keys w (with_asked question.bytes w.past) lawful sound (l.itself keys w.past.objects) good in
+    let sound = l.exchanges.asking keys w.past (requests_in question.bytes) good.sound (justified_message l keys w.past.objects c question lawful m about) in
+    let asked = good_on l keys w (with_asked question.bytes w.past) lawful sound (l.client.itself keys w.past.objects) good in
     good_client keys (record w { past = with_asked question.bytes w.past }) place (after_ask c) asked (record { keys_are = m.keys_are; held = m.held })
 
 -- ---- what is heard
@@ -120,14 +120,14 @@ good_asked l keys w place c question lawful good is about =
 pub held_read : Lawbook → (keys : List Key) (objects : List Object) (knowns : List Knowledge) (bytes : List ℕ) (read : Result (List Reply) MessageFault) → replies_read bytes ≡ read
     → All (TrueReply keys objects) (replies_in bytes) → Held objects keys knowns → Held objects keys (knowns_heard knowns (hear_all keys knowns read))
 held_read l keys objects knowns bytes (Ok replies) is told held =
-    l.hears objects keys replies knowns held (subst (λ rs. All (TrueReply keys objects) rs) (l.said bytes replies is) told)
+    l.client.heard objects keys replies knowns held (subst (λ rs. All (TrueReply keys objects) rs) (l.messages.said bytes replies is) told)
 held_read l keys objects knowns bytes (Err fault) is told held = held
 
 good_heard : Lawbook → (keys : List Key) (w : Company) (place : ℕ) (c : ClientState) (bytes : List ℕ) → IsGoodCompany keys w → slice_get w.clients place ≡ Some c
     → AreGiven w.past bytes → IsGoodCompany keys (with_client place (record c { knowns = heard c.keys c.knowns (Some bytes) }) w)
 good_heard l keys w place c bytes good is given =
     let m = all_at (IsMember keys w.past.objects) w.clients place c good.members is in
-    let told = l.answers keys w.past bytes good.sound given in
+    let told = l.exchanges.answers keys w.past bytes good.sound given in
     good_client keys w place (record c { knowns = heard c.keys c.knowns (Some bytes) }) good
     (record {
       keys_are = m.keys_are;
@@ -142,7 +142,7 @@ good_lost l keys w place key c good is =
     good_client keys w place (lost_at c key) good
     (record {
       keys_are = m.keys_are;
-      held = subst (λ ks. Held w.past.objects keys (lost_at (record c { keys = ks }) key).knowns) (sym m.keys_are) (l.loses w.past.objects keys c.knowns key m.held);
+      held = subst (λ ks. Held w.past.objects keys (lost_at (record c { keys = ks }) key).knowns) (sym m.keys_are) (l.client.lost w.past.objects keys c.knowns key m.held);
     })
 
 -- ---- what is saved and reported
@@ -175,36 +175,36 @@ StaysGood keys old new = IsGoodCompany keys new × Onward keys old.past.objects 
 pub good_event : Lawbook → (keys : List Key) (event : Event) (w : Company) → IsLawful keys → MayOccur keys event w → IsGoodCompany keys w
     → StaysGood keys w (after_event keys event w)
 good_event l keys Starts w lawful may good =
-    (good_joined keys w (fresh keys) good (record { keys_are = refl; held = held_fresh w.past.objects keys }), l.itself keys w.past.objects)
+    (good_joined keys w (fresh keys) good (record { keys_are = refl; held = held_fresh w.past.objects keys }), l.client.itself keys w.past.objects)
 good_event l keys (Resumes place) w lawful may good =
-    there (StaysGood keys w) (slice_get w.saved place) _ w (good, l.itself keys w.past.objects)
+    there (StaysGood keys w) (slice_get w.saved place) _ w (good, l.client.itself keys w.past.objects)
     (λ saved is.
     let holds = all_at (TrueProgress w.past.objects keys) w.saved place saved good.true_saved is in
-    (good_joined keys w (resume keys saved) good (record { keys_are = refl; held = held_again w.past.objects keys saved holds }), l.itself keys w.past.objects))
+    (good_joined keys w (resume keys saved) good (record { keys_are = refl; held = held_again w.past.objects keys saved holds }), l.client.itself keys w.past.objects))
 good_event l keys (SetsBatch place most) w lawful may good =
-    there (StaysGood keys w) (slice_get w.clients place) _ w (good, l.itself keys w.past.objects)
+    there (StaysGood keys w) (slice_get w.clients place) _ w (good, l.client.itself keys w.past.objects)
     (λ c is.
     let m = all_at (IsMember keys w.past.objects) w.clients place c good.members is in
-    (good_client keys w place (record c { batch = most }) good (record { keys_are = m.keys_are; held = m.held }), l.itself keys w.past.objects))
+    (good_client keys w place (record c { batch = most }) good (record { keys_are = m.keys_are; held = m.held }), l.client.itself keys w.past.objects))
 good_event l keys (Asks place question) w lawful may good =
-    there (StaysGood keys w) (slice_get w.clients place) _ w (good, l.itself keys w.past.objects)
-    (λ c is. (good_asked l keys w place c question lawful good is (about_there (slice_get w.clients place) question c may is), l.itself keys w.past.objects))
+    there (StaysGood keys w) (slice_get w.clients place) _ w (good, l.client.itself keys w.past.objects)
+    (λ c is. (good_asked l keys w place c question lawful good is (about_there (slice_get w.clients place) question c may is), l.client.itself keys w.past.objects))
 good_event l keys (Happens move) w lawful may good =
     let delivered = one_move keys move w.past may in
-    let on = l.onward keys w.past (after_move move w.past) good.sound delivered in
-    (good_on l keys w (after_move move w.past) lawful (l.deliveries keys w.past (after_move move w.past) good.sound delivered) on good, on)
+    let on = l.exchanges.onward keys w.past (after_move move w.past) good.sound delivered in
+    (good_on l keys w (after_move move w.past) lawful (l.exchanges.deliveries keys w.past (after_move move w.past) good.sound delivered) on good, on)
 good_event l keys (Hears place bytes) w lawful may good =
-    there (StaysGood keys w) (slice_get w.clients place) _ w (good, l.itself keys w.past.objects)
-    (λ c is. (good_heard l keys w place c bytes good is may, l.itself keys w.past.objects))
+    there (StaysGood keys w) (slice_get w.clients place) _ w (good, l.client.itself keys w.past.objects)
+    (λ c is. (good_heard l keys w place c bytes good is may, l.client.itself keys w.past.objects))
 good_event l keys (Loses place key) w lawful may good =
-    there (StaysGood keys w) (slice_get w.clients place) _ w (good, l.itself keys w.past.objects)
-    (λ c is. (good_lost l keys w place key c good is, l.itself keys w.past.objects))
+    there (StaysGood keys w) (slice_get w.clients place) _ w (good, l.client.itself keys w.past.objects)
+    (λ c is. (good_lost l keys w place key c good is, l.client.itself keys w.past.objects))
 good_event l keys (Saves place) w lawful may good =
-    there (StaysGood keys w) (slice_get w.clients place) _ w (good, l.itself keys w.past.objects)
-    (λ c is. (good_saved keys w c good (all_at (IsMember keys w.past.objects) w.clients place c good.members is), l.itself keys w.past.objects))
+    there (StaysGood keys w) (slice_get w.clients place) _ w (good, l.client.itself keys w.past.objects)
+    (λ c is. (good_saved keys w c good (all_at (IsMember keys w.past.objects) w.clients place c good.members is), l.client.itself keys w.past.objects))
 good_event l keys (Reports place) w lawful may good =
-    there (StaysGood keys w) (slice_get w.clients place) _ w (good, l.itself keys w.past.objects)
-    (λ c is. (good_reported l keys w c lawful good (all_at (IsMember keys w.past.objects) w.clients place c good.members is), l.itself keys w.past.objects))
+    there (StaysGood keys w) (slice_get w.clients place) _ w (good, l.client.itself keys w.past.objects)
+    (λ c is. (good_reported l keys w c lawful good (all_at (IsMember keys w.past.objects) w.clients place c good.members is), l.client.itself keys w.past.objects))
 good_event l keys (Leaves place) w lawful may good = (
   record {
     sound = good.sound;
@@ -212,7 +212,7 @@ good_event l keys (Leaves place) w lawful may good = (
     true_saved = good.true_saved;
     reached = good.reached;
   },
-  l.itself keys w.past.objects,
+  l.client.itself keys w.past.objects,
 )
 
 -- the past after it is an image of the plan machine
@@ -225,10 +225,10 @@ image_event l keys (Asks place question) w lawful may good image =
     there (λ v. IsMirrored keys v.past) (slice_get w.clients place) _ w image
     (λ c is.
     let m = all_at (IsMember keys w.past.objects) w.clients place c good.members is in
-    l.image_asked keys w.past question.bytes image
+    l.exchanges.image_asked keys w.past question.bytes image
     (justified_message l keys w.past.objects c question lawful m (about_there (slice_get w.clients place) question c may is)))
 image_event l keys (Happens move) w lawful may good image =
-    l.image_delivered keys w.past (after_move move w.past) good.sound image (one_move keys move w.past may)
+    l.exchanges.image_delivered keys w.past (after_move move w.past) good.sound image (one_move keys move w.past may)
 image_event l keys (Hears place bytes) w lawful may good image = there (λ v. IsMirrored keys v.past) (slice_get w.clients place) _ w image (λ c is. image)
 image_event l keys (Loses place key) w lawful may good image = there (λ v. IsMirrored keys v.past) (slice_get w.clients place) _ w image (λ c is. image)
 image_event l keys (Saves place) w lawful may good image = there (λ v. IsMirrored keys v.past) (slice_get w.clients place) _ w image (λ c is. image)
@@ -239,12 +239,12 @@ image_event l keys (Leaves place) w lawful may good image = image
 
 pub good_events : Lawbook → (keys : List Key) (events : List Event) (w : Company) → IsLawful keys → IsGoodCompany keys w → AllMayOccur keys events w
     → StaysGood keys w (after_events keys events w)
-good_events l keys [] w lawful good may = (good, l.itself keys w.past.objects)
+good_events l keys [] w lawful good may = (good, l.client.itself keys w.past.objects)
 good_events l keys (event ∷ events) w lawful good may =
     let next = after_event keys event w in
     let one = good_event l keys event w lawful may.0 good in
     let rest = good_events l keys events next lawful one.0 may.1 in
-    (rest.0, l.twice keys w.past.objects next.past.objects (after_events keys events next).past.objects one.1 rest.1)
+    (rest.0, l.client.twice keys w.past.objects next.past.objects (after_events keys events next).past.objects one.1 rest.1)
 
 pub image_events : Lawbook → (keys : List Key) (events : List Event) (w : Company) → IsLawful keys → IsGoodCompany keys w → IsMirrored keys w.past → AllMayOccur keys events w
     → IsMirrored keys (after_events keys events w).past
@@ -273,11 +273,11 @@ reports_reached l keys w lawful good =
 clients_agree : Lawbook → (keys : List Key) (w : Company) (c : ClientState) → IsMember keys w.past.objects c → (place : ℕ) (clash : Clash)
     → verdict_at c.keys c.knowns place ≢ Conflict clash
 clients_agree l keys w c m place clash =
-    subst (λ ks. verdict_at ks c.knowns place ≢ Conflict clash) (sym m.keys_are) (l.no_conflict w.past.objects keys c.knowns m.held place clash)
+    subst (λ ks. verdict_at ks c.knowns place ≢ Conflict clash) (sym m.keys_are) (l.client.no_conflict w.past.objects keys c.knowns m.held place clash)
 
 pub safe_company : Lawbook → (keys : List Key) (w : Company) → IsLawful keys → IsGoodCompany keys w → IsMirrored keys w.past → IsSafeCompany keys w
 safe_company l keys w lawful good image = record {
-  safe = l.safe keys w.past (all_reported keys w) good.sound (reports_reached l keys w lawful good);
+  safe = l.exchanges.safe keys w.past (all_reported keys w) good.sound (reports_reached l keys w lawful good);
   machine = image;
   no_conflict = λ c among place clash. clients_agree l keys w c (All-contains (IsMember keys w.past.objects) w.clients c good.members among) place clash;
   good = good;
@@ -287,4 +287,4 @@ pub all_ready : Lawbook → (keys : List Key) (w : Company) → IsGoodCompany ke
     → All (λ (c : ClientState). IsReady w.past.room keys w.past.objects c.knowns) w.clients
 all_ready l keys w good roomy =
     All-weaker (IsMember keys w.past.objects) (λ (c : ClientState). IsReady w.past.room keys w.past.objects c.knowns)
-    (λ c m. l.ready keys w.past c.knowns good.sound m.held roomy) w.clients good.members
+    (λ c m. l.settling.ready keys w.past c.knowns good.sound m.held roomy) w.clients good.members

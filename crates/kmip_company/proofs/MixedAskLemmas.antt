@@ -44,7 +44,7 @@ same_step : Lawbook → (own newest : Key) (uid : List ℕ) (step : Step) (place
     → step_ask newest uid step ≡ step_ask own uid step
 same_step l own newest uid steps.Create place goes at = ap (λ (a : KeyAttrs). asks.Create a) goes.attrs_same
 same_step l own newest uid steps.Activate place goes at = refl
-same_step l own newest uid steps.Revoke place goes at = ap (λ (r : ℕ). asks.Revoke uid r) (goes.reason_same (l.revoke own.target place at))
+same_step l own newest uid steps.Revoke place goes at = ap (λ (r : ℕ). asks.Revoke uid r) (goes.reason_same (l.plan.revoke own.target place at))
 same_step l own newest uid steps.Destroy place goes at = refl
 
 same_ask : Lawbook → (own newest : Key) (phase : Phase) (uid : List ℕ) (done : ℕ) → GoesOn newest own → done < chain_length own
@@ -53,19 +53,19 @@ same_ask l own newest phases.Look uid done goes more = ap (λ (a : KeyAttrs). as
 same_ask l own newest phases.Make uid done goes more = ap (λ (a : KeyAttrs). asks.Create a) goes.attrs_same
 same_ask l own newest phases.Check uid done goes more = refl
 same_ask l own newest phases.Go uid done goes more =
-    let next = l.next own.target done more in
-    rw (l.steps_onward own.target newest.target (done + 1) next.0 goes.leads_on next.1, next.1) (same_step l own newest uid next.0 (done + 1) goes next.1)
+    let next = l.plan.next_step own.target done more in
+    rw (l.plan.steps_onward own.target newest.target (done + 1) next.0 goes.leads_on next.1, next.1) (same_step l own newest uid next.0 (done + 1) goes next.1)
 
 justified_at : Lawbook → (keys : List Key) (objects : List Object) (own : List Key) (knowns : List Knowledge) (place : ℕ) → IsLawful keys
     → KnowsAmong keys objects own knowns → (w : WorksAt own knowns place) → Justified keys objects (request_about w.key w.known)
 justified_at l keys objects own knowns place lawful m w =
-    let (newest, newest_is, goes) = l.old_keys keys own place w.key m.is_prolonged w.key_is in
+    let (newest, newest_is, goes) = l.plan.old_stand keys own place w.key m.is_prolonged w.key_is in
     let parts = working_parts w.key w.known w.works in
     let held = among_held objects newest w.known (m.knows place newest w.known newest_is w.known_is) parts.1 in
-    let may = l.asks objects newest w.known held (works_newest l w.key newest w.known goes w.works) in
+    let may = l.client.asks objects newest w.known held (works_newest l w.key newest w.known goes w.works) in
     record {
       key = newest;
-      is_planned = l.found keys place newest lawful newest_is;
+      is_planned = l.plan.found keys place newest lawful newest_is;
       id_is = ap (λ (a : KeyAttrs). Some (operation_of (ask_about w.key w.known) ∷ a.name)) (sym goes.attrs_same);
       may = subst (MayAsk objects newest) (same_ask l w.key newest w.known.phase (unwrap_or w.known.identifier []) w.known.done goes parts.0) may;
     }
@@ -85,8 +85,8 @@ older_justified l keys objects own knowns (place ∷ places) lawful m works =
 step_newest : Lawbook → (own newest : Key) (place : ℕ) (step : Step) → GoesOn newest own → slice_get (chain own.target) place ≡ Some step
     → step_place newest.target step ≡ suc place
 step_newest l own newest place step goes is =
-    (l.places newest.target (suc place) step (omega arith)).0
-    (l.steps_onward own.target newest.target (suc place) step goes.leads_on (stands own.target place step is))
+    (l.plan.places newest.target (suc place) step (omega arith)).0
+    (l.plan.steps_onward own.target newest.target (suc place) step goes.leads_on (stands own.target place step is))
   where
     stands : (target : Target) (place : ℕ) (step : Step) → slice_get (chain target) place ≡ Some step → step_at target (suc place) ≡ Some step
     stands target place step is = is
@@ -105,8 +105,8 @@ pub counts_reached : Lawbook → (keys : List Key) (p : Past) (own : List Key) (
 counts_reached l keys p own counts lawful on reached =
     each_reported (IsReached keys p) own counts
     (λ place older count here there.
-    let (newest, newest_is, goes) = l.old_keys keys own place older on here in
-    steps_reached l keys p older newest count (l.found keys place newest lawful newest_is) goes (reached place newest count newest_is there))
+    let (newest, newest_is, goes) = l.plan.old_stand keys own place older on here in
+    steps_reached l keys p older newest count (l.plan.found keys place newest lawful newest_is) goes (reached place newest count newest_is there))
 
 pub known_counted : (keys : List Key) (objects : List Object) (own : List Key) (knowns : List Knowledge) → KnowsAmong keys objects own knowns
     → AllBeside (λ key count. count ≤ position key objects) keys (counts_of knowns)

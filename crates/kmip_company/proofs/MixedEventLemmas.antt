@@ -88,8 +88,8 @@ good_asked : Lawbook → (keys : List Key) (w : Company) (place : ℕ) (c : Clie
     → IsGoodMixed keys (with_client place (after_ask c) (record w { past = with_asked question.bytes w.past }))
 good_asked l keys w place c question lawful good is about =
     let m = member_at keys w place c good is in
-    let sound = l.asking keys w.past (requests_in question.bytes) good.sound (message_justified l keys w.past.objects c question lawful m about) in
-    let asked = good_on l keys w (with_asked question.bytes w.past) lawful sound (l.itself keys w.past.objects) good in
+    let sound = l.exchanges.asking keys w.past (requests_in question.bytes) good.sound (message_justified l keys w.past.objects c question lawful m about) in
+    let asked = good_on l keys w (with_asked question.bytes w.past) lawful sound (l.client.itself keys w.past.objects) good in
     good_client keys (record w { past = with_asked question.bytes w.past }) place (after_ask c) asked m
 
 -- ---- what is saved and reported
@@ -123,7 +123,7 @@ pub good_event : Lawbook → (keys : List Key) (e : PlannedEvent) (w : Company) 
     → StaysGood keys w (after_of e.plan e.event w)
 good_event l keys e w lawful may good = by_event e.event may.may where
   stays : Onward keys w.past.objects w.past.objects
-  stays = l.itself keys w.past.objects
+  stays = l.client.itself keys w.past.objects
 
   by_event : (event : Event) → MayOccur keys event w → StaysGood keys w (after_of e.plan event w)
   by_event Starts m = (good_joined keys w (fresh e.plan) good (knows_nothing keys w.past.objects e.plan may.is_prolonged), stays)
@@ -140,12 +140,12 @@ good_event l keys e w lawful may good = by_event e.event may.may where
       (λ c is. (good_asked l keys w place c question lawful good is (about_there (slice_get w.clients place) question c m is), stays))
   by_event (Happens move) m =
       let delivered = one_move keys move w.past m in
-      let on = l.onward keys w.past (after_move move w.past) good.sound delivered in
-      (good_on l keys w (after_move move w.past) lawful (l.deliveries keys w.past (after_move move w.past) good.sound delivered) on good, on)
+      let on = l.exchanges.onward keys w.past (after_move move w.past) good.sound delivered in
+      (good_on l keys w (after_move move w.past) lawful (l.exchanges.deliveries keys w.past (after_move move w.past) good.sound delivered) on good, on)
   by_event (Hears place bytes) m =
       there (StaysGood keys w) (slice_get w.clients place) _ w (good, stays)
       (λ c is.
-      let told = l.answers keys w.past bytes good.sound m in
+      let told = l.exchanges.answers keys w.past bytes good.sound m in
       let knows = knows_read l keys w.past.objects c.keys c.knowns bytes (replies_read bytes) refl told (member_at keys w place c good is) in
       (good_client keys w place (record c { knowns = heard c.keys c.knowns (Some bytes) }) good knows, stays))
   by_event (Loses place key) m =
@@ -191,13 +191,13 @@ image_event : Lawbook → (keys : List Key) (e : PlannedEvent) (w : Company) →
 image_event l keys e w lawful may good image =
     past_event keys e w (IsMirrored keys) may image
     (λ c question place is about.
-    l.image_asked keys w.past question.bytes image (message_justified l keys w.past.objects c question lawful (member_at keys w place c good is) about))
-    (λ move happens. l.image_delivered keys w.past (after_move move w.past) good.sound image (one_move keys move w.past happens))
+    l.exchanges.image_asked keys w.past question.bytes image (message_justified l keys w.past.objects c question lawful (member_at keys w place c good is) about))
+    (λ move happens. l.exchanges.image_delivered keys w.past (after_move move w.past) good.sound image (one_move keys move w.past happens))
 
 passes_event : Lawbook → (keys : List Key) (e : PlannedEvent) (w : Company) → IsLawful keys → MayOccurAmong keys e w → IsGoodMixed keys w
     → PassedAmid keys w.past (after_of e.plan e.event w).past
 passes_event l keys e w lawful may good =
-    past_event keys e w (PassedAmid keys w.past) may (l.nothing keys w.past)
+    past_event keys e w (PassedAmid keys w.past) may (l.amid.nothing keys w.past)
     (λ c question place is about. record {
       meanwhile = OthersAsk (requests_in question.bytes) ∷ [];
       may = (message_justified l keys w.past.objects c question lawful (member_at keys w place c good is) about, tt);
@@ -209,12 +209,12 @@ passes_event l keys e w lawful may good =
 
 pub good_events : Lawbook → (keys : List Key) (events : List PlannedEvent) (w : Company) → IsLawful keys → IsGoodMixed keys w → AllMayOccurAmong keys events w
     → StaysGood keys w (after_all_of events w)
-good_events l keys [] w lawful good may = (good, l.itself keys w.past.objects)
+good_events l keys [] w lawful good may = (good, l.client.itself keys w.past.objects)
 good_events l keys (e ∷ events) w lawful good may =
     let next = after_of e.plan e.event w in
     let one = good_event l keys e w lawful may.0 good in
     let rest = good_events l keys events next lawful one.0 may.1 in
-    (rest.0, l.twice keys w.past.objects next.past.objects (after_all_of events next).past.objects one.1 rest.1)
+    (rest.0, l.client.twice keys w.past.objects next.past.objects (after_all_of events next).past.objects one.1 rest.1)
 
 pub image_events : Lawbook → (keys : List Key) (events : List PlannedEvent) (w : Company) → IsLawful keys → IsGoodMixed keys w → IsMirrored keys w.past
     → AllMayOccurAmong keys events w → IsMirrored keys (after_all_of events w).past
@@ -224,10 +224,10 @@ image_events l keys (e ∷ events) w lawful good image may =
 
 pub passes_events : Lawbook → (keys : List Key) (events : List PlannedEvent) (w : Company) → IsLawful keys → IsGoodMixed keys w → AllMayOccurAmong keys events w
     → PassedAmid keys w.past (after_all_of events w).past
-passes_events l keys [] w lawful good may = l.nothing keys w.past
+passes_events l keys [] w lawful good may = l.amid.nothing keys w.past
 passes_events l keys (e ∷ events) w lawful good may =
     let next = after_of e.plan e.event w in
-    l.passes keys w.past next.past (after_all_of events next).past (passes_event l keys e w lawful may.0 good)
+    l.amid.joins keys w.past next.past (after_all_of events next).past (passes_event l keys e w lawful may.0 good)
     (passes_events l keys events next lawful (good_event l keys e w lawful may.0 good).0 may.1)
 
 -- ---- a good company is safe
@@ -247,7 +247,7 @@ reports_reached l keys w lawful good =
     (all_flat (IsReached keys w.past) by_saved w.saved
     (All-weaker (AllBeside (TrueOf w.past.objects) keys) (λ saved. All (IsReached keys w.past) (by_saved saved))
     (λ saved holds.
-    counts_reached l keys w.past keys (map (λ known. known.done) saved) lawful (l.prolongs_itself keys) (saved_counted keys w.past.objects saved holds))
+    counts_reached l keys w.past keys (map (λ known. known.done) saved) lawful (l.plan.plan_itself keys) (saved_counted keys w.past.objects saved holds))
     w.saved good.true_saved))
 
 -- who finds a conflict has a key there, and a clash
@@ -286,12 +286,12 @@ state_there : Lawbook → (keys : List Key) (objects : List Object) (c : ClientS
 state_there l keys objects c m place clash is =
     conflict_there (clash ≡ clashes.State) c.keys c.knowns place clash is
     (λ key known key_is known_is some.
-    let (newest, newest_is, goes) = l.old_keys keys c.keys place key m.is_prolonged key_is in
+    let (newest, newest_is, goes) = l.plan.old_stand keys c.keys place key m.is_prolonged key_is in
     (m.knows place newest known newest_is known_is).of_state clash some)
 
 pub safe_mixed : Lawbook → (keys : List Key) (w : Company) → IsLawful keys → IsGoodMixed keys w → IsMirrored keys w.past → IsSafeMixed keys w
 safe_mixed l keys w lawful good image = record {
-  safe = l.safe keys w.past (all_reported keys w) good.sound (reports_reached l keys w lawful good);
+  safe = l.exchanges.safe keys w.past (all_reported keys w) good.sound (reports_reached l keys w lawful good);
   machine = image;
   no_conflict = λ c among. agrees_there keys w.past.objects c (All-contains (IsOlderMember keys w.past.objects) w.clients c good.members among);
   of_state = λ c among. state_there l keys w.past.objects c (All-contains (IsOlderMember keys w.past.objects) w.clients c good.members among);

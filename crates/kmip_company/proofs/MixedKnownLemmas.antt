@@ -83,7 +83,7 @@ working_parts key known works =
 pub works_newest : Lawbook → (own newest : Key) (known : Knowledge) → GoesOn newest own → is_working own known ≡ true → is_working newest known ≡ true
 works_newest l own newest known goes works =
     let parts = working_parts own known works in
-    let longer = l.no_shorter own.target newest.target goes.leads_on in
+    let longer = l.plan.ways_no_shorter own.target newest.target goes.leads_on in
     rw (lt-ltb known.done (chain_length newest) (omega (arith, parts.0, longer)), parts.1) refl
 
 clash_of : (clash : Option Clash) (c : Clash) → clash ≡ None → clash ≡ Some c → c ≡ clashes.State
@@ -118,7 +118,7 @@ learn_held : Lawbook → (objects : List Object) (key : Key) (outcome : Outcome)
     → TrueOutcome objects key outcome → learn key outcome known ≡ Ok new → IsHeld objects key new
 learn_held l objects key outcome known new held works told is =
     let all = All-cons (TrueReply (key ∷ []) objects) (told_of key outcome) [] (true_alone objects key outcome told) (All-nil (TrueReply (key ∷ []) objects)) in
-    let heard = l.hears objects (key ∷ []) (told_of key outcome ∷ []) (known ∷ []) (held, tt) all in
+    let heard = l.client.heard objects (key ∷ []) (told_of key outcome ∷ []) (known ∷ []) (held, tt) all in
     (subst (λ knowns. Held objects (key ∷ []) knowns) (heard_alone key outcome known new works is) heard).0
 
 abbrev ok : Knowledge → Result Knowledge HearFault
@@ -149,7 +149,7 @@ step_learns l objects own newest step uid known new goes held newer is = by_plac
             subst (λ k. IsLearnt objects own newest k) (same_ok known new stays) (held_learnt objects own newest known held)
       ]
   by_place (suc place) some =
-      let same = l.step_places own.target newest.target step goes.leads_on (omega (arith, some)) in
+      let same = l.plan.step_places own.target newest.target step goes.leads_on (omega (arith, some)) in
       held_learnt objects own newest new (newer (subst (λ n. step_at_place n uid known ≡ Ok new) (sym same) is))
 
 -- what attributes teach, where the way goes through the state or not
@@ -197,7 +197,7 @@ attributes_learn l objects own newest uid shown known new goes held works told i
         (λ alike. some_or_none (place_of own.target told.1.state) told.1.place none (subst (λ t. place_of t told.1.state ≡ Some told.1.place) alike told.1.place_is))
         (rw none at was)
     by_place (Some place) at same named planned was =
-        let there = l.state_places own.target newest.target told.1.state place goes.leads_on at in
+        let there = l.plan.state_places own.target newest.target told.1.state place goes.leads_on at in
         held_learnt objects own newest new (newer new (rw (same, named, planned, told.1.state_is, there) (rw at at was)))
 
 learns : Lawbook → (objects : List Object) (own newest : Key) (outcome : Outcome) (known new : Knowledge) → GoesOn newest own → IsHeld objects newest known

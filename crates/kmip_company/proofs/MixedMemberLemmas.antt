@@ -35,14 +35,14 @@ pub knows_on : Lawbook → (keys : List Key) (old new : List Object) (own : List
     → KnowsAmong keys old own knowns → KnowsAmong keys new own knowns
 knows_on l keys old new own knowns lawful on m = record {
   is_prolonged = m.is_prolonged;
-  knows = λ place key known here there. known_on key known old new (on key (l.found keys place key lawful here)) (m.knows place key known here there);
+  knows = λ place key known here there. known_on key known old new (on key (l.plan.found keys place key lawful here)) (m.knows place key known here there);
   agrees = m.agrees;
 }
 
 pub saved_on : Lawbook → (keys : List Key) (old new : List Object) (saved : List Known) → IsLawful keys → Onward keys old new
     → AllBeside (TrueOf old) keys saved → AllBeside (TrueOf new) keys saved
 saved_on l keys old new saved lawful on was =
-    λ place key known here there. true_on key known old new (on key (l.found keys place key lawful here)) (was place key known here there)
+    λ place key known here there. true_on key known old new (on key (l.plan.found keys place key lawful here)) (was place key known here there)
 
 -- ---- at the beginning
 
@@ -120,7 +120,7 @@ knows_lost l keys objects own knowns place m = by_found (slice_get own place) (s
   by_found None known key_is known_is = m
   by_found (Some key) None key_is known_is = m
   by_found (Some key) (Some known) key_is known_is =
-      let (newest, newest_is, goes) = l.old_keys keys own place key m.is_prolonged key_is in
+      let (newest, newest_is, goes) = l.plan.old_stand keys own place key m.is_prolonged key_is in
       knows_set keys objects own knowns place key newest (lost_working key known) key_is newest_is m
       (loses_among objects key newest known (learnt_at keys objects own knowns place key newest known key_is newest_is known_is m))
 
@@ -144,7 +144,7 @@ knows_reply l keys objects own knowns reply m told = by_id reply.id refl where
   by_key operation name place id_is at None known key_is known_is = m
   by_key operation name place id_is at (Some key) None key_is known_is = m
   by_key operation name place id_is at (Some key) (Some known) key_is known_is =
-      let (newest, newest_is, goes) = l.old_keys keys own place key m.is_prolonged key_is in
+      let (newest, newest_is, goes) = l.plan.old_stand keys own place key m.is_prolonged key_is in
       let so = told operation name newest id_is (named_newest keys own name place newest m.is_prolonged at newest_is) in
       let was = learnt_at keys objects own knowns place key newest known key_is newest_is known_is m in
       after_lesson keys objects own knowns place operation key newest (teach key reply.outcome known) key_is newest_is m
@@ -185,5 +185,5 @@ pub knows_read : Lawbook → (keys : List Key) (objects : List Object) (own : Li
     → replies_read bytes ≡ read → All (TrueReply keys objects) (replies_in bytes) → KnowsAmong keys objects own knowns
     → KnowsAmong keys objects own (knowns_heard knowns (hear_all own knowns read))
 knows_read l keys objects own knowns bytes (Ok replies) is told m =
-    knows_replies l keys objects own replies knowns m (subst (λ rs. All (TrueReply keys objects) rs) (l.said bytes replies is) told)
+    knows_replies l keys objects own replies knowns m (subst (λ rs. All (TrueReply keys objects) rs) (l.messages.said bytes replies is) told)
 knows_read l keys objects own knowns bytes (Err fault) is told m = m

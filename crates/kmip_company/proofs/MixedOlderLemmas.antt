@@ -43,7 +43,7 @@ same_uid objects newest old goes = ap (λ (a : KeyAttrs). option_map (λ o. o.ui
 
 true_newest : Lawbook → (objects : List Object) (newest old : Key) (known : Known) → GoesOn newest old → TrueOf objects old known → TrueOf objects newest known
 true_newest l objects newest old known goes holds =
-    let more = l.further objects newest old goes in
+    let more = l.client.positions objects newest old goes in
     record {
       uid_true = λ uid is. same_uid objects newest old goes ∙ holds.uid_true uid is;
       done_true = omega (arith, holds.done_true, more);
@@ -72,9 +72,9 @@ member_newest l keys old objects c on m =
 
 reached_newest : Lawbook → (keys old : List Key) (p : Past) (effect : Effect) → IsLawful keys → Prolongs keys old → IsReached old p effect → IsReached keys p effect
 reached_newest l keys old p effect lawful on r =
-    let (newest, planned, same, goes) = l.old_found keys old r.0 lawful on r.1 in
-    let at = l.step_places r.0.target newest.target effect.step goes.leads_on r.3 in
-    let more = l.further p.objects newest r.0 goes in
+    let (newest, planned, same, goes) = l.plan.old_found keys old r.0 lawful on r.1 in
+    let at = l.plan.step_places r.0.target newest.target effect.step goes.leads_on r.3 in
+    let more = l.client.positions p.objects newest r.0 goes in
     (newest, planned, r.2 ∙ sym same, omega (arith, at, r.3), omega (arith, at, r.4, more))
 
 pub older_good : Lawbook → (keys old : List Key) (w : Company) → IsLawful keys → Prolongs keys old → Sound keys w.past → IsGoodCompany old w → IsGoodMixed keys w

@@ -232,7 +232,7 @@ pub both_safe : Lawbook → (keys : List Key) (p : Past) (other : ClientState) (
     → Safe keys p (told ++ reported_by keys (counts_of other.knowns))
 both_safe l keys p other told lawful sound m safe =
     let counted = reported_by keys (counts_of other.knowns) in
-    let also = l.safe keys p counted sound (all_reached l keys p (counts_of other.knowns) lawful (counts_reached p.objects keys other.knowns m.held)) in
+    let also = l.exchanges.safe keys p counted sound (all_reached l keys p (counts_of other.knowns) lawful (counts_reached p.objects keys other.knowns m.held)) in
     record {
       one_object = safe.one_object;
       attrs = safe.attrs;

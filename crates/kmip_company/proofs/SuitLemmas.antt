@@ -24,7 +24,7 @@ within_chain : Lawbook → (key : Key) (objects : List Object) → position key 
 within_chain l key objects = by_found (object_named key.attrs.name objects) where
   by_found : (found : Option Object) → option_map_or (λ o. place_reached key.target o.state) found 0 ≤ length (chain key.target)
   by_found None = omega arith
-  by_found (Some o) = l.within key.target o.state
+  by_found (Some o) = l.plan.reached key.target o.state
 
 abbrev some_text : List ℕ → Option (List ℕ)
 some_text x = Some x
@@ -71,4 +71,4 @@ progress_suits l plan p (key ∷ keys) (known ∷ saved) sound of holds =
 pub saved_suits : Lawbook → (keys : List Key) (w : Company) → IsLawful keys → IsGoodCompany keys w → All (Suits keys) w.saved
 saved_suits l keys w lawful good =
     All-weaker (TrueProgress w.past.objects keys) (Suits keys)
-    (λ saved. progress_suits l keys w.past keys saved good.sound (λ place key is. l.found keys place key lawful is)) w.saved good.true_saved
+    (λ saved. progress_suits l keys w.past keys saved good.sound (λ place key is. l.plan.found keys place key lawful is)) w.saved good.true_saved

@@ -66,7 +66,7 @@ pub true_still : Lawbook → (keys : List Key) (saved : List Known) (old new : L
     → TrueProgress new keys saved
 true_still l keys saved old new lawful on was =
     subst (TrueProgress new keys) (saved_again saved)
-    (true_of_held new keys (map knowledge_from saved) (l.known keys (map knowledge_from saved) old new lawful on (held_again old keys saved was)))
+    (true_of_held new keys (map knowledge_from saved) (l.client.known_for_good keys (map knowledge_from saved) old new lawful on (held_again old keys saved was)))
 
 -- ---- what is counted
 
@@ -101,7 +101,7 @@ steps_reached : Lawbook → (plan : List Key) (p : Past) (key : Key) (count : �
 steps_reached l plan p key count planned reached =
     first_are (IsReached plan p) (λ step. record { name = key.attrs.name; step = step }) (chain key.target) count
     (λ place step is below.
-    let at : step_place key.target step ≡ suc place = (l.places key.target (suc place) step (omega arith)).0 (stands key.target place step is) in
+    let at : step_place key.target step ≡ suc place = (l.plan.places key.target (suc place) step (omega arith)).0 (stands key.target place step is) in
     (key, planned, refl, omega (arith, at), omega (arith, at, below, reached)))
   where
     stands : (target : Target) (place : ℕ) (step : Step) → slice_get (chain target) place ≡ Some step → step_at target (suc place) ≡ Some step
@@ -122,7 +122,7 @@ reached_of l plan p (key ∷ keys) (count ∷ counts) of reached =
 
 pub all_reached : Lawbook → (keys : List Key) (p : Past) (counts : List ℕ) → IsLawful keys → AreReached p.objects keys counts
     → All (IsReached keys p) (reported_by keys counts)
-all_reached l keys p counts lawful reached = reached_of l keys p keys counts (λ place key is. l.found keys place key lawful is) reached
+all_reached l keys p counts lawful reached = reached_of l keys p keys counts (λ place key is. l.plan.found keys place key lawful is) reached
 
 -- ---- what is asked
 
@@ -159,8 +159,8 @@ all_justified l keys objects knowns (place ∷ places) lawful held works =
     (All-cons (Justified keys objects) (request_about w.key w.known) (requests_at keys knowns places)
     (record {
       key = w.key;
-      is_planned = l.found keys place w.key lawful w.key_is;
+      is_planned = l.plan.found keys place w.key lawful w.key_is;
       id_is = refl;
-      may = l.asks objects w.key w.known (held_at objects keys knowns place w.key w.known held w.key_is w.known_is) w.works;
+      may = l.client.asks objects w.key w.known (held_at objects keys knowns place w.key w.known held w.key_is w.known_is) w.works;
     })
     (all_justified l keys objects knowns places lawful held (All-tail (WorksAt keys knowns) place places works)))

@@ -22,60 +22,25 @@ ghost use Rattle.kmip_company.specs.Laws.{
   WhoHasNothingLeftIsFinished,
 };
 
-use kmip_client::laws::{
-    hearing_keeps_the_truth, onward_is_an_order, prolonged_plans_keep_the_truth, truth_is_for_good,
-    what_is_asked_may_be, what_is_true_is_no_conflict,
-};
-use kmip_messages::laws::answer_laws;
-use kmip_plan::chain_laws::{further_ways_keep_places, states_have_places, steps_have_places};
-use kmip_plan::laws::{
-    bounds_add_up, keys_have_names, prolonged_keys_stand, prolonging_may_be_repeated,
-};
-use kmip_protocol::amid_laws::what_passes_passes_for_others;
-use kmip_protocol::laws::{
-    answers_are_true, asking_keeps_sound, deliveries_keep_sound, deliveries_keep_the_requests,
-    exchanges_keep_sound, nothing_done_is_sound, objects_go_onward, opening_is_mirrored,
-    sound_is_safe, the_image_is_kept,
-};
-use kmip_protocol::losing_laws::{
-    a_losing_turn_is_bounded, late_arrivals_add_nothing, left_is_bounded,
-};
-use kmip_protocol::settling_laws::{sound_is_ready, who_needs_nothing_is_finished};
+use kmip_client::laws::the_laws_of_clients_hold;
+use kmip_messages::laws::the_laws_of_messages_hold;
+use kmip_plan::laws::the_laws_of_plans_hold;
+use kmip_protocol::amid_laws::the_laws_amid_others_hold;
+use kmip_protocol::laws::the_laws_of_exchanges_hold;
+use kmip_protocol::losing_laws::the_laws_of_losing_hold;
+use kmip_protocol::settling_laws::the_laws_of_settling_hold;
 
-/// The laws of the crates below.
-pub(crate) fn laws_below()
+/// The laws of the crates below hold.
+pub(crate) fn the_laws_below_hold()
     ensures { Lawbook }
 {
-    keys_have_names();
-    bounds_add_up();
-    steps_have_places();
-    states_have_places();
-    further_ways_keep_places();
-    prolonged_keys_stand();
-    prolonging_may_be_repeated();
-    answer_laws();
-    onward_is_an_order();
-    truth_is_for_good();
-    prolonged_plans_keep_the_truth();
-    hearing_keeps_the_truth();
-    what_is_true_is_no_conflict();
-    what_is_asked_may_be();
-    objects_go_onward();
-    deliveries_keep_sound();
-    asking_keeps_sound();
-    answers_are_true();
-    nothing_done_is_sound();
-    sound_is_safe();
-    opening_is_mirrored();
-    the_image_is_kept();
-    deliveries_keep_the_requests();
-    exchanges_keep_sound();
-    what_passes_passes_for_others();
-    late_arrivals_add_nothing();
-    a_losing_turn_is_bounded();
-    left_is_bounded();
-    sound_is_ready();
-    who_needs_nothing_is_finished();
+    the_laws_of_plans_hold(); // proof
+    the_laws_of_messages_hold(); // proof
+    the_laws_of_clients_hold(); // proof
+    the_laws_of_exchanges_hold(); // proof
+    the_laws_amid_others_hold(); // proof
+    the_laws_of_settling_hold(); // proof
+    the_laws_of_losing_hold(); // proof
 }
 
 /// Any number of clients of one plan may live at once. Whatever they, the network and the server do, from
@@ -84,7 +49,7 @@ pub(crate) fn laws_below()
 pub fn any_company_is_safe()
     ensures { AnyCompanyIsSafe }
 {
-    laws_below();
+    the_laws_below_hold(); // proof
 }
 
 /// What is kept by whatever occurs in a company.
@@ -104,7 +69,7 @@ pub fn good_companies_stay_good()
     // With room for the objects that are missing, each client is ready to come to its end over a calm link.
     ensures ready { ClientsAreReady }
 {
-    laws_below();
+    the_laws_below_hold(); // proof
 }
 
 /// What a client does in its turns is a list of events of a company at its place, whatever else occurs before and
@@ -135,7 +100,7 @@ pub fn places_are_independent()
 pub fn companies_pass_amid()
     ensures { CompaniesPassAmid }
 {
-    laws_below();
+    the_laws_below_hold(); // proof
 }
 
 /// Nobody is kept from its end by others of its plan, whatever they ask and whatever arrives meanwhile. Each exchange
@@ -149,5 +114,5 @@ pub fn nobody_is_kept_from_its_end()
     // Once nothing is left for it, each of its keys is finished.
     ensures finished { WhoHasNothingLeftIsFinished }
 {
-    laws_below();
+    the_laws_below_hold(); // proof
 }

@@ -11,7 +11,7 @@ ghost use Rattle.kmip_company.specs.MixedLaws.{
   MixedOlderAreGood,
 };
 
-use crate::laws::laws_below;
+use crate::laws::the_laws_below_hold;
 
 /// Clients of a plan may live beside clients of each plan that it prolongs. Whatever occurs, what is promised
 /// of clients of one plan holds of the newest. But a conflict may be found where the newest plan takes a key
@@ -19,7 +19,7 @@ use crate::laws::laws_below;
 pub fn mixed_companies_are_safe()
     ensures { MixedCompaniesAreSafe }
 {
-    laws_below();
+    the_laws_below_hold(); // proof
 }
 
 /// What is kept by whatever occurs among clients of several plans.
@@ -35,7 +35,7 @@ pub fn mixed_companies_stay_good()
     // A good company is safe, where its past is an image of the plan machine.
     ensures safe { MixedGoodIsSafe }
 {
-    laws_below();
+    the_laws_below_hold(); // proof
 }
 
 /// What such clients do is what others may do over a link of the newest plan. So what a run promises there
@@ -43,5 +43,5 @@ pub fn mixed_companies_stay_good()
 pub fn mixed_companies_pass_amid()
     ensures { MixedCompaniesPassAmid }
 {
-    laws_below();
+    the_laws_below_hold(); // proof
 }

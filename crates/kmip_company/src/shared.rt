@@ -10,10 +10,8 @@ ghost use Rattle.kmip_scripted.specs.Scenes.{past_in};
 ghost use Rattle.kmip_company.specs.Sharing.{AreTogether, GoesOn, SharesExchange, TakesTurn, past_of, seen_of};
 
 use kmip_client::Client;
-use kmip_client::laws::truth_is_for_good;
-use kmip_protocol::amid_laws::{
-    sound_stays_so_amid_others, what_is_honest_is_amid, what_passes_passes_for_others,
-};
+use kmip_client::laws::{a_client_has_a_lawful_plan, the_laws_of_clients_hold};
+use kmip_protocol::amid_laws::the_laws_amid_others_hold;
 use kmip_protocol::{Link, LinkFault};
 use kmip_runs::{Stop, drive};
 use kmip_scripted::Scripted;
@@ -92,8 +90,7 @@ impl<'p, S: Records> Shared<'p, S> {
         ensures sent { self.new.sent ≡ self.old.sent }
         ensures handed { self.new.handed ≡ self.old.handed }
     {
-        what_is_honest_is_amid();
-        what_passes_passes_for_others();
+        the_laws_amid_others_hold(); // proof
         let answer = self.link.follow(alloc, request)?;
         Ok(answer)
     }
@@ -113,7 +110,7 @@ impl<'p, S: Records> Shared<'p, S> {
         ensures sent { self.new.sent ≡ self.old.sent }
         ensures handed { self.new.handed ≡ self.old.handed }
     {
-        what_passes_passes_for_others();
+        the_laws_amid_others_hold(); // proof
         let driven = drive(alloc, &mut self.other, &mut self.link, 1);
         unless_no_memory(driven.0)
     }
@@ -201,11 +198,9 @@ impl<'p, S: Records> Link for Shared<'p, S> {
         ensures shared { IfOk result (λ answer. SharesExchange request.now
             (option_map (λ v. v.items) answer) self.old self.new) }
     {
-        truth_is_for_good();
-        sound_stays_so_amid_others();
-        what_is_honest_is_amid();
-        what_passes_passes_for_others();
-        let _plan = self.other.plan();
+        the_laws_of_clients_hold(); // proof
+        the_laws_amid_others_hold(); // proof
+        a_client_has_a_lawful_plan(&self.other); // proof
         let Ok(answer) = self.talk(alloc, request) else {
             return Err(LinkFault::NoMemory);
         };
@@ -226,7 +221,7 @@ impl<'p, S: Records> Link for Shared<'p, S> {
         // It is as it was.
         ensures same { self.new ≡ self.old }
     {
-        what_passes_passes_for_others();
+        the_laws_amid_others_hold(); // proof
         Ok(())
     }
 

@@ -8,10 +8,11 @@ ghost use Rattle.kmip_runs.specs.MakesCampaigns.{MakesCampaign};
 ghost use Rattle.kmip_company.specs.SharedCampaigns.{IsSharedCampaign, first_sharing, reported_by_both};
 ghost use Rattle.kmip_company.specs.Sharing.{AreTogether, GoesOn, past_of, seen_of};
 
-use crate::laws::laws_below;
+use crate::laws::the_laws_below_hold;
 use crate::shared::Shared;
 use kmip_client::Client;
 use kmip_plan::Plan;
+use kmip_plan::laws::a_plan_is_lawful;
 use kmip_runs::{CampaignEnd, Run, campaign};
 use kmip_scripted::{Script, Scripted};
 use kmip_server::{IndexedStore, Server};
@@ -90,7 +91,7 @@ fn campaign_over<'p>(
     ensures runs { MakesCampaign (seen_of link.old) plan.now runs.now result (seen_of link.new)
         (GoesOn link.old link.new) }
 {
-    laws_below();
-    plan.keys();
+    the_laws_below_hold(); // proof
+    a_plan_is_lawful(plan); // proof
     campaign(alloc, plan, link, runs)
 }

@@ -259,7 +259,7 @@ right_answer part mark objects requests replies key looked reply replied asks be
 -- a Locate
 located_right : LookLaws → (objects : List Object) (key : Key) (looked : Looked) (outcome : Outcome) → IsRight Find objects key looked outcome
     → outcome ≡ Located (map (λ (o : Object). o.uid) (all_named key.attrs.name objects))
-located_right l objects key looked outcome (room, step) = (l.located room objects objects key.attrs.name outcome step).1
+located_right l objects key looked outcome (room, step) = (l.server.all_located room objects objects key.attrs.name outcome step).1
 
 -- a Get Attributes of the one object of the name
 attributes_right : LookLaws → (objects : List Object) (key : Key) (looked : Looked) (uid : List ℕ) (o : Object) (outcome : Outcome) → DistinctUids objects
@@ -267,7 +267,7 @@ attributes_right : LookLaws → (objects : List Object) (key : Key) (looked : Lo
     → (object_with uid objects ≡ Some o) × (outcome ≡ Attributes uid (attributes_of o))
 attributes_right l objects key looked uid o outcome distinct known alone is (room, step) =
     let own : object_with uid objects ≡ Some o =
-    subst (λ u. object_with u objects ≡ Some o) (sym is) (l.identified objects o distinct (only_there key.attrs.name objects o alone).0) in (
+    subst (λ u. object_with u objects ≡ Some o) (sym is) (l.objects.one_identified objects o distinct (only_there key.attrs.name objects o alone).0) in (
       own,
       told_of uid o room objects objects (ask_of Tell key looked.known) outcome own (ap (λ (k : Knowledge). GetAttributes (unwrap_or k.identifier [])) known) step,
     )

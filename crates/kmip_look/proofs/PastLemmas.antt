@@ -188,7 +188,7 @@ goes_by l names part mark why requests replies keys olds news old new asked fits
           subst (All (IsLook keys mark)) (sym (put.asks ∙ asked)) (looks_of keys part mark keys olds (All-contains_itself keys)) in
           let marked : All (IsMarkedLook mark) (requests_in put.message) =
           All-weaker (IsLook keys mark) (IsMarkedLook mark) (λ request look. marked_look keys mark request look) (requests_in put.message) looks in
-          let now : Kept names mark start new = kept_over l.located names mark start old new put.message put.answer marked put.hands kept in
+          let now : Kept names mark start new = kept_over l.server.all_located names mark start old new put.message put.answer marked put.hands kept in
           let true_so : All (IsMarkedTrue names mark start new) replies =
           subst (All (IsMarkedTrue names mark start new)) (sym put.says) (said_true names mark start old new put.message put.answer put.hands now) in (
             now,

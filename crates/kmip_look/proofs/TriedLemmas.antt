@@ -236,7 +236,7 @@ pub tried_by : LookLaws → (names : Names) (part : Part) (mark : List ℕ) (why
     → news ≡ heard_each part mark why replies keys olds → HasPut names requests replies now new
     → (start : Past) (count : ℕ) → AllZip (IsTriedAt part count mark start now) keys olds → AllZip (IsTriedAt part (count + 1) mark start new) keys news
 tried_by l names part mark why requests replies keys olds news now new asked fits is put start count at =
-    let grows = l.grow names (with_asked put.message now) put.hands.between put.hands.delivered in
+    let grows = l.exchanges.requests_stay names (with_asked put.message now) put.hands.between put.hands.delivered in
     let sent : new.sent ≡ now.sent ++ put.message ∷ [] = ap (λ p. p.sent) put.hands.is ∙ ap (λ xs. xs ++ put.message ∷ []) grows.sent in
     subst (AllZip (IsTriedAt part (count + 1) mark start new) keys) (sym is)
     (each_step part count mark why replies keys olds start now new put.message sent

@@ -2,8 +2,10 @@
 -- Source: own (law).
 use Rattle.std.specs.Prelude.{◌≡◌, ◌≤◌, ◌⊎◌, ◌+◌, ℕ, Bool, true, false, ⊤, List, [], ◌∷◌, ◌++◌, length, map, Some, None}
 use Rattle.std.specs.List.{All, AllZip, Contains}
+use Rattle.kmip_objects.specs.ObjectLaws.{ObjectLaws}
+use Rattle.kmip_protocol.specs.Laws.{ExchangeLaws}
+use Rattle.kmip_server.specs.Laws.{ServerLaws}
 use Rattle.kmip_objects.specs.Attributes.{attributes_of}
-use Rattle.kmip_objects.specs.ObjectLaws.{OneIsIdentified}
 use Rattle.kmip_objects.specs.Objects.{Object, object_with, DistinctUids}
 use Rattle.kmip_objects.specs.Ranges.{is_identifier}
 use Rattle.kmip_batch_items.specs.declared.outcome.Outcome.{Outcome}
@@ -14,9 +16,7 @@ use Rattle.kmip_plan.specs.Plans.{key_fits}
 use Rattle.kmip_plan.specs.declared.key.Key.{Key}
 use Rattle.kmip_client.specs.Knowledge.{fresh_knowledge}
 use Rattle.kmip_client.specs.Learning.{one_learnt}
-use Rattle.kmip_server.specs.Laws.{LocateFindsAllNamed}
 use Rattle.kmip_protocol.specs.Headline.{all_named}
-use Rattle.kmip_protocol.specs.Laws.{DeliveriesJoin, DeliveriesKeepTheRequests, TakenIsDelivered}
 use Rattle.kmip_protocol.specs.Moves.{HasFailed}
 use Rattle.kmip_protocol.specs.Past.{Names, Past}
 use Rattle.kmip_look.specs.Looks.{IsLookAt, Sends}
@@ -28,13 +28,11 @@ use Rattle.kmip_look.specs.declared.part.Part.{Part}
 use Rattle.kmip_look.specs.declared.part.Part.TheVariants.{Find, Tell}
 use Rattle.kmip_look.specs.declared.why.Why.TheVariants.{NotAsked}
 
--- The laws of the crates below
+-- The laws of the crates below hold.
 pub record LookLaws : Type 0 where
-  pub identified : OneIsIdentified
-  pub join : DeliveriesJoin
-  pub grow : DeliveriesKeepTheRequests
-  pub taken : TakenIsDelivered
-  pub located : LocateFindsAllNamed
+  pub objects : ObjectLaws
+  pub server : ServerLaws
+  pub exchanges : ExchangeLaws
 
 -- ---- one key
 

@@ -19,13 +19,11 @@ use crate::part::Part;
 use crate::pause::Pause;
 use crate::putting::put;
 use kmip_batch_items::Request;
-use kmip_objects::laws::found_laws;
+use kmip_objects::laws::the_laws_of_objects_hold;
 use kmip_plan::{Key, Plan};
-use kmip_protocol::laws::{
-    deliveries_join, deliveries_keep_the_requests, what_is_taken_is_delivered,
-};
+use kmip_protocol::laws::the_laws_of_exchanges_hold;
 use kmip_protocol::{ExchangeObserver, Link};
-use kmip_server::laws::a_name_is_found;
+use kmip_server::laws::the_laws_of_servers_hold;
 use kmip_ttlv::NoMemory;
 use std::alloc::Global;
 
@@ -294,18 +292,16 @@ fn ask<L: Link, O: ExchangeObserver>(
     ensures { AsksOnce part (record { keys = keys.now; mark = mark.now; most = 1 })
         lookeds.old.items (L.seen link.old) result lookeds.new.items (L.seen link.new) }
 {
-    laws_below();
+    the_laws_below_hold(); // proof
     let heard = put(alloc, link, requests, observer)?;
     hear_each(alloc, part, mark, keys, &heard, lookeds)
 }
 
-/// The laws of the crates below.
-fn laws_below()
+/// The laws of the crates below hold.
+fn the_laws_below_hold()
     ensures { LookLaws }
 {
-    found_laws();
-    deliveries_join();
-    deliveries_keep_the_requests();
-    what_is_taken_is_delivered();
-    a_name_is_found();
+    the_laws_of_objects_hold(); // proof
+    the_laws_of_servers_hold(); // proof
+    the_laws_of_exchanges_hold(); // proof
 }

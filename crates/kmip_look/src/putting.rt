@@ -12,7 +12,7 @@ use crate::heard::Heard;
 use crate::why::Why;
 use kmip_batch_items::{MessageFault, Request};
 use kmip_messages::{read_reply, write_request};
-use kmip_protocol::laws::deliveries_keep_the_requests;
+use kmip_protocol::laws::the_laws_of_exchanges_hold;
 use kmip_protocol::{ExchangeObserver, Link, LinkFault, NoReplyReason, answer_or_loss};
 use kmip_ttlv::NoMemory;
 use std::alloc::Global;
@@ -40,7 +40,7 @@ pub(crate) fn put<L: Link, O: ExchangeObserver>(
         × IfOk result (λ heard. HasServed requests.now heard.replies.items
         (L.seen link.old).past (L.seen link.new).past) }
 {
-    deliveries_keep_the_requests();
+    the_laws_of_exchanges_hold(); // proof
     let bytes = write_request(alloc, requests)?;
     observer.asking(requests);
     let answered = link.exchange(alloc, bytes.as_slice());

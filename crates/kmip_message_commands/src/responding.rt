@@ -37,7 +37,7 @@ pub(crate) fn respond_to_lines<C: Respond, R: BufRead, W: Write>(
         (R.remaining reader.old) (C.state command.old)
         (W.contents writer.old) (W.contents writer.new))) }
 {
-    C::stays_ready();
+    C::stays_ready(); // proof
     let mut line = Vec::new(alloc);
     let mut message = Vec::new(alloc);
     let mut text = Vec::new(alloc);
@@ -77,7 +77,7 @@ pub(crate) fn respond_to_bytes<C: Respond>(
     ensures broken { OnErr result (BreaksOffAt C.response (Some input.now) (C.state command.old)
         (Some output.old.items) (Some output.new.items)) }
 {
-    C::stays_ready();
+    C::stays_ready(); // proof
     let mut rest = input;
     let mut message = Vec::new(alloc);
     let mut text = Vec::new(alloc);

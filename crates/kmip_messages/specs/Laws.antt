@@ -1,7 +1,8 @@
 -- What holds of the lists of what some bytes ask and say.
 -- Source: own (law): what the laws of questions and answers say.
-use Rattle.std.specs.Prelude.{◌≡◌, ◌↔◌, ℕ, ℤ, List, [], ◌∷◌, map, Option, Ok, IsTrue}
-use Rattle.std.specs.List.{All}
+use Rattle.std.specs.Prelude.{◌≡◌, ◌↔◌, ℕ, ℤ, List, [], ◌∷◌, length, map, Option, Ok, IsTrue}
+use Rattle.std.specs.List.{All, filter_map}
+use Rattle.std.specs.Result.{result_ok}
 use Rattle.kmip_ttlv.specs.Fitting.{IsBytes, IsInRange}
 use Rattle.kmip_ttlv.specs.Node.{Node}
 use Rattle.kmip_ttlv.specs.Spelling.{canon, Spells}
@@ -9,7 +10,9 @@ use Rattle.kmip_batch_items.specs.declared.reply.Reply.{Reply}
 use Rattle.kmip_batch_items.specs.declared.request.Request.{Request}
 use Rattle.kmip_batch_items.specs.BatchItems.{answer_fits}
 use Rattle.kmip_messages.specs.Batches.{IsBatch, AreReplies}
-use Rattle.kmip_messages.specs.Items.{parts_in, requests_in, replies_in}
+use Rattle.kmip_messages.specs.Items.{parts_in, requests_in, replies_in, ReadAreSaid, SaidAreRead}
+use Rattle.kmip_messages.specs.Members.{may_have}
+use Rattle.kmip_messages.specs.Ranges.{QuestionFits}
 use Rattle.kmip_messages.specs.Written.{requests_item, requests_fit, replies_item, replies_fit}
 
 -- Requests, one or more, are asked, and nothing beside them, by just the bytes that spell them, with whatever
@@ -44,3 +47,20 @@ WrittenAreSaid =
 -- Bytes that ask a request say no reply.
 abbrev pub RequestsAreNoReplies : Type 0
 RequestsAreNoReplies = (bytes : List ℕ) (r : Request) (rest : List Request) → requests_in bytes ≡ r ∷ rest → replies_in bytes ≡ []
+
+-- What holds of all that bytes ask and say.
+pub record MessageLaws : Type 0 where
+  -- Any bytes have one to eight questions, where a message that is refused whole counts as one.
+  pub few_questions : (bytes : List ℕ) → IsTrue (may_have (length (parts_in bytes)))
+  -- Each request is in its ranges, and so is a Unique Batch Item ID that a refusal carries.
+  pub questions_fit : (bytes : List ℕ) → All QuestionFits (parts_in bytes)
+  -- The requests are those of the questions that are no refusals, in their order.
+  pub requests : (bytes : List ℕ) → requests_in bytes ≡ filter_map result_ok (parts_in bytes)
+  pub requests_spelled : RequestsAreSpelled
+  pub written_asked : WrittenAreAsked
+  pub said : ReadAreSaid
+  pub read : SaidAreRead
+  pub replies_fit : RepliesFit
+  pub replies_spelled : RepliesAreSpelled
+  pub written_said : WrittenAreSaid
+  pub one_kind : RequestsAreNoReplies

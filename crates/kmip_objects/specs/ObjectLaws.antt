@@ -154,3 +154,31 @@ abbrev pub StaysDistinct : (List Object → Type 0) → Type 0
 StaysDistinct Distinct =
     (uid : List ℕ) (state : KeyState) (objects : List Object) → Distinct objects
     → Distinct (all_restated uid state objects)
+
+-- What holds of all objects.
+pub record ObjectLaws : Type 0 where
+  pub named : NamedIsOne
+  pub identified : IdentifiedIsOne
+  pub none_named : NoneIsNamed
+  pub none_identified : NoneIsIdentified
+  pub one_named : OneIsNamed
+  pub one_identified : OneIsIdentified
+  pub by_identifier : NamedIsIdentified
+  pub by_name : IdentifiedIsNamed
+  pub all_named : NamedIsAll
+  pub all_identified : IdentifiedIsAll
+  pub named_before : NamedBeforeMore
+  pub named_among : NamedAmongMore
+  pub identified_before : IdentifiedBeforeMore
+  pub identified_among : IdentifiedAmongMore
+  pub one_more_name : OneMore DistinctNames (λ o. object_named o.attrs.name)
+  pub one_more_identifier : OneMore DistinctUids (λ o. object_with o.uid)
+  pub own_restated : OwnIsRestated
+  pub other_kept : OtherIsKept
+  pub restated_keeps : RestatedKeeps
+  pub names_kept : NamesAreKept
+  pub identifiers_kept : UidsAreKept
+  pub named_restated : NamedIsRestated
+  pub identified_restated : IdentifiedIsRestated
+  pub names_stay : StaysDistinct DistinctNames
+  pub identifiers_stay : StaysDistinct DistinctUids

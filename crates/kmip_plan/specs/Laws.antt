@@ -14,6 +14,31 @@ use Rattle.kmip_plan.specs.declared.target.Target.{Target}
 use Rattle.kmip_plan.specs.Chains.{chain, states, step_at, state_after, moved_by, place_of, place_reached, step_place, is_revoked, key_bound, bound}
 use Rattle.kmip_plan.specs.Plans.{IsLawful, EachFits, key_fits, key_named, IsPlanned}
 use Rattle.kmip_plan.specs.Chains.{LeadsOn}
+use Rattle.kmip_plan.specs.ChainLaws.{
+  WaysLeadToThemselves,
+  WaysLeadOnAgain,
+  PlacesAndSteps,
+  StepsStandFromOne,
+  StepsAreWithin,
+  NextStepsStand,
+  CreateIsFirst,
+  RevokesAreOfTheRevoked,
+  StatesAreAsMany,
+  StatesStandFromOne,
+  PlacesAreWithin,
+  ReachedIsWithin,
+  PreActiveIsFirst,
+  DueStepsAdvance,
+  NextStepsAreRows,
+  DueStepsJoinTheDone,
+  FurtherWaysAreNoShorter,
+  StepsStandOnward,
+  StepsKeepTheirPlaces,
+  StatesStandOnward,
+  StatesKeepTheirPlaces,
+  ReachedIsNoLess,
+  RevokesStay,
+}
 use Rattle.kmip_plan.specs.Prolonging.{GoesOn, Prolongs}
 use Rattle.kmip_plan.specs.TargetWords.{target_word, target_of_word}
 
@@ -80,3 +105,42 @@ OldKeysAreFound =
 -- The new plan has no fewer keys.
 abbrev pub NewPlansAreNoShorter : Type 0
 NewPlansAreNoShorter = (new old : List Key) → Prolongs new old → length old ≤ length new
+
+-- What holds of the keys and the chains of all plans, as the crates above need it.
+pub record PlanLaws : Type 0 where
+  pub found : KeysAreFound
+  pub stand : FoundKeysStand
+  pub distinct : NamesAreDistinct
+  pub fit : KeysFit
+  pub reasons : ReasonsAreNoCompromise
+  pub bounds : BoundsAddUp
+  pub way_itself : WaysLeadToThemselves
+  pub way_again : WaysLeadOnAgain
+  pub key_itself : KeysGoOnFromThemselves
+  pub key_again : KeysGoOnAgain
+  pub plan_itself : PlansProlongThemselves
+  pub plan_again : PlansProlongAgain
+  pub old_stand : OldKeysStand
+  pub old_found : OldKeysAreFound
+  pub no_shorter : NewPlansAreNoShorter
+  pub places : PlacesAndSteps
+  pub steps_stand : StepsStandFromOne
+  pub steps_within : StepsAreWithin
+  pub next_step : NextStepsStand
+  pub create : CreateIsFirst
+  pub revoke : RevokesAreOfTheRevoked
+  pub states_as_many : StatesAreAsMany
+  pub states_stand : StatesStandFromOne
+  pub places_within : PlacesAreWithin
+  pub reached : ReachedIsWithin
+  pub first : PreActiveIsFirst
+  pub advance : DueStepsAdvance
+  pub row : NextStepsAreRows
+  pub join : DueStepsJoinTheDone
+  pub ways_no_shorter : FurtherWaysAreNoShorter
+  pub steps_onward : StepsStandOnward
+  pub step_places : StepsKeepTheirPlaces
+  pub states_onward : StatesStandOnward
+  pub state_places : StatesKeepTheirPlaces
+  pub no_less : ReachedIsNoLess
+  pub revokes_stay : RevokesStay

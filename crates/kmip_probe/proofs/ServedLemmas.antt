@@ -16,7 +16,7 @@ use Rattle.kmip_probe.specs.Asking.{next_inquiry}
 use Rattle.kmip_probe.specs.Inquiries.{attributes_with, name_of}
 use Rattle.kmip_probe.specs.Private.{HasServedNext}
 use Rattle.kmip_probe.specs.Serving.{IsUnprobed, object_of, outcomes_of}
-use Rattle.kmip_probe.specs.Private.{ProbeLaws}
+use Rattle.kmip_objects.specs.ObjectLaws.{ObjectLaws}
 use Rattle.kmip_probe.specs.TwoObjects.{AreServed, AreStanding, state_at}
 use Rattle.kmip_probe.specs.declared.answer.Answer.{Answer}
 use Rattle.kmip_probe.specs.declared.answer.Answer.TheVariants.{Told}
@@ -82,134 +82,134 @@ unchanged prefix first second before wanted outcome answer old new are (is, same
 
 -- ---- the questions, in order
 
-at_0 : ProbeLaws → (prefix : List ℕ) → Case prefix 0
+at_0 : ObjectLaws → (prefix : List ℕ) → Case prefix 0
 at_0 l prefix first second answer old new s (outcome, step, says, room) =
     let t = stands prefix first second 0 old s in
     unchanged prefix first second (until prefix first second 0) (Located []) outcome answer old new refl (found l (Some (pos 5)) t step) says room t
 
-at_1 : ProbeLaws → (prefix : List ℕ) → Case prefix 1
+at_1 : ObjectLaws → (prefix : List ℕ) → Case prefix 1
 at_1 l prefix first second answer old new s (outcome, step, says, room) =
     let t = stands prefix first second 1 old s in
     unchanged prefix first second (until prefix first second 1) (Located []) outcome answer old new refl (found l (Some (pos 5)) (turned t) step) says room t
 
-at_2 : ProbeLaws → (prefix : List ℕ) → Case prefix 2
+at_2 : ObjectLaws → (prefix : List ℕ) → Case prefix 2
 at_2 l prefix first second answer old new s (outcome, step, says, room) =
     let t = stands prefix first second 2 old s in
     let (fresh, is, now) = comes l (second_apart prefix) t step in
     changed prefix fresh second (until prefix fresh second 2) (Created fresh) outcome answer old new refl is says room now
 
-at_3 : ProbeLaws → (prefix : List ℕ) → Case prefix 3
+at_3 : ObjectLaws → (prefix : List ℕ) → Case prefix 3
 at_3 l prefix first second answer old new s (outcome, step, says, room) =
     let t = stands prefix first second 3 old s in
     unchanged prefix first second (until prefix first second 3) (Failed (Some REASON_NON_UNIQUE_NAME)) outcome answer old new refl (used t step) says room t
 
-at_4 : ProbeLaws → (prefix : List ℕ) → Case prefix 4
+at_4 : ObjectLaws → (prefix : List ℕ) → Case prefix 4
 at_4 l prefix first second answer old new s (outcome, step, says, room) =
     let t = stands prefix first second 4 old s in
     unchanged prefix first second (until prefix first second 4) (Located (first ∷ [])) outcome answer old new refl (found l None t step) says room t
 
-at_5 : ProbeLaws → (prefix : List ℕ) → Case prefix 5
+at_5 : ObjectLaws → (prefix : List ℕ) → Case prefix 5
 at_5 l prefix first second answer old new s (outcome, step, says, room) =
     let t = stands prefix first second 5 old s in
     unchanged prefix first second (until prefix first second 5) (Located (first ∷ [])) outcome answer old new refl (found l (Some (pos 1)) t step) says room t
 
-at_6 : ProbeLaws → (prefix : List ℕ) → Case prefix 6
+at_6 : ObjectLaws → (prefix : List ℕ) → Case prefix 6
 at_6 l prefix first second answer old new s (outcome, step, says, room) =
     let t = stands prefix first second 6 old s in
     unchanged prefix first second (until prefix first second 6) (Located []) outcome answer old new refl (found l (Some (pos 4)) t step) says room t
 
-at_7 : ProbeLaws → (prefix : List ℕ) → Case prefix 7
+at_7 : ObjectLaws → (prefix : List ℕ) → Case prefix 7
 at_7 l prefix first second answer old new s (outcome, step, says, room) =
     let t = stands prefix first second 7 old s in
     unchanged prefix first second (until prefix first second 7) (Located (first ∷ [])) outcome answer old new refl (found l (Some (pos 5)) t step) says room t
 
-at_8 : ProbeLaws → (prefix : List ℕ) → Case prefix 8
+at_8 : ObjectLaws → (prefix : List ℕ) → Case prefix 8
 at_8 l prefix first second answer old new s (outcome, step, says, room) =
     let t = stands prefix first second 8 old s in
     unchanged prefix first second (until prefix first second 8) (Attributes first (attributes_of (object_of First prefix first PreActive))) outcome answer old new refl (read l t step) says room t
 
-at_9 : ProbeLaws → (prefix : List ℕ) → Case prefix 9
+at_9 : ObjectLaws → (prefix : List ℕ) → Case prefix 9
 at_9 l prefix first second answer old new s (outcome, step, says, room) =
     let t = stands prefix first second 9 old s in
     let (is, now) = taken l steps.Activate Active (second_apart prefix) refl refl t step in
     changed prefix first second (until prefix first second 9) (Activated first) outcome answer old new refl is says room now
 
-at_10 : ProbeLaws → (prefix : List ℕ) → Case prefix 10
+at_10 : ObjectLaws → (prefix : List ℕ) → Case prefix 10
 at_10 l prefix first second answer old new s (outcome, step, says, room) =
     let t = stands prefix first second 10 old s in
     unchanged prefix first second (until prefix first second 10) (Failed (Some REASON_WRONG_STATE)) outcome answer old new refl (refused l steps.Activate refl refl t step) says room t
 
-at_11 : ProbeLaws → (prefix : List ℕ) → Case prefix 11
+at_11 : ObjectLaws → (prefix : List ℕ) → Case prefix 11
 at_11 l prefix first second answer old new s (outcome, step, says, room) =
     let t = stands prefix first second 11 old s in
     let (is, now) = taken l steps.Revoke Deactivated (second_apart prefix) refl refl t step in
     changed prefix first second (until prefix first second 11) (Revoked first) outcome answer old new refl is says room now
 
-at_12 : ProbeLaws → (prefix : List ℕ) → Case prefix 12
+at_12 : ObjectLaws → (prefix : List ℕ) → Case prefix 12
 at_12 l prefix first second answer old new s (outcome, step, says, room) =
     let t = stands prefix first second 12 old s in
     unchanged prefix first second (until prefix first second 12) (Failed (Some REASON_WRONG_STATE)) outcome answer old new refl (refused l steps.Revoke refl refl t step) says room t
 
-at_13 : ProbeLaws → (prefix : List ℕ) → Case prefix 13
+at_13 : ObjectLaws → (prefix : List ℕ) → Case prefix 13
 at_13 l prefix first second answer old new s (outcome, step, says, room) =
     let t = stands prefix first second 13 old s in
     let (fresh, is, now) = comes l (first_apart prefix) (turned t) step in
     changed prefix first fresh (until prefix first fresh 13) (Created fresh) outcome answer old new refl is says room (turned now)
 
-at_14 : ProbeLaws → (prefix : List ℕ) → Case prefix 14
+at_14 : ObjectLaws → (prefix : List ℕ) → Case prefix 14
 at_14 l prefix first second answer old new s (outcome, step, says, room) =
     let t = stands prefix first second 14 old s in
     let (is, now) = taken l steps.Activate Active (first_apart prefix) refl refl (turned t) step in
     changed prefix first second (until prefix first second 14) (Activated second) outcome answer old new refl is says room (turned now)
 
-at_15 : ProbeLaws → (prefix : List ℕ) → Case prefix 15
+at_15 : ObjectLaws → (prefix : List ℕ) → Case prefix 15
 at_15 l prefix first second answer old new s (outcome, step, says, room) =
     let t = stands prefix first second 15 old s in
     unchanged prefix first second (until prefix first second 15) (Failed (Some REASON_WRONG_STATE)) outcome answer old new refl (refused l steps.Destroy refl refl (turned t) step) says room t
 
-at_16 : ProbeLaws → (prefix : List ℕ) → Case prefix 16
+at_16 : ObjectLaws → (prefix : List ℕ) → Case prefix 16
 at_16 l prefix first second answer old new s (outcome, step, says, room) =
     let t = stands prefix first second 16 old s in
     let (is, now) = taken l steps.Destroy Destroyed (second_apart prefix) refl refl t step in
     changed prefix first second (until prefix first second 16) (outcomes.Destroyed first) outcome answer old new refl is says room now
 
-at_17 : ProbeLaws → (prefix : List ℕ) → Case prefix 17
+at_17 : ObjectLaws → (prefix : List ℕ) → Case prefix 17
 at_17 l prefix first second answer old new s (outcome, step, says, room) =
     let t = stands prefix first second 17 old s in
     unchanged prefix first second (until prefix first second 17) (Failed (Some REASON_WRONG_STATE)) outcome answer old new refl (refused l steps.Destroy refl refl t step) says room t
 
-at_18 : ProbeLaws → (prefix : List ℕ) → Case prefix 18
+at_18 : ObjectLaws → (prefix : List ℕ) → Case prefix 18
 at_18 l prefix first second answer old new s (outcome, step, says, room) =
     let t = stands prefix first second 18 old s in
     unchanged prefix first second (until prefix first second 18) (Failed (Some REASON_NON_UNIQUE_NAME)) outcome answer old new refl (used t step) says room t
 
-at_19 : ProbeLaws → (prefix : List ℕ) → Case prefix 19
+at_19 : ObjectLaws → (prefix : List ℕ) → Case prefix 19
 at_19 l prefix first second answer old new s (outcome, step, says, room) =
     let t = stands prefix first second 19 old s in
     unchanged prefix first second (until prefix first second 19) (Located []) outcome answer old new refl (found l None t step) says room t
 
-at_20 : ProbeLaws → (prefix : List ℕ) → Case prefix 20
+at_20 : ObjectLaws → (prefix : List ℕ) → Case prefix 20
 at_20 l prefix first second answer old new s (outcome, step, says, room) =
     let t = stands prefix first second 20 old s in
     unchanged prefix first second (until prefix first second 20) (Located []) outcome answer old new refl (found l (Some (pos 1)) t step) says room t
 
-at_21 : ProbeLaws → (prefix : List ℕ) → Case prefix 21
+at_21 : ObjectLaws → (prefix : List ℕ) → Case prefix 21
 at_21 l prefix first second answer old new s (outcome, step, says, room) =
     let t = stands prefix first second 21 old s in
     unchanged prefix first second (until prefix first second 21) (Located (first ∷ [])) outcome answer old new refl (found l (Some (pos 4)) t step) says room t
 
-at_22 : ProbeLaws → (prefix : List ℕ) → Case prefix 22
+at_22 : ObjectLaws → (prefix : List ℕ) → Case prefix 22
 at_22 l prefix first second answer old new s (outcome, step, says, room) =
     let t = stands prefix first second 22 old s in
     unchanged prefix first second (until prefix first second 22) (Located (first ∷ [])) outcome answer old new refl (found l (Some (pos 5)) t step) says room t
 
-at_23 : ProbeLaws → (prefix : List ℕ) → Case prefix 23
+at_23 : ObjectLaws → (prefix : List ℕ) → Case prefix 23
 at_23 l prefix first second answer old new s (outcome, step, says, room) =
     let t = stands prefix first second 23 old s in
     let (is, now) = taken l steps.Revoke Deactivated (first_apart prefix) refl refl (turned t) step in
     changed prefix first second (until prefix first second 23) (Revoked second) outcome answer old new refl is says room (turned now)
 
-at_24 : ProbeLaws → (prefix : List ℕ) → Case prefix 24
+at_24 : ObjectLaws → (prefix : List ℕ) → Case prefix 24
 at_24 l prefix first second answer old new s (outcome, step, says, room) =
     let t = stands prefix first second 24 old s in
     let (is, now) = taken l steps.Destroy Destroyed (first_apart prefix) refl refl (turned t) step in
@@ -226,7 +226,7 @@ fives P bound a b c d e behind (suc (suc (suc zero))) less = d
 fives P bound a b c d e behind (suc (suc (suc (suc zero)))) less = e
 fives P bound a b c d e behind (suc (suc (suc (suc (suc n))))) less = behind n (omega (arith, less))
 
-case_at : ProbeLaws → (prefix : List ℕ) (count : ℕ) → count < 25 → Case prefix count
+case_at : ObjectLaws → (prefix : List ℕ) (count : ℕ) → count < 25 → Case prefix count
 case_at l prefix =
     fives (Case prefix) 20 (at_0 l prefix) (at_1 l prefix) (at_2 l prefix) (at_3 l prefix) (at_4 l prefix)
     (fives _ 15 (at_5 l prefix) (at_6 l prefix) (at_7 l prefix) (at_8 l prefix) (at_9 l prefix)
@@ -263,7 +263,7 @@ nothing_served prefix p free =
       };
     }
 
-pub one_served : ProbeLaws → (prefix : List ℕ) (answers : List Answer) (answer : Answer) (old new : Past) → length answers < 25 → AreServed prefix answers old
+pub one_served : ObjectLaws → (prefix : List ℕ) (answers : List Answer) (answer : Answer) (old new : Past) → length answers < 25 → AreServed prefix answers old
     → HasServedNext prefix answers answer old new → AreServed prefix (answers ++ answer ∷ []) new
 one_served l prefix answers answer old new few s next =
     subst (λ xs. AreServed prefix (xs ++ answer ∷ []) new) (sym s.answers_are)

@@ -25,7 +25,7 @@ use Rattle.kmip_batch_items.specs.declared.standard.TheConstants.{REASON_NON_UNI
 use Rattle.kmip_store.specs.Locating.{is_searched, is_wanted, locate}
 use Rattle.kmip_server.specs.ServerStep as rows
 use Rattle.kmip_server.specs.ServerStep.{ServerStep, step_asked, success_of}
-use Rattle.kmip_probe.specs.Private.{ProbeLaws}
+use Rattle.kmip_objects.specs.ObjectLaws.{ObjectLaws}
 use Rattle.kmip_probe.specs.TwoObjects.{missing}
 
 -- the object with these attributes
@@ -106,14 +106,14 @@ used_by room old new attrs o ask outcome is there (rows.wrong_state h i j) = abs
 used_by room old new attrs o ask outcome is there (rows.done h i j) = absurd (no_step_asked attrs ask _ _ is h)
 
 -- another object, where it is made, is found beside one more
-other_found : (l : ProbeLaws) (name : List ℕ) (old : List Object) (x : Object) (found : Option Object) → name ≢ x.attrs.name → object_named name old ≡ found
+other_found : (l : ObjectLaws) (name : List ℕ) (old : List Object) (x : Object) (found : Option Object) → name ≢ x.attrs.name → object_named name old ≡ found
     → object_named name (old ++ x ∷ []) ≡ found
 other_found l name old x None apart is =
     let alone : object_named name (x ∷ []) ≡ None = rw (other_text name x.attrs.name apart) refl in
-    l.among name old (x ∷ []) is ∙ alone
-other_found l name old x (Some o) apart is = l.before name old (x ∷ []) o is
+    l.named_among name old (x ∷ []) is ∙ alone
+other_found l name old x (Some o) apart is = l.named_before name old (x ∷ []) o is
 
-one_more : (l : ProbeLaws) (room : ℕ) (old : List Object) (own other : KeyAttrs) (uid fresh beside : List ℕ) (its : Option KeyState) → other.name ≢ own.name
+one_more : (l : ObjectLaws) (room : ℕ) (old : List Object) (own other : KeyAttrs) (uid fresh beside : List ℕ) (its : Option KeyState) → other.name ≢ own.name
     → TwoStand room old own other uid beside None its → object_with fresh old ≡ None
     → TwoStand room (old ++ made own fresh PreActive ∷ []) own other fresh beside (Some PreActive) its
 one_more l room old own other uid fresh beside its apart s free =
@@ -121,15 +121,15 @@ one_more l room old own other uid fresh beside its apart s free =
     let alone : object_named own.name (x ∷ []) ≡ Some x = rw (same_text own.name own.name refl) refl in
     let enough = s.roomy in
     record {
-      names_differ = l.names old x s.names_differ s.own_is;
-      uids_differ = l.uids old x s.uids_differ free;
-      own_is = l.among own.name old (x ∷ []) s.own_is ∙ alone;
+      names_differ = l.one_more_name old x s.names_differ s.own_is;
+      uids_differ = l.one_more_identifier old x s.uids_differ free;
+      own_is = l.named_among own.name old (x ∷ []) s.own_is ∙ alone;
       other_is = other_found l other.name old x (option_map (made other beside) its) apart s.other_is;
       roomy = omega (arith, length-append old (x ∷ []), enough);
     }
 
 -- a Create with a name that is free
-pub comes : (l : ProbeLaws) {room : ℕ} {old new : List Object} {own other : KeyAttrs} {uid beside : List ℕ} {its : Option KeyState} {outcome : Outcome}
+pub comes : (l : ObjectLaws) {room : ℕ} {old new : List Object} {own other : KeyAttrs} {uid beside : List ℕ} {its : Option KeyState} {outcome : Outcome}
     → other.name ≢ own.name → TwoStand room old own other uid beside None its → ServerStep room old (asks.Create own) outcome new
     → (fresh : List ℕ) × (outcome ≡ Created fresh) × TwoStand room new own other fresh beside (Some PreActive) its
 comes l {room} {old} {new} {own} {other} {uid} {beside} {its} {outcome} apart s step =
@@ -185,7 +185,7 @@ both p q (x ∷ xs) = elim (cases_Bool (q x)) [
 abbrev pub found_by : Option ℤ → Option Object → List (List ℕ)
 found_by mask found = map (λ o. o.uid) (filter (λ (o : Object). is_searched mask o.state) (option_to_list found))
 
-located_is : (l : ProbeLaws) (mask : Option ℤ) (name : List ℕ) (objects : List Object) → DistinctNames objects
+located_is : (l : ObjectLaws) (mask : Option ℤ) (name : List ℕ) (objects : List Object) → DistinctNames objects
     → locate mask (by_name name) objects ≡ found_by mask (object_named name objects)
 located_is l mask name objects distinct =
     ap (map (λ (o : Object). o.uid))
@@ -194,7 +194,7 @@ located_is l mask name objects distinct =
     ∙ both (λ (o : Object). is_searched mask o.state) (λ (o : Object). pointwise nat_eq name o.attrs.name) objects
     ∙ ap (filter (λ (o : Object). is_searched mask o.state)) (l.all_named name objects distinct))
 
-pub found : (l : ProbeLaws) (mask : Option ℤ) {room : ℕ} {old new : List Object} {own other : KeyAttrs} {uid beside : List ℕ} {state its : Option KeyState}
+pub found : (l : ObjectLaws) (mask : Option ℤ) {room : ℕ} {old new : List Object} {own other : KeyAttrs} {uid beside : List ℕ} {state its : Option KeyState}
     {outcome : Outcome} → TwoStand room old own other uid beside state its → ServerStep room old (asks.Locate mask (by_name own.name)) outcome new
     → (outcome ≡ Located (found_by mask (option_map (made own uid) state))) × (new ≡ old)
 found l mask {room} {old} {new} {own} {other} {uid} {beside} {state} {its} {outcome} s step =
@@ -227,12 +227,12 @@ told_by room old new own o ask outcome is there (rows.not_found h i) = absurd (n
 told_by room old new own o ask outcome is there (rows.wrong_state h i j) = absurd (no_step_told own ask _ _ is h)
 told_by room old new own o ask outcome is there (rows.done h i j) = absurd (no_step_told own ask _ _ is h)
 
-pub read : (l : ProbeLaws) {room : ℕ} {old new : List Object} {own other : KeyAttrs} {uid beside : List ℕ} {state : KeyState} {its : Option KeyState}
+pub read : (l : ObjectLaws) {room : ℕ} {old new : List Object} {own other : KeyAttrs} {uid beside : List ℕ} {state : KeyState} {its : Option KeyState}
     {outcome : Outcome} → TwoStand room old own other uid beside (Some state) its → ServerStep room old (asks.GetAttributes uid) outcome new
     → (outcome ≡ Attributes uid (attributes_of (made own uid state))) × (new ≡ old)
 read l {room} {old} {new} {own} {other} {uid} {beside} {state} {its} {outcome} s step =
     told_by room old new uid (made own uid state) (asks.GetAttributes uid) outcome refl
-    (l.identified own.name old (made own uid state) s.uids_differ s.own_is) step
+    (l.by_identifier own.name old (made own uid state) s.uids_differ s.own_is) step
 
 -- ---- a step
 
@@ -270,48 +270,48 @@ stepped_by room old new own o step ask outcome asked there (rows.done {step = s}
     (ap (λ t. success_of t u) parts.0 ∙ ap (success_of step) parts.1, ap (λ v. all_restated v state old) parts.1)
 
 -- a step that the lifecycle has no row for
-pub refused : (l : ProbeLaws) (step : Step) {room : ℕ} {old new : List Object} {own other : KeyAttrs} {uid beside : List ℕ} {state : KeyState}
+pub refused : (l : ObjectLaws) (step : Step) {room : ℕ} {old new : List Object} {own other : KeyAttrs} {uid beside : List ℕ} {state : KeyState}
     {its : Option KeyState} {ask : Ask} {outcome : Outcome} → step_asked ask ≡ Some (step, uid) → after state step ≡ None
     → TwoStand room old own other uid beside (Some state) its → ServerStep room old ask outcome new → (outcome ≡ Failed (Some REASON_WRONG_STATE)) × (new ≡ old)
 refused l step {room} {old} {new} {own} {other} {uid} {beside} {state} {its} {ask} {outcome} asked row s served =
     subst (Steps old new uid step outcome) row
-    (stepped_by room old new uid (made own uid state) step ask outcome asked (l.identified own.name old (made own uid state) s.uids_differ s.own_is) served)
+    (stepped_by room old new uid (made own uid state) step ask outcome asked (l.by_identifier own.name old (made own uid state) s.uids_differ s.own_is) served)
 
-other_uid : (l : ProbeLaws) (room : ℕ) (old : List Object) (own other : KeyAttrs) (uid beside : List ℕ) (state its : KeyState) → other.name ≢ own.name
+other_uid : (l : ObjectLaws) (room : ℕ) (old : List Object) (own other : KeyAttrs) (uid beside : List ℕ) (state its : KeyState) → other.name ≢ own.name
     → TwoStand room old own other uid beside (Some state) (Some its) → beside ≢ uid
 other_uid l room old own other uid beside state its apart s same =
-    let here = l.identified own.name old (made own uid state) s.uids_differ s.own_is in
-    let there = l.identified other.name old (made other beside its) s.uids_differ s.other_is in
+    let here = l.by_identifier own.name old (made own uid state) s.uids_differ s.own_is in
+    let there = l.by_identifier other.name old (made other beside its) s.uids_differ s.other_is in
     apart (ap (λ (o : Object). o.attrs.name) (same_Some _ _ (sym there ∙ ap (λ u. object_with u old) same ∙ here)))
 
-other_kept : (l : ProbeLaws) (room : ℕ) (old : List Object) (own other : KeyAttrs) (uid beside : List ℕ) (state next : KeyState) (its : Option KeyState)
+other_kept : (l : ObjectLaws) (room : ℕ) (old : List Object) (own other : KeyAttrs) (uid beside : List ℕ) (state next : KeyState) (its : Option KeyState)
     → other.name ≢ own.name → TwoStand room old own other uid beside (Some state) its
     → option_map (restated uid next) (option_map (made other beside) its) ≡ option_map (made other beside) its
 other_kept l room old own other uid beside state next None apart s = refl
 other_kept l room old own other uid beside state next (Some its) apart s =
-    ap (λ (o : Object). Some o) (l.other uid next (made other beside its) (other_uid l room old own other uid beside state its apart s))
+    ap (λ (o : Object). Some o) (l.other_kept uid next (made other beside its) (other_uid l room old own other uid beside state its apart s))
 
-restates : (l : ProbeLaws) (room : ℕ) (old : List Object) (own other : KeyAttrs) (uid beside : List ℕ) (state next : KeyState) (its : Option KeyState)
+restates : (l : ObjectLaws) (room : ℕ) (old : List Object) (own other : KeyAttrs) (uid beside : List ℕ) (state next : KeyState) (its : Option KeyState)
     → other.name ≢ own.name → TwoStand room old own other uid beside (Some state) its
     → TwoStand room (all_restated uid next old) own other uid beside (Some next) its
 restates l room old own other uid beside state next its apart s =
     let enough = s.roomy in
     record {
       names_differ = l.names_stay uid next old s.names_differ;
-      uids_differ = l.uids_stay uid next old s.uids_differ;
-      own_is = l.renamed own.name uid next old ∙ ap (option_map (restated uid next)) s.own_is
-          ∙ ap (λ (o : Object). Some o) (l.own uid next (made own uid state) refl);
-      other_is = l.renamed other.name uid next old ∙ ap (option_map (restated uid next)) s.other_is
+      uids_differ = l.identifiers_stay uid next old s.uids_differ;
+      own_is = l.named_restated own.name uid next old ∙ ap (option_map (restated uid next)) s.own_is
+          ∙ ap (λ (o : Object). Some o) (l.own_restated uid next (made own uid state) refl);
+      other_is = l.named_restated other.name uid next old ∙ ap (option_map (restated uid next)) s.other_is
           ∙ other_kept l room old own other uid beside state next its apart s;
       roomy = omega (arith, length-map old (restated uid next), enough);
     }
 
 -- a step that it has one for
-pub taken : (l : ProbeLaws) (step : Step) (next : KeyState) {room : ℕ} {old new : List Object} {own other : KeyAttrs} {uid beside : List ℕ} {state : KeyState}
+pub taken : (l : ObjectLaws) (step : Step) (next : KeyState) {room : ℕ} {old new : List Object} {own other : KeyAttrs} {uid beside : List ℕ} {state : KeyState}
     {its : Option KeyState} {ask : Ask} {outcome : Outcome} → other.name ≢ own.name → step_asked ask ≡ Some (step, uid) → after state step ≡ Some next
     → TwoStand room old own other uid beside (Some state) its → ServerStep room old ask outcome new
     → (outcome ≡ success_of step uid) × TwoStand room new own other uid beside (Some next) its
 taken l step next {room} {old} {new} {own} {other} {uid} {beside} {state} {its} {ask} {outcome} apart asked row s served =
-    let here = l.identified own.name old (made own uid state) s.uids_differ s.own_is in
+    let here = l.by_identifier own.name old (made own uid state) s.uids_differ s.own_is in
     let (is, now) = subst (Steps old new uid step outcome) row (stepped_by room old new uid (made own uid state) step ask outcome asked here served) in
     (is, subst (λ objects. TwoStand room objects own other uid beside (Some next) its) (sym now) (restates l room old own other uid beside state next its apart s))

@@ -13,8 +13,6 @@ use Rattle.kmip_probe.specs.Answers.{answer_with}
 use Rattle.kmip_probe.specs.Asking.{IsNext, IsPut, message_after, next_inquiry, request_for}
 use Rattle.kmip_probe.specs.declared.answer.Answer.{Answer}
 use Rattle.kmip_probe.specs.declared.answer.Answer.TheVariants.{Nothing, Told}
-use Rattle.kmip_objects.specs.ObjectLaws.{NamedIsIdentified, NamedIsAll, NamedBeforeMore, NamedAmongMore, OneMore, OwnIsRestated, OtherIsKept, RestatedKeeps, NamedIsRestated, StaysDistinct}
-use Rattle.kmip_objects.specs.Objects.{DistinctNames, DistinctUids, object_named, object_with}
 
 -- The message was sent this many times, and each time no reply came
 pub record HasLost (message : List ℕ) (count : ℕ) (old new : Past) : Type 0 where
@@ -61,18 +59,3 @@ HasServed (Some request) answer old new =
 -- The server has taken a step for the question that follows these answers, which the answer tells
 abbrev pub HasServedNext : List ℕ → List Answer → Answer → Past → Past → Type 0
 HasServedNext prefix before answer old new = HasServed (option_and_then (request_for prefix before) (next_inquiry before)) answer old new
-
--- The laws of the crates below.
-pub record ProbeLaws : Type 0 where
-  pub identified : NamedIsIdentified
-  pub all_named : NamedIsAll
-  pub before : NamedBeforeMore
-  pub among : NamedAmongMore
-  pub names : OneMore DistinctNames (λ o. object_named o.attrs.name)
-  pub uids : OneMore DistinctUids (λ o. object_with o.uid)
-  pub own : OwnIsRestated
-  pub other : OtherIsKept
-  pub keeps : RestatedKeeps
-  pub renamed : NamedIsRestated
-  pub names_stay : StaysDistinct DistinctNames
-  pub uids_stay : StaysDistinct DistinctUids

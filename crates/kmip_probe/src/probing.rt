@@ -11,7 +11,6 @@ ghost use Rattle.kmip_probe.specs.Asking.{is_free_at, next_inquiry, part, uid_of
 ghost use Rattle.kmip_probe.specs.Inquiries.{is_prefix, most_messages, most_sends};
 ghost use Rattle.kmip_probe.specs.Serving.{IsUnprobed, outcomes_of};
 ghost use Rattle.kmip_probe.specs.TwoObjects.{AreServed};
-ghost use Rattle.kmip_probe.specs.Private.{ProbeLaws};
 ghost use Rattle.kmip_probe.specs.Putting.{AreAsked, AreSentOnce, AsksOn, SendsOnce};
 ghost use Rattle.kmip_probe.specs.Private.{HasAsked, HasPut, HasReplied, HasSent, HasServedNext};
 
@@ -22,10 +21,10 @@ use crate::inquiry::{
 };
 use crate::which::Which;
 use kmip_batch_items::{Ask, Request};
-use kmip_messages::laws::answer_laws;
+use kmip_messages::laws::the_laws_of_messages_hold;
 use kmip_messages::write_request;
-use kmip_objects::laws::{added_laws, found_laws, restated_laws};
-use kmip_protocol::laws::deliveries_keep_the_requests;
+use kmip_objects::laws::the_laws_of_objects_hold;
+use kmip_protocol::laws::the_laws_of_exchanges_hold;
 use kmip_protocol::{ExchangeObserver, Link, LinkFault, NoReplyReason, answer_or_loss};
 use kmip_ttlv::{Bytes, NoMemory, Text};
 use std::alloc::Global;
@@ -134,7 +133,7 @@ pub fn ask_on<L: Link, O: ExchangeObserver>(
         ((L.seen link.new).calm names × AreServed prefix.now answers.new.items
         (L.seen link.new).past) }
 {
-    laws_below();
+    the_laws_of_objects_hold(); // proof
     for _ in answers.len()..most {
         let Some(inquiry) = next_inquiry(answers.as_slice()) else {
             return Ok(());
@@ -143,15 +142,6 @@ pub fn ask_on<L: Link, O: ExchangeObserver>(
         answers.push(answer)?;
     }
     Ok(())
-}
-
-/// The laws of the crates below.
-fn laws_below()
-    ensures { ProbeLaws }
-{
-    found_laws();
-    added_laws();
-    restated_laws();
 }
 
 /// The question that follows these answers, where one does.
@@ -279,7 +269,7 @@ fn ask<L: Link, O: ExchangeObserver>(
         × IfOk result (λ answer. HasReplied request.now number prefix.now answer
         (L.seen link.old).past (L.seen link.new).past) }
 {
-    answer_laws();
+    the_laws_of_messages_hold(); // proof
     let bytes = write_request(alloc, std::slice::from_ref(request))?;
     let handed = send_up_to(alloc, link, request, bytes.as_slice(), most, observer)?;
     answer_to(alloc, number, prefix, handed, observer)
@@ -308,7 +298,7 @@ fn send_up_to<L: Link, O: ExchangeObserver>(
         × IfOk result (λ reply. Calmly (L.seen link.old).past message.now
         (option_map (λ v. v.items) reply) (L.seen link.new).past) }
 {
-    deliveries_keep_the_requests();
+    the_laws_of_exchanges_hold(); // proof
     for _turn in 0..most {
         observer.asking(std::slice::from_ref(request));
         let answered = link.exchange(alloc, message);

@@ -26,16 +26,16 @@ use Rattle.kmip_protocol.proofs.TurnLemmas.{mirrored_requests}
 
 one_keeps : (l : Lawbook) (keys : List Key) (one : Meanwhile) (p : Past) → Sound keys p → MayBe keys one p
     → Sound keys (after_meanwhile one p) × Onward keys p.objects (after_meanwhile one p).objects
-one_keeps l keys (OthersAsk requests) p sound just = (asked_sound keys p requests sound just, l.itself keys p.objects)
+one_keeps l keys (OthersAsk requests) p sound just = (asked_sound keys p requests sound just, l.client.itself keys p.objects)
 one_keeps l keys (Occurs move) p sound may = move_keeps l keys move p sound may
 
 all_keep : (l : Lawbook) (keys : List Key) (more : List Meanwhile) (p : Past) → Sound keys p → AllMayBe keys more p
     → Sound keys (after_all more p) × Onward keys p.objects (after_all more p).objects
-all_keep l keys [] p sound may = (sound, l.itself keys p.objects)
+all_keep l keys [] p sound may = (sound, l.client.itself keys p.objects)
 all_keep l keys (one ∷ more) p sound may =
     let first = one_keeps l keys one p sound may.0 in
     let rest = all_keep l keys more (after_meanwhile one p) first.0 may.1 in
-    (rest.0, l.twice keys p.objects (after_meanwhile one p).objects (after_all more (after_meanwhile one p)).objects first.1 rest.1)
+    (rest.0, l.client.twice keys p.objects (after_meanwhile one p).objects (after_all more (after_meanwhile one p)).objects first.1 rest.1)
 
 pub passed_keeps : (l : Lawbook) (keys : List Key) (old new : Past) → Sound keys old → PassedAmid keys old new
     → Sound keys new × Onward keys old.objects new.objects

@@ -65,7 +65,7 @@ stays_there : (l : Lawbook) (keys : List Key) (old new : Past) (key : Key) → S
     → steps_on key.attrs.name new.effects ≡ steps_on key.attrs.name old.effects → Arrives key old new
 stays_there l keys old new key sound after planned asked same =
     let here : position key new.objects ≡ position key old.objects =
-    front_same (chain key.target) (position key old.objects) (position key new.objects) (position_within l.reached key old.objects) (position_within l.reached key new.objects)
+    front_same (chain key.target) (position key old.objects) (position key new.objects) (position_within l.plan.reached key old.objects) (position_within l.plan.reached key new.objects)
     (sym (after.effects.planned key planned) ∙ same ∙ sound.effects.planned key planned) in
     as_it_was here (ap (λ requests. under_way_at key requests (position key new.objects)) asked ∙ ap (under_way_at key old.requests) here)
 
@@ -77,7 +77,7 @@ takes_effect l keys old new key step sound after planned same more asked =
     let q : ℕ = position key new.objects in
     let front : take q (chain key.target) ≡ take p (chain key.target) ++ step ∷ [] =
     sym (after.effects.planned key planned) ∙ more ∙ ap (λ steps. steps ++ step ∷ []) (sound.effects.planned key planned) in
-    let further : q ≡ p + 1 = front_more (chain key.target) p q step (position_within l.reached key old.objects) (position_within l.reached key new.objects) front in
+    let further : q ≡ p + 1 = front_more (chain key.target) p q step (position_within l.plan.reached key old.objects) (position_within l.plan.reached key new.objects) front in
     let one : p + 1 ≡ suc p = omega arith in
     let stands : step_at key.target (p + 1) ≡ Some step =
     ap (step_at key.target) one ∙ next_of_front (chain key.target) p step (ap (λ n. take n (chain key.target)) (sym (further ∙ one)) ∙ front) in
@@ -87,7 +87,7 @@ takes_effect l keys old new key step sound after planned same more asked =
           → option_map_or (was_asked key old.requests) found false ≡ false
       beyond None is further = refl
       beyond (Some next) is further =
-          let place = (l.places key.target (position key new.objects + 1) next (let some : 1 ≤ position key new.objects + 1 = omega arith in some)).0 is in
+          let place = (l.plan.places key.target (position key new.objects + 1) next (let some : 1 ≤ position key new.objects + 1 = omega arith in some)).0 is in
           none_beyond keys old key next sound planned (omega (arith, place, further))
 
 -- ---- one move
@@ -111,7 +111,7 @@ serve_arrives l keys old new key request reply objects joined sound after planne
           ∙ steps_more key.attrs.name old.effects (option_to_list joined)
           ∙ ap (λ steps. steps_on key.attrs.name old.effects ++ steps)
           (serves.effects key.attrs.name
-          ∙ sym (l.joins old.room old.objects objects request.ask reply.outcome sound.names sound.uids serves.step key.attrs.name)
+          ∙ sym (l.exchanges.joins old.room old.objects objects request.ask reply.outcome sound.names sound.uids serves.step key.attrs.name)
           ∙ ap (λ f. steps_on key.attrs.name (option_to_list f)) is)
 
       by_effect : (found : Option Effect) → effect_of old.objects request.ask reply.outcome ≡ found → Arrives key old new
@@ -140,7 +140,7 @@ moves_arrive : (l : Lawbook) (keys : List Key) (moves : List Move) (p : Past) (k
     → AllMayHappen (is_planned keys) moves p → Arrives key p (after_moves moves p)
 moves_arrive l keys [] p key sound planned may = as_it_was refl refl
 moves_arrive l keys (move ∷ moves) p key sound planned may =
-    let after = l.sound_after keys p (after_move move p) sound (record { moves = move ∷ []; may = (may.0, tt); is = refl }) in
+    let after = l.exchanges.deliveries keys p (after_move move p) sound (record { moves = move ∷ []; may = (may.0, tt); is = refl }) in
     arrives_twice key p (after_move move p) (after_moves moves (after_move move p)) (move_arrives l keys move p key sound after planned may.0)
     (moves_arrive l keys moves (after_move move p) key after planned may.1)
 

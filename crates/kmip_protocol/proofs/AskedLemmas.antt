@@ -122,10 +122,10 @@ effect_on_own l key objects ask step uid effect uids own is does = by_own (objec
   by_own : (found : Option Object) → object_named key.attrs.name objects ≡ found → option_map (λ o. o.uid) found ≡ Some uid → IsEffectOf key ask effect
   by_own None named same = absurd cc
   by_own (Some o) named same =
-      let with_uid : object_with uid objects ≡ Some o = ap (λ u. object_with u objects) (sym (same_Some o.uid uid same)) ∙ l.by_identifier key.attrs.name objects o uids named in
+      let with_uid : object_with uid objects ≡ Some o = ap (λ u. object_with u objects) (sym (same_Some o.uid uid same)) ∙ l.objects.by_identifier key.attrs.name objects o uids named in
       let it : Effect = record { name = o.attrs.name; step = step } in
       let one : it ≡ effect = same_Some it effect (ap (λ found. option_map (λ (x : Object). record { name = x.attrs.name; step = step }) found) (sym with_uid) ∙ does) in
-      (sym (l.named key.attrs.name objects o named).0 ∙ ap (λ (e : Effect). e.name) one, is ∙ ap (λ (e : Effect). Some e.step) one)
+      (sym (l.objects.named key.attrs.name objects o named).0 ∙ ap (λ (e : Effect). e.name) one, is ∙ ap (λ (e : Effect). Some e.step) one)
 
 effect_named : (l : Lawbook) (key : Key) (objects : List Object) (ask : Ask) (effect : Effect) → DistinctUids objects → MayAsk objects key ask
     → effect_asked objects ask ≡ Some effect → IsEffectOf key ask effect

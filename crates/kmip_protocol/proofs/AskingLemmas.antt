@@ -57,16 +57,16 @@ way_same key p requests request one other =
 -- the names of two keys differ
 pub names_apart : (l : Lawbook) (keys : List Key) (i j : ℕ) (key other : Key) → IsLawful keys → slice_get keys i ≡ Some key → slice_get keys j ≡ Some other → i ≢ j
     → key.attrs.name ≢ other.attrs.name
-names_apart l keys i j key other lawful here there apart = λ same. apart (l.distinct keys i j key other lawful here there same)
+names_apart l keys i j key other lawful here there apart = λ same. apart (l.plan.distinct keys i j key other lawful here there same)
 
 -- what the question about a key asks may be asked
 pub one_justified : (l : Lawbook) (keys : List Key) (p : Past) (knowns : List Knowledge) (place : ℕ) (w : WorksAt keys knowns place) → IsLawful keys
     → Held p.objects keys knowns → Justified keys p.objects (request_about w.key w.known)
 one_justified l keys p knowns place w lawful held = record {
   key = w.key;
-  is_planned = l.found keys place w.key lawful w.key_is;
+  is_planned = l.plan.found keys place w.key lawful w.key_is;
   id_is = refl;
-  may = l.asks p.objects w.key w.known (held_at keys knowns place w.key w.known p.objects held w.key_is w.known_is) w.works;
+  may = l.client.asks p.objects w.key w.known (held_at keys knowns place w.key w.known p.objects held w.key_is w.known_is) w.works;
 }
 
 -- each question adds one at most

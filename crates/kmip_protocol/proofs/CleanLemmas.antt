@@ -85,7 +85,7 @@ step_of_step key uid Revoke = refl
 step_of_step key uid Destroy = refl
 
 place_at : (l : Lawbook) (key : Key) (place : ℕ) (step : Step) → step_at key.target (place + 1) ≡ Some step → step_place key.target step ≡ place + 1
-place_at l key place step is = (l.places key.target (place + 1) step (let some : 1 ≤ place + 1 = omega arith in some)).0 is
+place_at l key place step is = (l.plan.places key.target (place + 1) step (let some : 1 ≤ place + 1 = omega arith in some)).0 is
 
 rest_by : (l : Lawbook) (key : Key) (phase : Phase) (uid : List ℕ) (d p : ℕ) (there : Bool) (step : Step) → (there ≡ true → 1 ≤ p)
     → step_of_ask (phase_ask key phase uid d) ≡ Some step → step_at key.target (p + 1) ≡ Some step → need_in phase (chain_length key) d there p ≡ chain_length key - p
@@ -199,14 +199,14 @@ request_less l keys before served knowns place w reply lawful sound held one has
     let known = w.known in
     let request : Request = request_about key known in
     let asked : Past = with_requests (request ∷ []) before in
-    let planned = l.found keys place key lawful w.key_is in
+    let planned = l.plan.found keys place key lawful w.key_is in
     let its = held_at keys knowns place key known before.objects held w.key_is w.known_is in
     let works : known.done < chain_length key = ltb-true known.done (chain_length key) (and_parts (nat_lt known.done (chain_length key)) (not (is_some known.clash)) w.works).0 in
-    let sound_asked = l.asking keys before (request ∷ []) sound
+    let sound_asked = l.exchanges.asking keys before (request ∷ []) sound
     (All-cons (Justified keys before.objects) request [] (one_justified l keys before knowns place w lawful held) (All-nil (Justified keys before.objects))) in
     let delivered : Delivered (is_planned keys) asked served =
     record { moves = Serve request reply one.objects one.joined ∷ []; may = (one.serves, tt); is = one.is } in
-    let sound_served = l.sound_after keys asked served sound_asked delivered in
+    let sound_served = l.exchanges.deliveries keys asked served sound_asked delivered in
     let objects_are : served.objects ≡ one.objects = ap (λ (p : Past). p.objects) one.is in
     let requests_are : served.requests ≡ asked.requests = ap (λ (p : Past). p.requests) one.is in
     let here = sound_here l keys before sound in
@@ -214,7 +214,7 @@ request_less l keys before served knowns place w reply lawful sound held one has
       here = λ o is. here key o planned is;
       held = its;
       more = works;
-      fits = l.fit keys lawful place key w.key_is;
+      fits = l.plan.fit keys lawful place key w.key_is;
       roomy = λ none. let more : length before.objects < length before.objects + 1 = omega arith in more;
     } in
     let nearer = subst (IsNearer key known reply.outcome before.objects) (sym objects_are)
@@ -345,7 +345,7 @@ pub clean_leaves : (l : Lawbook) (keys : List Key) (old new : Past) (knowns : Li
     → IsLawful keys → Sound keys old → Held old.objects keys knowns → IsAbout keys knowns places question → IsClean (is_planned keys) old question.bytes answer new
     → left_all keys (known_then keys question answer knowns) new + length places ≤ left_all keys knowns old
 clean_leaves l keys old new knowns places question answer lawful sound held about clean =
-    let sound_before = l.sound_after keys old clean.before sound clean.early in
+    let sound_before = l.exchanges.deliveries keys old clean.before sound clean.early in
     let held_before = held_late l keys old clean.before knowns lawful sound held clean.early in
     let early = all_late l keys old clean.before knowns lawful sound held clean.early in
     let less = all_less l keys (stops_in question.bytes) places knowns (replies_in clean.given) clean.before clean.served lawful sound_before held_before about.works

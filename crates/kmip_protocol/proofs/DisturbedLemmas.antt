@@ -127,12 +127,12 @@ heard_counted : (l : Lawbook) (keys : List Key) (knowns : List Knowledge) (place
     → stranger keys (requests_at keys knowns places) reply ≡ Some heard.key
 heard_counted l keys knowns places reply ks ns heard lawful works h apart =
     let name : List ℕ = h.key.attrs.name in
-    let planned = l.found keys heard.key h.key lawful h.key_is in
+    let planned = l.plan.found keys heard.key h.key lawful h.key_is in
     let none = none_named l keys knowns places heard.key h.key lawful h.key_is works apart in
     let requests : List Request = requests_at keys knowns places in
     let but : but_of requests (is_planned keys) name ≡ true = rw (planned, none) refl in
     let strange : is_stranger keys requests reply ≡ true = ap (names_one (but_of requests (is_planned keys))) h.id_is ∙ but in
-    let place : place_in_id keys reply.id ≡ Some heard.key = ap (place_in_id keys) h.id_is ∙ place_found keys heard.key h.key l.distinct lawful h.key_is in
+    let place : place_in_id keys reply.id ≡ Some heard.key = ap (place_in_id keys) h.id_is ∙ place_found keys heard.key h.key l.plan.distinct lawful h.key_is in
     rw strange place
 
 -- ---- the whole message
@@ -167,7 +167,7 @@ gone_leaves : (l : Lawbook) (keys : List Key) (p : Past) (knowns nexts : List Kn
     → Held p.objects keys knowns → Gone keys p (λ j. is_in j counted) knowns nexts → left_all keys nexts p ≤ left_all keys knowns p + length counted
 gone_leaves l keys p knowns nexts counted lawful sound held gone =
     let sum = sum_touched 0 keys knowns nexts p counted held (λ j key known next is was now.
-    let planned = l.found keys j key lawful is in
+    let planned = l.plan.found keys j key lawful is in
     let at : 0 + j ≡ j = omega arith in
     let same = ap (λ m. one_if (is_in m counted)) at in
     elim (cases_Bool (is_in j counted)) [
@@ -206,7 +206,7 @@ message_gone l keys p knowns places question given (Ok replies) lawful sound hel
     let others : List ℕ = strangers keys requests replies in
     let counted : List ℕ = places ++ others in
     let t : ℕ → Bool = λ j. is_in j counted in
-    let said = l.read given replies is in
+    let said = l.messages.said given replies is in
     let start = gone_nowhere keys p t knowns held in
     let heard = gone_heard l keys p t knowns replies knowns start (subst (All (TrueReply keys p.objects)) said so)
     (All-weaker (λ reply. (place : ℕ) → stranger keys requests reply ≡ Some place → is_in place others ≡ true) (IsCountedReply keys t)
@@ -275,9 +275,9 @@ pub disturbed_leaves : (l : Lawbook) (keys : List Key) (old new : Past) (knowns 
 disturbed_leaves l keys old new knowns places question answer lawful sound held about hands =
     let asked = with_asked question.bytes old in
     let p = hands.between in
-    let sound_asked = l.asking keys old (requests_in question.bytes) sound
+    let sound_asked = l.exchanges.asking keys old (requests_in question.bytes) sound
     (subst (All (Justified keys old.objects)) (sym about.asks) (all_justified l keys old knowns places lawful held about.works)) in
-    let sound_now = l.sound_after keys asked p sound_asked hands.delivered in
+    let sound_now = l.exchanges.deliveries keys asked p sound_asked hands.delivered in
     let held_now = held_late l keys asked p knowns lawful sound_asked held hands.delivered in
     let first = subst (λ rs. left_all keys knowns (with_requests rs old) ≤ left_all keys knowns old + length places) (sym about.asks)
     (asked_all l keys old knowns places lawful about.works) in
@@ -289,4 +289,4 @@ disturbed_leaves l keys old new knowns places question answer lawful sound held 
     omega (arith, first, late, few, end) where
       all_true : (answer : Option (List ℕ)) → IfSome answer (AreGiven hands.between) → Sound keys hands.between → IfSome answer (TrueMessage keys hands.between.objects)
       all_true None given sound_now = tt
-      all_true (Some bytes) given sound_now = l.answers keys hands.between bytes sound_now given
+      all_true (Some bytes) given sound_now = l.exchanges.answers keys hands.between bytes sound_now given

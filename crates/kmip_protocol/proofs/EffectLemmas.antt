@@ -54,10 +54,10 @@ kept_beside : (l : Lawbook) (objects : List Object) (uid : List ℕ) (state : Ke
     → object_named name objects ≡ found → option_map (restated uid state) found ≡ found
 kept_beside l objects uid state o name None uids with_uid apart is = refl
 kept_beside l objects uid state o name (Some x) uids with_uid apart is =
-    ap (λ y. Some y) (l.other_kept uid state x (λ same.
-    let there : object_with x.uid objects ≡ Some x = l.by_identifier name objects x uids is in
+    ap (λ y. Some y) (l.objects.other_kept uid state x (λ same.
+    let there : object_with x.uid objects ≡ Some x = l.objects.by_identifier name objects x uids is in
     let one : x ≡ o = same_Some _ _ (sym there ∙ ap (λ u. object_with u objects) same ∙ with_uid) in
-    apart (sym (l.named name objects x is).0 ∙ ap (λ y. y.attrs.name) one)))
+    apart (sym (l.objects.named name objects x is).0 ∙ ap (λ y. y.attrs.name) one)))
 
 not_named : (name own : List ℕ) → pointwise nat_eq name own ≡ false → name ≢ own
 not_named name own apart = λ e. let t : true ≡ false = sym ((bytes_eq-Decides name own).1 e) ∙ apart in absurd cc
@@ -68,12 +68,12 @@ stepped_done : (l : Lawbook) (by_name : IdentifiedIsNamed) (objects : List Objec
 stepped_done l by_name objects step uid o state names uids with_uid row =
     let was : object_named o.attrs.name objects ≡ Some o = by_name uid objects o names with_uid in
     let now : object_named o.attrs.name (all_restated uid state objects) ≡ Some (record o { state = state }) =
-    l.named_restated o.attrs.name uid state objects ∙ ap (option_map (restated uid state)) was
-    ∙ ap (λ x. Some x) (l.own_restated uid state o (l.identified uid objects o with_uid).0) in
+    l.objects.named_restated o.attrs.name uid state objects ∙ ap (option_map (restated uid state)) was
+    ∙ ap (λ x. Some x) (l.objects.own_restated uid state o (l.objects.identified uid objects o with_uid).0) in
     one_done objects (all_restated uid state objects) o.attrs.name step
     (ap (λ found. change found (object_named o.attrs.name (all_restated uid state objects))) was ∙ ap (λ found. change (Some o) found) now
     ∙ step_is_between o.state state step row)
-    (λ name apart. l.named_restated name uid state objects
+    (λ name apart. l.objects.named_restated name uid state objects
     ∙ kept_beside l objects uid state o name (object_named name objects) uids with_uid (not_named name o.attrs.name apart) refl)
 
 effect_by : (objects : List Object) (asked : Option (Step × List ℕ)) (step : Step) (uid : List ℕ) (o : Object) → asked ≡ Some (step, uid)

@@ -25,7 +25,7 @@ change_of l keys newer key old new on planned its (comes uid fits free uid_free 
     (now ∙ ap (λ (a : KeyAttrs). old ++ record { uid = uid; attrs = a; state = PreActive } ∷ []) (sym on.attrs_same))
 change_of l keys newer key old new on planned its (takes o state here from now) =
     let named : object_named newer.attrs.name old ≡ Some o = ap (λ (a : KeyAttrs). object_named a.name old) on.attrs_same ∙ here_found old key o here in
-    let further = l.no_less key.target newer.target state on.leads_on in
+    let further = l.plan.no_less key.target newer.target state on.leads_on in
     takes o state (its newer o planned named) (omega (arith, from, further)) now
 
 -- a question leaves room for what a plan misses that prolongs the client's
@@ -33,8 +33,8 @@ pub one_leaves : (l : Lawbook) (further keys : List Key) (place : ℕ) (key : Ke
     → slice_get keys place ≡ Some key → AreHere further old → Change key old new → length old + missing further old ≤ room
     → AreHere further new × (length new + missing further new ≤ room)
 one_leaves l further keys place key room old new lawful on here its change roomy =
-    let (newer, stands, goes) = l.old_stand further keys place key on here in
-    let planned = l.found further place newer lawful stands in
+    let (newer, stands, goes) = l.plan.old_stand further keys place key on here in
+    let planned = l.plan.found further place newer lawful stands in
     let changed = change_of l further newer key old new goes planned its change in
     (here_after l further newer old new planned its changed, room_after l further place room newer old new lawful stands its changed roomy)
 

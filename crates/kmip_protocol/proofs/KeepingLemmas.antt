@@ -43,7 +43,7 @@ effects_stay_first l keys p q joined first moves more = record {
   planned = λ key planned.
       more key.attrs.name
       ∙ ap (λ steps. steps ++ steps_on key.attrs.name (option_to_list joined)) (first.planned key planned)
-      ∙ steps_join l.first key (object_named key.attrs.name p.objects) (object_named key.attrs.name q.objects) (steps_on key.attrs.name (option_to_list joined)) (moves.each key planned);
+      ∙ steps_join l.plan.first key (object_named key.attrs.name p.objects) (object_named key.attrs.name q.objects) (steps_on key.attrs.name (option_to_list joined)) (moves.each key planned);
   no_others = λ name none.
       more name
       ∙ ap (λ steps. steps ++ steps_on name (option_to_list joined)) (first.no_others name none)
@@ -52,7 +52,7 @@ effects_stay_first l keys p q joined first moves more = record {
 
 answer_on : (l : Lawbook) (keys : List Key) (old new : List Object) (requests : List Request) (reply : Reply) → Onward keys old new
     → TrueAnswer keys old requests reply → TrueAnswer keys new requests reply
-answer_on l keys old new requests reply on answer = record { holds = l.told_for_good keys old new reply on answer.holds; echoes = answer.echoes }
+answer_on l keys old new requests reply on answer = record { holds = l.client.told_for_good keys old new reply on answer.holds; echoes = answer.echoes }
 
 answers_on : (l : Lawbook) (keys : List Key) (old new : List Object) (requests : List Request) (replies : List Reply) → Onward keys old new
     → All (TrueAnswer keys old requests) replies → All (TrueAnswer keys new requests) replies
@@ -66,11 +66,11 @@ sound_after l keys p q joined sound moves more same replies =
     record {
       names = moves.names;
       uids = moves.uids;
-      objects = λ key o planned is. stays_its_own l.first key (object_named key.attrs.name p.objects) (object_named key.attrs.name q.objects)
+      objects = λ key o planned is. stays_its_own l.plan.first key (object_named key.attrs.name p.objects) (object_named key.attrs.name q.objects)
           (steps_on key.attrs.name (option_to_list joined)) o (moves.each key planned) (λ x was. sound.objects key x planned was) is;
       effects = effects_stay_first l keys p q joined sound.effects moves more;
       requests = subst (All (Justified keys q.objects)) (sym same)
-          (All-weaker (Justified keys p.objects) (Justified keys q.objects) (λ request just. l.asked_for_good keys p.objects q.objects request on just) p.requests sound.requests);
+          (All-weaker (Justified keys p.objects) (Justified keys q.objects) (λ request just. l.client.asked_for_good keys p.objects q.objects request on just) p.requests sound.requests);
       replies = replies;
     }
 
@@ -108,7 +108,7 @@ move_keeps l keys (Refuse reply) p sound failed = (
     requests = sound.requests;
     replies = All-push (TrueAnswer keys p.objects p.requests) p.replies reply sound.replies (failed_answer keys p.objects p.requests reply failed);
   },
-  l.itself keys p.objects,
+  l.client.itself keys p.objects,
 )
 move_keeps l keys (Comes o) p sound new =
     let moves = comes_moves l keys p o sound.names sound.uids new in
@@ -127,11 +127,11 @@ move_keeps l keys (Changes front old new back) p sound foreign =
 
 pub moves_keep : (l : Lawbook) (keys : List Key) (moves : List Move) (p : Past) → Sound keys p → AllMayHappen (is_planned keys) moves p
     → Sound keys (after_moves moves p) × Onward keys p.objects (after_moves moves p).objects
-moves_keep l keys [] p sound may = (sound, l.itself keys p.objects)
+moves_keep l keys [] p sound may = (sound, l.client.itself keys p.objects)
 moves_keep l keys (move ∷ moves) p sound may =
     let first = move_keeps l keys move p sound may.0 in
     let rest = moves_keep l keys moves (after_move move p) first.0 may.1 in
-    (rest.0, l.twice keys p.objects (after_move move p).objects (after_moves moves (after_move move p)).objects first.1 rest.1)
+    (rest.0, l.client.twice keys p.objects (after_move move p).objects (after_moves moves (after_move move p)).objects first.1 rest.1)
 
 pub delivered_keeps : (l : Lawbook) (keys : List Key) (old new : Past) → Sound keys old → Delivered (is_planned keys) old new
     → Sound keys new × Onward keys old.objects new.objects

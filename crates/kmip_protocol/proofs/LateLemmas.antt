@@ -45,14 +45,14 @@ key_late l keys old new key known sound after planned held still (took_effect fu
 pub held_late : (l : Lawbook) (keys : List Key) (old new : Past) (knowns : List Knowledge) → IsLawful keys → Sound keys old → Held old.objects keys knowns
     → Delivered (is_planned keys) old new → Held new.objects keys knowns
 held_late l keys old new knowns lawful sound held delivered =
-    l.held_for_good keys knowns old.objects new.objects lawful (l.onward keys old new sound delivered) held
+    l.client.known_for_good keys knowns old.objects new.objects lawful (l.exchanges.onward keys old new sound delivered) held
 
 pub all_late : (l : Lawbook) (keys : List Key) (old new : Past) (knowns : List Knowledge) → IsLawful keys → Sound keys old → Held old.objects keys knowns
     → Delivered (is_planned keys) old new → left_all keys knowns new ≤ left_all keys knowns old
 all_late l keys old new knowns lawful sound held delivered =
-    let after = l.sound_after keys old new sound delivered in
+    let after = l.exchanges.deliveries keys old new sound delivered in
     let still = held_late l keys old new knowns lawful sound held delivered in
     all_left keys knowns old new (λ j key known here there.
-    let planned = l.found keys j key lawful here in
+    let planned = l.plan.found keys j key lawful here in
     key_late l keys old new key known sound after planned (held_at keys knowns j key known old.objects held here there)
     (held_at keys knowns j key known new.objects still here there) (delivered_arrives l keys old new key sound planned delivered))

@@ -58,7 +58,7 @@ pub numbers : (l : Lawbook) (keys : List Key) (p : Past) (key : Key) (known : Kn
 numbers l keys p key known sound planned held = record {
   suits = held.suits;
   had = held.holds.done_true;
-  within = position_within l.reached key p.objects;
+  within = position_within l.plan.reached key p.objects;
   from = some_there (object_named key.attrs.name p.objects) (λ o. place_reached key.target o.state) (λ o is. (sound.objects key o planned is).on_the_way);
   none = none_there (object_named key.attrs.name p.objects);
   own = own_there known.identifier (object_named key.attrs.name p.objects) held.holds.uid_true;

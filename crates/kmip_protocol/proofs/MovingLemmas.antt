@@ -112,7 +112,7 @@ pub own_object : (l : Lawbook) (objects : List Object) (key : Key) (uid : List �
     → object_with uid objects ≡ Some o → object_named key.attrs.name objects ≡ Some o
 own_object l objects key uid o uids own with_uid =
     let (x, named, same) = some_with (object_named key.attrs.name objects) uid own in
-    let there : object_with x.uid objects ≡ Some x = l.by_identifier key.attrs.name objects x uids named in
+    let there : object_with x.uid objects ≡ Some x = l.objects.by_identifier key.attrs.name objects x uids named in
     named ∙ sym there ∙ ap (λ u. object_with u objects) same ∙ with_uid
 
 -- What a step that is due does, where the lifecycle has it.
@@ -130,10 +130,10 @@ other_stays : (l : Lawbook) (key : Key) (objects : List Object) (uid : List ℕ)
     → object_named name objects ≡ found → option_map (restated uid state) found ≡ found
 other_stays l key objects uid state o name None uids with_uid own apart is = refl
 other_stays l key objects uid state o name (Some x) uids with_uid own apart is =
-    ap (λ y. Some y) (l.other_kept uid state x (λ same.
-    let there : object_with x.uid objects ≡ Some x = l.by_identifier name objects x uids is in
+    ap (λ y. Some y) (l.objects.other_kept uid state x (λ same.
+    let there : object_with x.uid objects ≡ Some x = l.objects.by_identifier name objects x uids is in
     let one : x ≡ o = same_Some _ _ (sym there ∙ ap (λ u. object_with u objects) same ∙ with_uid) in
-    apart (sym (l.named name objects x is).0 ∙ ap (λ y. y.attrs.name) one ∙ own)))
+    apart (sym (l.objects.named name objects x is).0 ∙ ap (λ y. y.attrs.name) one ∙ own)))
 
 pub takes : (l : Lawbook) (keys : List Key) (key : Key) (objects : List Object) (step : Step) (uid : List ℕ) (o : Object) (state : KeyState)
     → IsPlanned keys key → HasItsObjects keys objects → DistinctUids objects → StepIsDue objects key step uid
@@ -143,18 +143,18 @@ takes l keys key objects step uid o state planned its uids due with_uid row =
     let is = its key o planned was in
     let here : position key objects ≡ place_reached key.target o.state = ap (λ found. option_map_or (λ x. place_reached key.target x.state) found 0) was in
     let soon : step_place key.target step ≤ place_reached key.target o.state + 1 = omega (arith, due.due, here) in
-    let uid_is = (l.identified uid objects o with_uid).0 in
+    let uid_is = (l.objects.identified uid objects o with_uid).0 in
     let further = MatchOption-at_some (Unit {0}) (λ new. (step_place key.target step ≡ place_reached key.target o.state + 1) × (place_reached key.target new ≡ place_reached key.target o.state + 1))
-    state row (l.advance key.target o.state step due.in_chain soon is.on_the_way) in
+    state row (l.plan.advance key.target o.state step due.in_chain soon is.on_the_way) in
     record {
       was = was;
-      now = l.named_restated key.attrs.name uid state objects ∙ ap (option_map (restated uid state)) was ∙ ap (λ x. Some x) (l.own_restated uid state o uid_is);
+      now = l.objects.named_restated key.attrs.name uid state objects ∙ ap (option_map (restated uid state)) was ∙ ap (λ x. Some x) (l.objects.own_restated uid state o uid_is);
       uid_is = uid_is;
-      others = λ name apart. l.named_restated name uid state objects
-          ∙ other_stays l key objects uid state o name (object_named name objects) uids with_uid (l.named key.attrs.name objects o was).0 apart refl;
+      others = λ name apart. l.objects.named_restated name uid state objects
+          ∙ other_stays l key objects uid state o name (object_named name objects) uids with_uid (l.objects.named key.attrs.name objects o was).0 apart refl;
       place = further.0;
       further = further.1;
-      joins = l.join key.target o.state state step due.in_chain soon is.on_the_way row;
+      joins = l.plan.join key.target o.state state step due.in_chain soon is.on_the_way row;
     }
 
 done_moves : (l : Lawbook) (keys : List Key) (key : Key) (objects : List Object) (joined : Option Effect) (step : Step) (uid : List ℕ) (o : Object) (state : KeyState)
@@ -163,7 +163,7 @@ done_moves : (l : Lawbook) (keys : List Key) (key : Key) (objects : List Object)
     → ObjectsMove keys objects (all_restated uid state objects) joined
 done_moves l keys key objects joined step uid o state planned its names uids due with_uid row joins =
     let t = takes l keys key objects step uid o state planned its uids due with_uid row in
-    one_moves keys key objects (all_restated uid state objects) joined planned (l.names_stay uid state objects names) (l.uids_stay uid state objects uids)
+    one_moves keys key objects (all_restated uid state objects) joined planned (l.objects.names_stay uid state objects names) (l.objects.identifiers_stay uid state objects uids)
     joins t.others
     (advances o state step t.was t.now
     (joins key.attrs.name
@@ -179,8 +179,8 @@ pub other_named : (l : Lawbook) (name : List ℕ) (objects : List Object) (o : O
     → pointwise nat_eq name o.attrs.name ≡ false → object_named name (objects ++ o ∷ []) ≡ found
 other_named l name objects o None is apart =
     let other : object_named name (o ∷ []) ≡ None = rw apart refl in
-    l.named_among name objects (o ∷ []) is ∙ other
-other_named l name objects o (Some x) is apart = l.named_before name objects (o ∷ []) x is
+    l.objects.named_among name objects (o ∷ []) is ∙ other
+other_named l name objects o (Some x) is apart = l.objects.named_before name objects (o ∷ []) x is
 
 pub apart_from : (a b : List ℕ) → a ≢ b → pointwise nat_eq a b ≡ false
 apart_from a b apart = false_from_ne_true (pointwise nat_eq a b) (λ same. apart ((bytes_eq-Decides a b).0 same))
@@ -190,7 +190,7 @@ pub own_named : (l : Lawbook) (objects : List Object) (o : Object) → object_na
 own_named l objects o free =
     let same : pointwise nat_eq o.attrs.name o.attrs.name ≡ true = (bytes_eq-Decides o.attrs.name o.attrs.name).1 refl in
     let own : object_named o.attrs.name (o ∷ []) ≡ Some o = rw same refl in
-    l.named_among o.attrs.name objects (o ∷ []) free ∙ own
+    l.objects.named_among o.attrs.name objects (o ∷ []) free ∙ own
 
 created_moves : (l : Lawbook) (keys : List Key) (key : Key) (objects : List Object) (joined : Option Effect) (uid : List ℕ)
     → IsPlanned keys key → DistinctNames objects → DistinctUids objects
@@ -200,7 +200,7 @@ created_moves : (l : Lawbook) (keys : List Key) (key : Key) (objects : List Obje
 created_moves l keys key objects joined uid planned names uids free uid_free fits joins =
     let o : Object = record { uid = uid; attrs = key.attrs; state = states.PreActive } in
     let now : object_named key.attrs.name (objects ++ o ∷ []) ≡ Some o = own_named l objects o free in
-    one_moves keys key objects (objects ++ o ∷ []) joined planned (l.names_more objects o names free) (l.uids_more objects o uids uid_free)
+    one_moves keys key objects (objects ++ o ∷ []) joined planned (l.objects.one_more_name objects o names free) (l.objects.one_more_identifier objects o uids uid_free)
     joins
     (λ name apart. other_named l name objects o (object_named name objects) refl (apart_from name key.attrs.name apart))
     (comes uid fits free now
@@ -248,8 +248,8 @@ foreign_apart keys key name planned foreign = apart_from key.attrs.name name (λ
 pub comes_moves : (l : Lawbook) (keys : List Key) (p : Past) (o : Object) → DistinctNames p.objects → DistinctUids p.objects → IsNew (is_planned keys) p o
     → ObjectsMove keys p.objects (p.objects ++ o ∷ []) None
 comes_moves l keys p o names uids new = record {
-  names = l.names_more p.objects o names new.name_is_free;
-  uids = l.uids_more p.objects o uids new.uid_is_free;
+  names = l.objects.one_more_name p.objects o names new.name_is_free;
+  uids = l.objects.one_more_identifier p.objects o uids new.uid_is_free;
   each = λ key planned. stays (other_named l key.attrs.name p.objects o (object_named key.attrs.name p.objects) refl (foreign_apart keys key o.attrs.name planned new.foreign)) refl;
   others = λ name none. refl;
 }

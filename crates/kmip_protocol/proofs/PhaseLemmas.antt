@@ -148,7 +148,7 @@ look_by l room old new key known outcome (Some o) phase_is worked none same said
 pub look_nearer : (l : Lawbook) (room : ℕ) (old new : List Object) (key : Key) (known : Knowledge) (outcome : Outcome) → known.phase ≡ phases.Look
     → IsWorked room old key known → ServerStep room old (asks.Locate (Some every_state) (by_name key.attrs.name)) outcome new → IsNearer key known outcome old new
 look_nearer l room old new key known outcome phase_is worked step =
-    let found = l.located room old new key.attrs.name outcome step in
+    let found = l.server.all_located room old new key.attrs.name outcome step in
     look_by l room old new key known outcome (object_named key.attrs.name old) phase_is worked
     (subst (λ phase. PhaseSuits phase known.identifier known.done) phase_is worked.held.suits) found.0 found.1 refl
 
@@ -176,7 +176,7 @@ make_made l room objects key known uid phase_is worked none free uid_free fits =
     let next : Knowledge = record known { identifier = Some uid; done = 1; phase = phases.Go } in
     let zero_done = none_done objects key known worked.held none in
     let now = here_found (objects ++ made uid key ∷ []) key (made uid key) (came_here l key uid objects fits free uid_free) in
-    let one = l.first key.target in
+    let one = l.plan.first key.target in
     let there : position key (objects ++ made uid key ∷ []) ≡ place_reached key.target PreActive = ap (place_in key) now in
     let before = needs key known phases.Make objects None phase_is worked.more free in
     let after = needs_rest key next (objects ++ made uid key ∷ []) (made uid key) refl (sym one) now in
@@ -270,7 +270,7 @@ check_told l room objects key known o phase_is worked known_is is =
     let there : position key objects ≡ place = ap (place_in key) is in
     let had : known.done ≤ place = omega (arith, there, worked.held.holds.done_true) in
     let next : Knowledge = record known { done = place; phase = phases.Go } in
-    let within = l.reached key.target o.state in
+    let within = l.plan.reached key.target o.state in
     let from = here.own.on_the_way in
     let before = needs key known phases.Check objects (Some o) phase_is worked.more is in
     let after = needs_rest key next objects o refl refl is in

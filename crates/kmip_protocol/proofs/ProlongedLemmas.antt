@@ -36,9 +36,9 @@ origin_from : (l : Lawbook) (new old : List Key) (key : Key) (found : Option Key
     → key_named key.attrs.name old ≡ found → Origin old key
 origin_from l new old key None lawful on planned is = is_further is
 origin_from l new old key (Some was) lawful on planned is =
-    let had = planned_as l.stand old key.attrs.name was is in
-    let (newer, now, same, goes) = l.old_found new old was lawful on had in
-    let own : was.attrs.name ≡ key.attrs.name = (l.stand old key.attrs.name was is).0 in
+    let had = planned_as l.plan.stand old key.attrs.name was is in
+    let (newer, now, same, goes) = l.plan.old_found new old was lawful on had in
+    let own : was.attrs.name ≡ key.attrs.name = (l.plan.stand old key.attrs.name was is).0 in
     let one : newer ≡ key = same_Some _ _ (sym now ∙ ap (λ name. key_named name new) (same ∙ own) ∙ planned) in
     goes_on was is had own (subst (λ k. GoesOn k was) one goes)
 
@@ -50,8 +50,8 @@ still_named : (l : Lawbook) (new old : List Key) (name : List ℕ) (found : Opti
     → is_some found ≡ true → is_some (key_named name new) ≡ true
 still_named l new old name None lawful on is some = absurd cc
 still_named l new old name (Some was) lawful on is some =
-    let (newer, now, same, goes) = l.old_found new old was lawful on (planned_as l.stand old name was is) in
-    ap (λ n. is_some (key_named n new)) (sym (same ∙ (l.stand old name was is).0)) ∙ ap is_some now
+    let (newer, now, same, goes) = l.plan.old_found new old was lawful on (planned_as l.plan.stand old name was is) in
+    ap (λ n. is_some (key_named n new)) (sym (same ∙ (l.plan.stand old name was is).0)) ∙ ap is_some now
 
 pub names_among : (l : Lawbook) (new old : List Key) → IsLawful new → Prolongs new old → AreAmong (is_planned old) (is_planned new)
 names_among l new old lawful on = λ name is. still_named l new old name (key_named name old) lawful on refl is
@@ -66,19 +66,19 @@ own_object : (l : Lawbook) (new old : Key) (o : Object) → GoesOn new old → I
 own_object l new old o on own = record {
   identified = own.identified;
   attrs_are = own.attrs_are ∙ sym on.attrs_same;
-  on_the_way = let e = l.no_less old.target new.target o.state on.leads_on in let from = own.on_the_way in omega (arith, e, from);
+  on_the_way = let e = l.plan.no_less old.target new.target o.state on.leads_on in let from = own.on_the_way in omega (arith, e, from);
 }
 
 same_place : (l : Lawbook) (new old : Key) (found : Option Object) → GoesOn new old → ((o : Object) → found ≡ Some o → IsObjectOf old o)
     → place_in new found ≡ place_in old found
 same_place l new old None on its = refl
 same_place l new old (Some o) on its =
-    ap or_zero (l.state_places old.target new.target (state_number o.state) (place_reached old.target o.state) on.leads_on
+    ap or_zero (l.plan.state_places old.target new.target (state_number o.state) (place_reached old.target o.state) on.leads_on
     (some_place (place_of old.target (state_number o.state)) (its o refl).on_the_way))
 
 place_within : (l : Lawbook) (key : Key) (found : Option Object) → place_in key found ≤ length (chain key.target)
 place_within l key None = omega arith
-place_within l key (Some o) = l.reached key.target o.state
+place_within l key (Some o) = l.plan.reached key.target o.state
 
 -- the first steps of a way are those of each that it leads on to
 first_steps : (target further : Target) (n : ℕ) → LeadsOn target further → n ≤ length (chain target) → take n (chain target) ≡ take n (chain further)
@@ -118,7 +118,7 @@ holds_of : (l : Lawbook) (old : List Key) (p : Past) (reply : Reply) (operation 
     → TrueAnswer old p.objects p.requests reply → reply.id ≡ Some (operation ∷ name) → name ≡ key.attrs.name → Origin old key
     → TrueOutcome p.objects key reply.outcome
 holds_of l old p reply operation name key sound answer id own (goes_on was named had same on) =
-    l.told_onward p.objects key was reply.outcome on (answer.holds operation name was id (ap (λ n. key_named n old) own ∙ named))
+    l.client.told_of_prolonged p.objects key was reply.outcome on (answer.holds operation name was id (ap (λ n. key_named n old) own ∙ named))
 holds_of l old p reply operation name key sound answer id own (is_further not) = elim (answer.echoes) [
   | inl failed ↦ failed_true p.objects key reply.outcome failed
   | inr echo ↦
@@ -131,8 +131,8 @@ answer_of : (l : Lawbook) (new old : List Key) (p : Past) (reply : Reply) → Is
     → TrueAnswer old p.objects p.requests reply → TrueAnswer new p.objects p.requests reply
 answer_of l new old p reply lawful on sound answer = record {
   holds = λ operation name key id named.
-      holds_of l old p reply operation name key sound answer id (sym (l.stand new name key named).0)
-      (origin l new old key lawful on (planned_as l.stand new name key named));
+      holds_of l old p reply operation name key sound answer id (sym (l.plan.stand new name key named).0)
+      (origin l new old key lawful on (planned_as l.plan.stand new name key named));
   echoes = answer.echoes;
 }
 
@@ -146,7 +146,7 @@ prolonged_sound l new old p lawful on none sound = record {
     no_others = λ name is. sound.effects.no_others name (others_of l new old name lawful on is);
   };
   requests = All-weaker (Justified old p.objects) (Justified new p.objects)
-      (λ request just. l.asked_onward p.objects new old request lawful on just) p.requests sound.requests;
+      (λ request just. l.client.asked_of_prolonged p.objects new old request lawful on just) p.requests sound.requests;
   replies = All-weaker (TrueAnswer old p.objects p.requests) (TrueAnswer new p.objects p.requests)
       (λ reply answer. answer_of l new old p reply lawful on sound answer) p.replies sound.replies;
 }
@@ -159,7 +159,7 @@ no_object : (l : Lawbook) (keys : List Key) (p : Past) (key : Key) (found : Opti
 no_object l keys p key None sound planned none is = refl
 no_object l keys p key (Some o) sound planned none is =
     let from = (sound.objects key o planned is).on_the_way in
-    let within = l.reached key.target o.state in
+    let within = l.plan.reached key.target o.state in
     let steps : take (place_reached key.target o.state) (chain key.target) ≡ [] =
     ap (λ found. take (place_in key found) (chain key.target)) (sym is) ∙ sym (sound.effects.planned key planned) ∙ none in
     let long = length-take-le (place_reached key.target o.state) (chain key.target) within in
@@ -169,7 +169,7 @@ no_object l keys p key (Some o) sound planned none is =
 pub none_further : (l : Lawbook) (last next keys : List Key) (p : Past) → IsLawful last → Prolongs last next → Sound keys p → Sound last p
     → NoneIsFurther next keys p.objects
 none_further l last next keys p lawful on sound whole = λ key planned not.
-    let (newer, now, same, goes) = l.old_found last next key lawful on planned in
+    let (newer, now, same, goes) = l.plan.old_found last next key lawful on planned in
     let none : steps_on newer.attrs.name p.effects ≡ [] =
     ap (λ name. steps_on name p.effects) same ∙ sound.effects.no_others key.attrs.name not in
     ap (λ name. object_named name p.objects) (sym same)

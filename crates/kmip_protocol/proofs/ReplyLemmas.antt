@@ -43,7 +43,7 @@ found_true l key room objects mask given outcome names may step =
     let own : ServerStep room objects (asks.Locate (Some every_state) (by_name key.attrs.name)) outcome objects =
     subst (λ m. ServerStep room objects (asks.Locate m (by_name key.attrs.name)) outcome objects) may.0
     (subst (λ g. ServerStep room objects (asks.Locate mask g) outcome objects) may.1 step) in
-    subst (TrueOutcome objects key) (sym (l.located room objects objects key.attrs.name outcome names own).1) (own_found (uid_of key objects))
+    subst (TrueOutcome objects key) (sym (l.server.located room objects objects key.attrs.name outcome names own).1) (own_found (uid_of key objects))
 
 pub some_place : (found : Option ℕ) → 1 ≤ or_zero found → found ≡ Some (or_zero found)
 some_place None is = absurd (omega (arith, is))
@@ -80,7 +80,7 @@ created_true l key objects uid free =
     record {
       uid_is = ap uid_in now;
       in_chain = omega arith;
-      done = let e = l.first key.target in omega (arith, e, here);
+      done = let e = l.plan.first key.target in omega (arith, e, here);
     }
 
 -- the success of a step that is done is true

@@ -58,13 +58,13 @@ step_after target k step is = is
 
 pub early : (l : Lawbook) (target : Target) (step : Step) (n : ℕ) → 1 ≤ step_place target step → step_place target step ≤ n → Contains (take n (chain target)) step
 early l target step n from within =
-    let (k, is, one) = step_before target (step_place target step) step from ((l.places target (step_place target step) step from).1 refl) in
+    let (k, is, one) = step_before target (step_place target step) step from ((l.plan.places target (step_place target step) step from).1 refl) in
     in_front (chain target) k n step is (omega (arith, one, within))
 
 pub among : (l : Lawbook) (target : Target) (step : Step) (n : ℕ) → Contains (take n (chain target)) step → step_place target step ≤ n
 among l target step n has =
     let (k, is, below) = from_front (chain target) n step has in
-    let place : step_place target step ≡ suc k = (l.places target (suc k) step (omega arith)).0 (step_after target k step is) in
+    let place : step_place target step ≡ suc k = (l.plan.places target (suc k) step (omega arith)).0 (step_after target k step is) in
     omega (arith, place, below)
 
 at_most_one : {A : Type 0} (found : Option A) → length (option_to_list found) ≤ 1
@@ -74,7 +74,7 @@ at_most_one (Some x) = omega arith
 one_object : (l : Lawbook) (keys : List Key) (p : Past) (key : Key) → Sound keys p → length (all_named key.attrs.name p.objects) ≤ 1
 one_object l keys p key sound =
     let all : length (all_named key.attrs.name p.objects) ≡ length (option_to_list (object_named key.attrs.name p.objects)) =
-    ap (λ found. length found) (l.all_named key.attrs.name p.objects sound.names) in
+    ap (λ found. length found) (l.objects.all_named key.attrs.name p.objects sound.names) in
     let one = at_most_one (object_named key.attrs.name p.objects) in
     omega (arith, all, one)
 

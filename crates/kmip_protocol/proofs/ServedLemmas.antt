@@ -56,7 +56,7 @@ created_steps l key objects uid ask asked free =
     let now : object_named key.attrs.name (objects ++ o ∷ []) ≡ Some o = own_named l objects o free in
     let before : position key objects ≡ 0 = ap (place_in key) free in
     let here : position key (objects ++ o ∷ []) ≡ place_reached key.target states.PreActive = ap (place_in key) now in
-    let first = l.first key.target in
+    let first = l.plan.first key.target in
     record {
       step = Create;
       is_asked = asked;

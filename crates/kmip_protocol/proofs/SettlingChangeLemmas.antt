@@ -58,7 +58,7 @@ came_here l key uid old fits free uid_free = record {
   one_named = came_named key uid old free;
   one_identified = more_pass (λ (x : Object). pointwise nat_eq uid x.uid) old (made uid key) (same_text uid uid refl)
       (none_pass (λ (x : Object). pointwise nat_eq uid x.uid) old uid_free);
-  own = record { identified = fits; attrs_are = refl; on_the_way = let e = l.first key.target in omega (arith, e) };
+  own = record { identified = fits; attrs_are = refl; on_the_way = let e = l.plan.first key.target in omega (arith, e) };
 }
 
 other_came_named : (name : List ℕ) (key : Key) (uid : List ℕ) (old : List Object) → name ≢ key.attrs.name
@@ -89,17 +89,17 @@ taken_named : (l : Lawbook) (name uid : List ℕ) (state : KeyState) (old : List
     → all_named name (all_restated uid state old) ≡ map (restated uid state) (all_named name old)
 taken_named l name uid state old =
     changed_pass (λ (x : Object). pointwise nat_eq name x.attrs.name) (restated uid state)
-    (λ x. ap (λ attrs. pointwise nat_eq name attrs.name) (l.restated_keeps uid state x).1) old
+    (λ x. ap (λ attrs. pointwise nat_eq name attrs.name) (l.objects.restated_keeps uid state x).1) old
 
 taken_with : (l : Lawbook) (own uid : List ℕ) (state : KeyState) (old : List Object)
     → all_with own (all_restated uid state old) ≡ map (restated uid state) (all_with own old)
 taken_with l own uid state old =
-    changed_pass (λ (x : Object). pointwise nat_eq own x.uid) (restated uid state) (λ x. ap (pointwise nat_eq own) (l.restated_keeps uid state x).0) old
+    changed_pass (λ (x : Object). pointwise nat_eq own x.uid) (restated uid state) (λ x. ap (pointwise nat_eq own) (l.objects.restated_keeps uid state x).0) old
 
 pub took_here : (l : Lawbook) (key : Key) (o : Object) (state : KeyState) (old : List Object) → IsHere old key o → 1 ≤ place_reached key.target state
     → IsHere (all_restated o.uid state old) key (record o { state = state })
 took_here l key o state old here from =
-    let now = l.own_restated o.uid state o refl in
+    let now = l.objects.own_restated o.uid state o refl in
     record {
       one_named = taken_named l key.attrs.name o.uid state old ∙ ap (map (restated o.uid state)) here.one_named ∙ ap (λ x. x ∷ []) now;
       one_identified = taken_with l o.uid o.uid state old ∙ ap (map (restated o.uid state)) here.one_identified ∙ ap (λ x. x ∷ []) now;
@@ -115,7 +115,7 @@ other_uid key other o x old apart here there = λ same.
 other_took_here : (l : Lawbook) (key other : Key) (o x : Object) (state : KeyState) (old : List Object) → other.attrs.name ≢ key.attrs.name
     → IsHere old key o → IsHere old other x → IsHere (all_restated o.uid state old) other x
 other_took_here l key other o x state old apart here there =
-    let kept = l.other_kept o.uid state x (other_uid key other o x old apart here there) in
+    let kept = l.objects.other_kept o.uid state x (other_uid key other o x old apart here there) in
     record {
       one_named = taken_named l other.attrs.name o.uid state old ∙ ap (map (restated o.uid state)) there.one_named ∙ ap (λ y. y ∷ []) kept;
       one_identified = taken_with l x.uid o.uid state old ∙ ap (map (restated o.uid state)) there.one_identified ∙ ap (λ y. y ∷ []) kept;
@@ -126,10 +126,10 @@ other_took : (l : Lawbook) (key other : Key) (o : Object) (state : KeyState) (ol
     → IsHere old key o → ((x : Object) → found ≡ Some x → IsHere old other x) → object_named other.attrs.name old ≡ found
     → object_named other.attrs.name (all_restated o.uid state old) ≡ found
 other_took l key other o state old None apart here its is =
-    l.named_restated other.attrs.name o.uid state old ∙ ap (option_map (restated o.uid state)) is
+    l.objects.named_restated other.attrs.name o.uid state old ∙ ap (option_map (restated o.uid state)) is
 other_took l key other o state old (Some x) apart here its is =
-    l.named_restated other.attrs.name o.uid state old ∙ ap (option_map (restated o.uid state)) is
-    ∙ ap (λ y. Some y) (l.other_kept o.uid state x (other_uid key other o x old apart here (its x refl)))
+    l.objects.named_restated other.attrs.name o.uid state old ∙ ap (option_map (restated o.uid state)) is
+    ∙ ap (λ y. Some y) (l.objects.other_kept o.uid state x (other_uid key other o x old apart here (its x refl)))
 
 -- ---- whichever way they change
 
@@ -146,8 +146,8 @@ other_same l keys key other old new its planned (takes o state here from now) ap
 pub places_same : (l : Lawbook) (keys : List Key) (place : ℕ) (key : Key) (old new : List Object) → IsLawful keys → slice_get keys place ≡ Some key
     → AreHere keys old → Change key old new → OthersSame keys place old new
 places_same l keys place key old new lawful here its change = λ j other apart is.
-    other_same l keys key other old new its (l.found keys j other lawful is) change
-    (λ same. apart (l.distinct keys j place other key lawful is here same))
+    other_same l keys key other old new its (l.plan.found keys j other lawful is) change
+    (λ same. apart (l.plan.distinct keys j place other key lawful is here same))
 
 -- each is the plan's own still
 own_here : (l : Lawbook) (key : Key) (old new : List Object) (x : Object) → ((o : Object) → object_named key.attrs.name old ≡ Some o → IsHere old key o)
@@ -196,7 +196,7 @@ room_after l keys place room key old new lawful here its (comes uid fits free ui
 room_after l keys place room key old new lawful here its (takes o state there from now) roomy =
     let long : length new ≡ length old = ap length now ∙ length-map old (restated o.uid state) in
     let few : missing keys new ≡ missing keys old = none_made keys old new (λ name.
-    ap (λ objects. is_none (object_named name objects)) now ∙ ap is_none (l.named_restated name o.uid state old) ∙ stays_some (object_named name old) (restated o.uid state)) in
+    ap (λ objects. is_none (object_named name objects)) now ∙ ap is_none (l.objects.named_restated name o.uid state old) ∙ stays_some (object_named name old) (restated o.uid state)) in
     omega (arith, long, few, roomy) where
       stays_some : (found : Option Object) (f : Object → Object) → is_none (option_map f found) ≡ is_none found
       stays_some None f = refl

@@ -58,7 +58,7 @@ go_nearer : (l : Lawbook) (room : ℕ) (old new : List Object) (key : Key) (know
     → ServerStep room old (next_ask key uid (step_at key.target (known.done + 1))) outcome new → IsNearer key known outcome old new
 go_nearer l room old new key known uid outcome phase_is worked known_is from step =
     let (o, named, same) = own_uid old key known uid worked.held known_is in
-    let (next, stands, place) = l.next_step key.target known.done worked.more in
+    let (next, stands, place) = l.plan.next_step key.target known.done worked.more in
     let later : 1 < step_place key.target next = omega (arith, place, from) in
     step_nearer l room old new key known o next (step_ask key uid next) outcome
     (record {
@@ -69,7 +69,7 @@ go_nearer l room old new key known uid outcome phase_is worked known_is from ste
       place = place;
       later = later;
     })
-    (subst (λ u. step_asked (step_ask key uid next) ≡ Some (next, u)) (sym same) (next_asked key uid next later (l.reasons key worked.fits)))
+    (subst (λ u. step_asked (step_ask key uid next) ≡ Some (next, u)) (sym same) (next_asked key uid next later (l.plan.reasons key worked.fits)))
     (subst (λ s. ServerStep room old (next_ask key uid s) outcome new) stands step)
 
 pub phase_nearer : (l : Lawbook) (room : ℕ) (old new : List Object) (key : Key) (known : Knowledge) (phase : Phase) (outcome : Outcome) → known.phase ≡ phase
@@ -90,10 +90,10 @@ is_worked : (l : Lawbook) (keys : List Key) (place room : ℕ) (objects : List O
     → IsReady room keys objects knowns → slice_get keys place ≡ Some key → slice_get knowns place ≡ Some known → is_working key known ≡ true
     → IsWorked room objects key known
 is_worked l keys place room objects knowns key known lawful ready here there works = record {
-  here = λ o is. ready.here key o (l.found keys place key lawful here) is;
+  here = λ o is. ready.here key o (l.plan.found keys place key lawful here) is;
   held = held_at keys knowns place key known objects ready.held here there;
   more = ltb-true known.done (chain_length key) (and_parts (nat_lt known.done (chain_length key)) (not (is_some known.clash)) works).0;
-  fits = l.fit keys lawful place key here;
+  fits = l.plan.fit keys lawful place key here;
   roomy = λ none. let one = one_missing keys place key objects here none in let roomy = ready.roomy in omega (arith, one, roomy);
 }
 
@@ -107,7 +107,7 @@ all_nearer : (l : Lawbook) (keys : List Key) (place room : ℕ) (old new : List 
 all_nearer l keys place room old new knowns key known outcome lawful ready here there nearer =
     let same = places_same l keys place key old new lawful here ready.here nearer.change in (
       record {
-        here = here_after l keys key old new (l.found keys place key lawful here) ready.here nearer.change;
+        here = here_after l keys key old new (l.plan.found keys place key lawful here) ready.here nearer.change;
         held = one_held keys knowns place key nearer.next old new same here ready.held nearer.held;
         roomy = room_after l keys place room key old new lawful here ready.here nearer.change ready.roomy;
       },
@@ -151,7 +151,7 @@ pub turn_told : (l : Lawbook) (keys : List Key) (knowns : List Knowledge) (place
 turn_told l keys knowns place w reply objects news old new lawful held served n =
     let operation = operation_of (ask_about w.key w.known) in
     let its = held_at keys knowns place w.key w.known objects held w.key_is w.known_is in
-    let asked = asked_of objects w.key (ask_about w.key w.known) (l.asks objects w.key w.known its w.works) in
+    let asked = asked_of objects w.key (ask_about w.key w.known) (l.client.asks objects w.key w.known its w.works) in
     elim (served.serves.id_is) [
       | inl same ↦ (
         record { place = place; operation = operation; reply = reply; known = w.known; next = n.next; heard = Some (heard_from place operation reply.outcome w.known n.next) },
@@ -160,7 +160,7 @@ turn_told l keys knowns place w reply objects news old new lawful held served n 
         refl,
         refl,
         refl,
-        (refl, refl, λ ks there. heard_is keys ks place operation w.key w.known n.next reply l.distinct lawful w.key_is there w.works asked same (told served.serves.operation_is) n.learnt),
+        (refl, refl, λ ks there. heard_is keys ks place operation w.key w.known n.next reply l.plan.distinct lawful w.key_is there w.works asked same (told served.serves.operation_is) n.learnt),
       )
       | inr bare ↦ (
         record { place = place; operation = operation; reply = reply; known = w.known; next = n.next; heard = None },
@@ -321,7 +321,7 @@ pub then_known : (l : Lawbook) (keys : List Key) (knowns : List Knowledge) (plac
     → AreTold keys knowns turns → known_then keys question (Some given) knowns ≡ set_each turns knowns
 then_known l keys knowns places question given [] replies parts at some apart told = absurd (omega (arith, some, ap length at))
 then_known l keys knowns places question given (t ∷ ts) replies parts at some apart told =
-    let read = l.said given t.reply (replies_of ts) (sym replies) in
+    let read = l.messages.read given t.reply (replies_of ts) (sym replies) in
     ap (λ r. taught_by keys question.parts knowns (hear_all keys knowns r)) read
     ∙ ap (λ ps. taught_by keys ps knowns (hear_all keys knowns (Ok (replies_of (t ∷ ts))))) (sym parts)
     ∙ taught_all keys (t ∷ ts) knowns (subst AreApart (sym at) apart) told

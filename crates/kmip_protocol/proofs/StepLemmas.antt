@@ -60,7 +60,7 @@ step_failed l room objects key known o step reason next none =
           stays_nearer key known (lose known) (Failed reason) objects objects refl refl (lost_held objects key known next.worked.held) (omega (arith, before, more, soon))
       | inr even ↦
           let same : step_place key.target step ≡ p + 1 = omega (arith, next.place, had, ltb-false known.done p even) in
-          absurd (l.row key.target o.state step next.later same from none)
+          absurd (l.plan.row key.target o.state step next.later same from none)
     ]
 
 -- ---- it is done
@@ -85,7 +85,7 @@ step_done l room objects key known o step state next row =
     let had = had_steps room objects key known o step next in
     let further = MatchOption-at_some (Unit {0}) (λ new. (step_place key.target step ≡ place_reached key.target o.state + 1)
     × (place_reached key.target new ≡ place_reached key.target o.state + 1))
-    state row (l.advance key.target o.state step next.later (omega (arith, next.place, had)) here.own.on_the_way) in
+    state row (l.plan.advance key.target o.state step next.later (omega (arith, next.place, had)) here.own.on_the_way) in
     let even : known.done ≡ p = omega (arith, next.place, further.0) in
     let there = took_here l key o state objects here (omega (arith, further.1)) in
     let now = here_found (all_restated o.uid state objects) key (record o { state = state }) there in

@@ -227,7 +227,7 @@ pub gone_heard : (l : Lawbook) (keys : List Key) (p : Past) (t : ℕ → Bool) (
 gone_heard l keys p t knowns [] mids gone so counted = gone
 gone_heard l keys p t knowns (reply ∷ replies) mids gone so counted =
     let first = All-head (TrueReply keys p.objects) reply replies so in
-    let one = by (heard_in keys reply mids) refl (l.held_heard p.objects keys (reply ∷ []) mids gone.held (All-cons (TrueReply keys p.objects) reply [] first (All-nil (TrueReply keys p.objects))))
+    let one = by (heard_in keys reply mids) refl (l.client.heard p.objects keys (reply ∷ []) mids gone.held (All-cons (TrueReply keys p.objects) reply [] first (All-nil (TrueReply keys p.objects))))
     (All-head (IsCountedReply keys t) reply replies counted) in
     gone_heard l keys p t knowns replies (known_after_reply (heard_in keys reply mids) mids) one
     (All-tail (TrueReply keys p.objects) reply replies so) (All-tail (IsCountedReply keys t) reply replies counted)
@@ -254,7 +254,7 @@ pub gone_lost : (l : Lawbook) (keys : List Key) (p : Past) (t : ℕ → Bool) (k
     → Gone keys p t knowns mids → All (λ (part : Part). t part.key ≡ true) parts → Gone keys p t knowns (lost_each keys parts mids)
 gone_lost l keys p t knowns [] mids gone counted = gone
 gone_lost l keys p t knowns (part ∷ parts) mids gone counted =
-    let one = by (slice_get keys part.key) (slice_get mids part.key) refl refl (l.held_lost p.objects keys mids part.key gone.held)
+    let one = by (slice_get keys part.key) (slice_get mids part.key) refl refl (l.client.lost p.objects keys mids part.key gone.held)
     (All-head (λ (part : Part). t part.key ≡ true) part parts counted) in
     gone_lost l keys p t knowns parts (changed_at lost_working keys mids part.key) one (All-tail (λ (part : Part). t part.key ≡ true) part parts counted)
   where

@@ -69,3 +69,16 @@ abbrev pub ExchangesAreAmid : Type 0
 ExchangesAreAmid =
     (keys : List Key) (old new : Past) (sent : List ℕ) (answer : Result (Option (List ℕ)) LinkFault)
     → Exchanged (is_planned keys) old sent answer new → ExchangedAmid keys old sent answer new
+
+-- What holds of a client of a plan among others of the plan.
+pub record AmidLaws : Type 0 where
+  pub passing : PassingAmidKeepsSound
+  pub exchanges : ExchangesAmidKeepSound
+  pub image_passing : PassingAmidKeepsTheImage
+  pub image_exchanged : ExchangesAmidKeepTheImage
+  pub nothing : NothingPasses
+  pub joins : PassingJoins
+  pub blind : PassingIsBlind
+  pub exchanges_pass : ExchangesPass
+  pub deliveries_amid : DeliveriesAreAmid
+  pub exchanges_amid : ExchangesAreAmid

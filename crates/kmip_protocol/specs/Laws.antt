@@ -159,3 +159,27 @@ abbrev pub WhatIsDoneJoins : Type 0
 WhatIsDoneJoins =
     (room : ℕ) (old new : List Object) (ask : Ask) (outcome : Outcome) → DistinctNames old → DistinctUids old
     → ServerStep room old ask outcome new → Joins old new (effect_of old ask outcome)
+
+-- What holds of all that may happen between a client and its server.
+pub record ExchangeLaws : Type 0 where
+  pub onward : ObjectsGoOnward
+  pub deliveries : DeliveriesKeepSound
+  pub asking : AskingKeepsSound
+  pub exchanges : ExchangesKeepSound
+  pub answers : AnswersAreTrue
+  pub begins : NothingDoneIsSound
+  pub safe : SoundIsSafe
+  pub opening : OpeningIsMirrored
+  pub image_asked : AskingKeepsTheImage
+  pub image_delivered : DeliveriesKeepTheImage
+  pub image_exchanged : ExchangesKeepTheImage
+  pub join : DeliveriesJoin
+  pub nothing : NothingIsDelivered
+  pub requests_stay : DeliveriesKeepTheRequests
+  pub fewer_names : FewerNamesAreDelivered
+  pub names_of_prolonged : NamesOfProlonged
+  pub sound_of_prolonged : SoundOfProlonged
+  pub sound_between : SoundBetween
+  pub calm_is_honest : CalmExchangesAreHonest
+  pub taken : TakenIsDelivered
+  pub joins : WhatIsDoneJoins

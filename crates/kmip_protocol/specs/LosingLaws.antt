@@ -72,3 +72,14 @@ abbrev pub MostLeftNeverRises : Type 0
 MostLeftNeverRises =
     (keys : List Key) (old new : List Knowledge) → AllZip IsKept old new
     → most_left keys new ≤ most_left keys old
+
+-- What holds of clients over a link that loses messages.
+pub record LosingLaws : Type 0 where
+  pub needs_left : NeedsAreLeft
+  pub left_bounded : LeftIsBounded
+  pub left_known : LeftIsWithinWhatIsKnown
+  pub all_left : OpeningLeavesTheBound
+  pub falls : MostLeftNeverRises
+  pub late : LateArrivalsAddNothing
+  pub clean : CleanTurnsAreNearer
+  pub disturbed : DisturbedTurnsCostTwoEach

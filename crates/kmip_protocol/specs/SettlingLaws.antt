@@ -100,3 +100,17 @@ TheFinishedAreThere =
     (keys : List Key) (objects : List Object) (knowns : List Knowledge) → IsLawful keys → Held objects keys knowns
     → (place : ℕ) (key : Key) → slice_get keys place ≡ Some key → verdict_at keys knowns place ≡ Finished
     → (o : Object) × (object_named key.attrs.name objects ≡ Some o)
+
+-- What holds of clients that settle over a calm link.
+pub record SettlingLaws : Type 0 where
+  pub ready : SoundIsReady
+  pub untouched : NothingMadeIsReady
+  pub chains : NothingMadeNeedsTheChains
+  pub nearer : CalmTurnsAreNearer
+  pub room : RoomIsLeft
+  pub less : ProlongedMissNoLess
+  pub bounded : NeedsAreBounded
+  pub needless : WhoNeedsNothingIsFinished
+  pub needed : WhoIsSettledNeedsNothing
+  pub at_end : TheFinishedStandAtTheEnd
+  pub there : TheFinishedAreThere

@@ -11,8 +11,9 @@ use Rattle.kmip_protocol.specs.Seen.{Seen}
 use Rattle.kmip_protocol.specs.Sound.{Sound}
 use Rattle.kmip_protocol.specs.Needs.{missing}
 use Rattle.kmip_protocol.specs.Ready.{IsReady}
+use Rattle.kmip_runs.specs.PrivateLawbook.{Lawbook}
 use Rattle.kmip_runs.specs.Campaign.{CalmLink}
-use Rattle.kmip_runs.specs.PrivateCampaignParts.{CampaignLaws, HasSettled, IsNoted, Standing}
+use Rattle.kmip_runs.specs.PrivateCampaignParts.{HasSettled, IsNoted, Standing}
 use Rattle.kmip_runs.specs.Driving.{AsksOne, IsGood, IsSettling, Nearer, need}
 use Rattle.kmip_runs.specs.declared.run.Run.{Run}
 use Rattle.kmip_runs.specs.declared.run_end.RunEnd.{RunEnd}
@@ -23,7 +24,7 @@ use Rattle.kmip_runs.proofs.KnownLemmas.{on_ok}
 
 module _ (keys : List Key) where
   -- a client that knows the truth is ready over a calm link
-  settling_from : CampaignLaws → (b : ClientState) (x : Seen) → b.keys ≡ keys → CalmLink keys x → Held x.past.objects b.keys b.knowns
+  settling_from : Lawbook → (b : ClientState) (x : Seen) → b.keys ≡ keys → CalmLink keys x → Held x.past.objects b.keys b.knowns
       → IsSettling b x
   settling_from l b x b_keys calmly held = record {
     calm_for = subst (λ ks. x.calm (is_planned ks)) (sym b_keys) calmly.calm_for;
@@ -32,7 +33,7 @@ module _ (keys : List Key) where
   }
 
   -- begun, driven, noted and closed
-  pub settled_run : {A E : Type 0} → CampaignLaws → (run : Run) (a b c : ClientState) (x y z : Seen) (driven : Stop × ℕ) (ends nexts : List RunEnd) (saved : List (List Known)) (closed : Result A E)
+  pub settled_run : {A E : Type 0} → Lawbook → (run : Run) (a b c : ClientState) (x y z : Seen) (driven : Stop × ℕ) (ends nexts : List RunEnd) (saved : List (List Known)) (closed : Result A E)
       → a.keys ≡ keys → b.keys ≡ keys → c.keys ≡ keys
       → (All (TrueProgress x.past.objects keys) saved → Held x.past.objects a.keys a.knowns → Held x.past.objects b.keys b.knowns)
       → (IsGood b x → IsGood c y)

@@ -24,9 +24,10 @@ use Rattle.kmip_protocol.specs.Past.{Past}
 use Rattle.kmip_protocol.specs.Seen.{Seen}
 use Rattle.kmip_protocol.specs.Sound.{Sound}
 use Rattle.kmip_server.specs.declared.effect.Effect.{Effect}
+use Rattle.kmip_runs.specs.PrivateLawbook.{Lawbook}
 use Rattle.kmip_runs.specs.Headline.{GoodLink, reported, reported_by, steps_counted}
 use Rattle.kmip_runs.specs.Campaign.{HasNoConflict, IsNoClash}
-use Rattle.kmip_runs.specs.PrivateCampaignParts.{AreSame, CampaignLaws, Campaigned, IsEndOf, IsEnding, Noted, Reaches, Standing, saved_with}
+use Rattle.kmip_runs.specs.PrivateCampaignParts.{AreSame, Campaigned, IsEndOf, IsEnding, Noted, Reaches, Standing, saved_with}
 use Rattle.kmip_runs.specs.Driving.{IsGood, WentOn}
 use Rattle.kmip_runs.specs.declared.campaign_end.CampaignEnd.{CampaignEnd}
 use Rattle.kmip_runs.specs.declared.run.Run.{Run}
@@ -42,8 +43,8 @@ use Rattle.kmip_runs.proofs.OnLemmas.{on_nowhere}
 abbrev AreOf : List Key → List Key → Type 0
 AreOf plan keys = (place : ℕ) (key : Key) → slice_get keys place ≡ Some key → IsPlanned plan key
 
-pub all_of : CampaignLaws → (keys : List Key) → IsLawful keys → AreOf keys keys
-all_of l keys lawful = λ place key is. l.found keys place key lawful is
+pub all_of : Lawbook → (keys : List Key) → IsLawful keys → AreOf keys keys
+all_of l keys lawful = λ place key is. l.plan.found keys place key lawful is
 
 -- what holds of each key and what is beside it still does
 zip_onward : {B : Type 0} (R S : Key → B → Type 0) (plan : List Key) → ((key : Key) (b : B) → IsPlanned plan key → R key b → S key b)
@@ -55,7 +56,7 @@ zip_onward R S plan on (key ∷ keys) (b ∷ bs) of zipped =
     (on key b (of zero key refl) zipped.0, zip_onward R S plan on keys bs (λ place k is. of (suc place) k is) zipped.1)
 
 -- what was saved is true still
-pub true_one_onward : CampaignLaws → (keys : List Key) (old new : List Object) (progress : List Known) → IsLawful keys → Onward keys old new
+pub true_one_onward : Lawbook → (keys : List Key) (old new : List Object) (progress : List Known) → IsLawful keys → Onward keys old new
     → TrueProgress old keys progress → TrueProgress new keys progress
 true_one_onward l keys old new progress lawful onward holds =
     zip_onward (TrueOf old) (TrueOf new) keys
@@ -65,12 +66,12 @@ true_one_onward l keys old new progress lawful onward holds =
       has_identifier = is.has_identifier;
     }) keys progress (all_of l keys lawful) holds
 
-pub true_onward : CampaignLaws → (keys : List Key) (old new : List Object) (saved : List (List Known)) → IsLawful keys → Onward keys old new
+pub true_onward : Lawbook → (keys : List Key) (old new : List Object) (saved : List (List Known)) → IsLawful keys → Onward keys old new
     → All (TrueProgress old keys) saved → All (TrueProgress new keys) saved
 true_onward l keys old new saved lawful onward holds =
     All-weaker (TrueProgress old keys) (TrueProgress new keys) (λ progress each. true_one_onward l keys old new progress lawful onward each) saved holds
 
-pub noted_onward : CampaignLaws → (keys : List Key) (old new : List Object) (ends : List RunEnd) (saved : List (List Known)) → IsLawful keys → Onward keys old new
+pub noted_onward : Lawbook → (keys : List Key) (old new : List Object) (ends : List RunEnd) (saved : List (List Known)) → IsLawful keys → Onward keys old new
     → Noted old keys ends saved → Noted new keys ends saved
 noted_onward l keys old new ends saved lawful onward noted = record {
   reached = All-weaker (λ (end : RunEnd). AllZip (Reaches old) keys end.counts.items) (λ (end : RunEnd). AllZip (Reaches new) keys end.counts.items)
@@ -93,12 +94,12 @@ first_are P f (y ∷ ys) (suc n) each =
 at_place : (target : Target) (k : ℕ) (step : Step) → slice_get (chain target) k ≡ Some step → step_at target (suc k) ≡ Some step
 at_place target k step is = is
 
-counted_reached : CampaignLaws → (plan : List Key) (p : Past) (key : Key) (count : ℕ) → IsPlanned plan key → count ≤ position key p.objects
+counted_reached : Lawbook → (plan : List Key) (p : Past) (key : Key) (count : ℕ) → IsPlanned plan key → count ≤ position key p.objects
     → All (IsReached plan p) (steps_counted key count)
 counted_reached l plan p key count planned reaches =
     first_are (IsReached plan p) (λ step. record { name = key.attrs.name; step = step }) (chain key.target) count
     (λ k step is below.
-    let place : step_place key.target step ≡ suc k = (l.places key.target (suc k) step (omega arith)).0 (at_place key.target k step is) in
+    let place : step_place key.target step ≡ suc k = (l.plan.places key.target (suc k) step (omega arith)).0 (at_place key.target k step is) in
     (key, planned, refl, omega (arith, place), omega (arith, place, below, reaches)))
 
 -- as many of the first keys as are counted have come at least so far
@@ -113,7 +114,7 @@ all_front objects [] (count ∷ counts) reached = absurd reached
 all_front objects (key ∷ keys) [] reached = tt
 all_front objects (key ∷ keys) (count ∷ counts) reached = (reached.0, all_front objects keys counts reached.1)
 
-pub by_front : CampaignLaws → (plan : List Key) (p : Past) (keys : List Key) (counts : List ℕ) → AreOf plan keys → FrontReaches p.objects keys counts
+pub by_front : Lawbook → (plan : List Key) (p : Past) (keys : List Key) (counts : List ℕ) → AreOf plan keys → FrontReaches p.objects keys counts
     → All (IsReached plan p) (reported_by keys counts)
 by_front l plan p [] [] of reached = All-nil (IsReached plan p)
 by_front l plan p [] (count ∷ counts) of reached = absurd reached
@@ -122,7 +123,7 @@ by_front l plan p (key ∷ keys) (count ∷ counts) of reached =
     All-append (IsReached plan p) (steps_counted key count) (reported_by keys counts) (counted_reached l plan p key count (of zero key refl) reached.0)
     (by_front l plan p keys counts (λ place k is. of (suc place) k is) reached.1)
 
-by_reached : CampaignLaws → (plan : List Key) (p : Past) (keys : List Key) (counts : List ℕ) → AreOf plan keys → AllZip (Reaches p.objects) keys counts
+by_reached : Lawbook → (plan : List Key) (p : Past) (keys : List Key) (counts : List ℕ) → AreOf plan keys → AllZip (Reaches p.objects) keys counts
     → All (IsReached plan p) (reported_by keys counts)
 by_reached l plan p keys counts of reached = by_front l plan p keys counts of (all_front p.objects keys counts reached)
 
@@ -137,7 +138,7 @@ saved_reached objects [] (known ∷ saved) holds = absurd holds
 saved_reached objects (key ∷ keys) [] holds = absurd holds
 saved_reached objects (key ∷ keys) (known ∷ saved) holds = (holds.0.done_true, saved_reached objects keys saved holds.1)
 
-pub reported_reached : CampaignLaws → (keys : List Key) (p : Past) (ends : List RunEnd) (saved : List (List Known)) → IsLawful keys → Noted p.objects keys ends saved
+pub reported_reached : Lawbook → (keys : List Key) (p : Past) (ends : List RunEnd) (saved : List (List Known)) → IsLawful keys → Noted p.objects keys ends saved
     → All (IsReached keys p) (reported keys ends saved)
 reported_reached l keys p ends saved lawful noted =
     All-append (IsReached keys p) (flat_map (λ (end : RunEnd). reported_by keys end.counts.items) ends)
@@ -158,10 +159,10 @@ counts_reached objects (key ∷ keys) [] held = absurd held
 counts_reached objects (key ∷ keys) (known ∷ knowns) held = (held.0.holds.done_true, counts_reached objects keys knowns held.1)
 
 -- if all is good, the past is safe for what is known
-pub known_is_safe : CampaignLaws → (keys : List Key) (p : Past) (knowns : List Knowledge) → IsLawful keys → Sound keys p → Held p.objects keys knowns
+pub known_is_safe : Lawbook → (keys : List Key) (p : Past) (knowns : List Knowledge) → IsLawful keys → Sound keys p → Held p.objects keys knowns
     → Safe keys p (reported_by keys (counts_of knowns))
 known_is_safe l keys p knowns lawful sound held =
-    l.safe keys p (reported_by keys (counts_of knowns)) sound
+    l.exchanges.safe keys p (reported_by keys (counts_of knowns)) sound
     (by_reached l keys p keys (counts_of knowns) (all_of l keys lawful) (counts_reached p.objects keys knowns held))
 
 none_clashes : (key : Key) (known : Knowledge) → known.clash ≡ None → IsNoClash (verdict_of key known)
@@ -230,7 +231,7 @@ good_with a b x same good held = record {
 }
 
 -- begun, driven and noted
-pub stood : CampaignLaws → (keys : List Key) (a b c : ClientState) (x y : Seen) (stop : Stop) (ends nexts : List RunEnd) (saved kept : List (List Known)) → IsLawful keys
+pub stood : Lawbook → (keys : List Key) (a b c : ClientState) (x y : Seen) (stop : Stop) (ends nexts : List RunEnd) (saved kept : List (List Known)) → IsLawful keys
     → a.keys ≡ keys → b.keys ≡ keys → c.keys ≡ keys
     → (All (TrueProgress x.past.objects keys) saved → Held x.past.objects a.keys a.knowns → Held x.past.objects b.keys b.knowns)
     → (IsGood b x → IsGood c y) → (IsGood b x → WentOn b.keys x.past y.past) → (IsGood b x → stop ≢ stops.Conflict)
@@ -250,32 +251,32 @@ stood l keys a b c x y stop ends nexts saved kept lawful a_keys b_keys c_keys be
     )
 
 -- and closed
-pub closed : CampaignLaws → (keys : List Key) (c : ClientState) (x y z : Seen) (ends : List RunEnd) (saved : List (List Known)) → IsLawful keys → c.keys ≡ keys
+pub closed : Lawbook → (keys : List Key) (c : ClientState) (x y z : Seen) (ends : List RunEnd) (saved : List (List Known)) → IsLawful keys → c.keys ≡ keys
     → ((keys : List Key) → y.amid keys → Sound keys y.past → z.amid keys × PassedAmid keys y.past z.past)
     → Standing keys c y ends saved × WentOn keys x.past y.past → Standing keys c z ends saved × WentOn keys x.past z.past
 closed l keys c x y z ends saved lawful c_keys ended (standing, went) =
     let sound = subst (λ ks. Sound ks y.past) c_keys standing.good.sound in
     let step = ended keys (subst (λ ks. y.amid ks) c_keys standing.good.amid_for) sound in
-    let kept = l.passing keys y.past z.past sound step.1 in
+    let kept = l.amid.passing keys y.past z.past sound step.1 in
     let on = kept.1 in (
       record {
         good = record {
           amid_for = subst (λ ks. z.amid ks) (sym c_keys) step.0;
           sound = subst (λ ks. Sound ks z.past) (sym c_keys) kept.0;
-          held = l.known_for_good c.keys c.knowns y.past.objects z.past.objects (subst (λ ks. IsLawful ks) (sym c_keys) lawful)
+          held = l.client.known_for_good c.keys c.knowns y.past.objects z.past.objects (subst (λ ks. IsLawful ks) (sym c_keys) lawful)
               (subst (λ ks. Onward ks y.past.objects z.past.objects) (sym c_keys) on) standing.good.held;
         };
         noted = noted_onward l keys y.past.objects z.past.objects ends saved lawful on standing.noted;
       },
       record {
-        onward = l.twice keys x.past.objects y.past.objects z.past.objects went.onward on;
-        mirrored = λ image. l.images keys y.past z.past sound (went.mirrored image) step.1;
-        passed = l.joins keys (seen_by_others x.past) (seen_by_others y.past) (seen_by_others z.past) went.passed (l.blind_to keys [] [] y.past z.past step.1);
+        onward = l.client.twice keys x.past.objects y.past.objects z.past.objects went.onward on;
+        mirrored = λ image. l.amid.image_passing keys y.past z.past sound (went.mirrored image) step.1;
+        passed = l.amid.joins keys (seen_by_others x.past) (seen_by_others y.past) (seen_by_others z.past) went.passed (l.amid.blind keys [] [] y.past z.past step.1);
       },
     )
 
 -- a client that knows nothing begins
-pub opened : CampaignLaws → (keys : List Key) (c : ClientState) (x : Seen) (ends : List RunEnd) (saved : List (List Known)) → c.keys ≡ keys
+pub opened : Lawbook → (keys : List Key) (c : ClientState) (x : Seen) (ends : List RunEnd) (saved : List (List Known)) → c.keys ≡ keys
     → Held x.past.objects c.keys c.knowns → ends ≡ [] → saved ≡ [] → GoodLink keys x
     → Standing keys c x ends saved × WentOn keys x.past x.past
 opened l keys c x ends saved c_keys held no_end none_saved good = (
@@ -287,7 +288,7 @@ opened l keys c x ends saved c_keys held no_end none_saved good = (
     };
     noted = noted_none x.past.objects keys ends saved no_end none_saved;
   },
-  on_nowhere l.itself l.nothing keys x.past,
+  on_nowhere l.client.itself l.amid.nothing keys x.past,
 )
 
 pub campaigned : (keys : List Key) (c : ClientState) (x y : Seen) (ends : List RunEnd) (saved : List (List Known)) → c.keys ≡ keys

@@ -18,13 +18,14 @@ use Rattle.kmip_protocol.specs.Seen.{Seen}
 use Rattle.kmip_client.specs.Saving.{progress}
 use Rattle.kmip_progress.specs.Texts.{progress_text}
 use Rattle.kmip_protocol.specs.Sound.{Sound}
+use Rattle.kmip_runs.specs.PrivateLawbook.{Lawbook}
 use Rattle.kmip_runs.specs.Driving.{AreFinished, AsksOne, IsBorneOut, IsGood, IsSettling, IsUnheard, IsUnmade, Learnt, Nearer, WentOn, need}
 use Rattle.kmip_runs.specs.declared.stop.Stop.{Stop}
 use Rattle.kmip_runs.specs.declared.stop.Stop.TheVariants as stops
 use Rattle.kmip_runs.specs.Private.{IsBrokenOff, exchanges_made}
 use Rattle.kmip_runs.specs.Keeping.{Kept, MakesLast}
 use Rattle.kmip_runs.specs.Lasting.{IsTried, KeepsMoments}
-use Rattle.kmip_runs.specs.PrivateCarried.{Carried, CarryingLaws, SavesProgress, Went}
+use Rattle.kmip_runs.specs.PrivateCarried.{Carried, SavesProgress, Went}
 use Rattle.kmip_runs.specs.PrivateTurns.{MakesTurn, turn_count}
 use Rattle.kmip_runs.specs.Saved.{AreUnsaved, Grounds, HasMemory, IsInMemory, IsLeft, IsWhole, Situation, grounds_in, moment, text_at}
 use Rattle.kmip_runs.specs.declared.save_fault.SaveFault.{SaveFault}
@@ -189,20 +190,20 @@ carried_none a next y stop went = record {
 }
 
 -- if there was no memory to begin with
-pub carried_unbegun : CarryingLaws → (a : Situation) → Carried a a (Ok stops.NoMemory) 0
+pub carried_unbegun : Lawbook → (a : Situation) → Carried a a (Ok stops.NoMemory) 0
 carried_unbegun l a = record {
   went = went_unbegun l a;
   kept = record {
     moments = [];
     are = moments_broken a.client.keys a.client.batch (grounds_in a) (moment a.client a.link) (moment a.client a.link) 0 (kept_itself a.client.knowns)
-        (λ good. on_nowhere l.itself l.nothing a.client.keys a.link.past) (omega arith);
+        (λ good. on_nowhere l.client.itself l.amid.nothing a.client.keys a.link.past) (omega arith);
     saved = λ remembers. (remembers, sym (append-nil a.keeper.saved));
     any_moment = λ lawful. leaves_same a.client.keys (grounds_in a).honest (moment a.client a.link) a.keeper.disk stops.NoMemory 0 lawful (λ whole. refl);
   };
 }
 
 -- if it was saved
-pub carried_one : CarryingLaws → (a b : Situation) (stop : Stop) (done : Unit {0}) → stop ≢ stops.NoMemory
+pub carried_one : Lawbook → (a b : Situation) (stop : Stop) (done : Unit {0}) → stop ≢ stops.NoMemory
     → (a.keeper.remembers → b.keeper.remembers × (b.keeper.saved ≡ a.keeper.saved ++ progress_text b.client.keys (progress b.client) ∷ []))
     → (a.keeper.disk.lawful → SavesProgress a.keeper.disk b.client (Ok done) b.keeper.disk) → Went a b (Ok stop) 1
     → Carried a b (Ok stop) 1
@@ -211,7 +212,7 @@ carried_one l a b stop done memory saves whole went = record {
   kept = record {
     moments = moment b.client b.link ∷ [];
     are = moments_one a.client.keys a.client.batch (grounds_in a) (moment a.client a.link) (moment b.client b.link) stop went.keeps.kept went.onward
-        (λ good. on_nowhere l.itself l.nothing a.client.keys b.link.past) (learns a b stop 1 memory went)
+        (λ good. on_nowhere l.client.itself l.amid.nothing a.client.keys b.link.past) (learns a b stop 1 memory went)
         (λ good. subst (λ ks. Held b.link.past.objects ks b.client.knowns) went.keeps.keys_stay (went.good good).held);
     saved = λ remembers.
         let so = saves remembers in
@@ -239,7 +240,7 @@ carried_not a b fault saves whole went = record {
 
 -- ---- several exchanges
 
-carried_rest : CarryingLaws → (a : Situation) (stop : Stop) → stop ≢ stops.NoMemory → Carried a a (Ok stop) 0
+carried_rest : Lawbook → (a : Situation) (stop : Stop) → stop ≢ stops.NoMemory → Carried a a (Ok stop) 0
 carried_rest l a stop memory =
     let went = went_nowhere l a (Ok stop) (λ is. memory (stop_is stop stops.NoMemory is)) in
     record {
@@ -253,7 +254,7 @@ carried_rest l a stop memory =
       };
     }
 
-pub carried_itself : CarryingLaws → (a : Situation) → Carried a a (Ok stops.Limit) 0
+pub carried_itself : Lawbook → (a : Situation) → Carried a a (Ok stops.Limit) 0
 carried_itself l a = carried_rest l a stops.Limit (λ is. absurd cc)
 
 whole_in_memory : (result : Result Stop SaveFault) → IsWhole result → IsInMemory result
@@ -270,7 +271,7 @@ same_text_then a b c result m n first second honest whole none =
     (same_text b.client.keys b.client.batch (moment b.client b.link) (moment c.client c.link)
     (subst (λ k. Learnt b.client.keys b.client.batch b.link.past c.link.past b.client.knowns c.client.knowns k) none learnt))
 
-pub carried_then : CarryingLaws → (a b c : Situation) (result : Result Stop SaveFault) (m n : ℕ) → IsLawful a.client.keys
+pub carried_then : Lawbook → (a b c : Situation) (result : Result Stop SaveFault) (m n : ℕ) → IsLawful a.client.keys
     → Carried a b (Ok stops.Limit) m → Carried b c result n
     → Carried a c result (m + n)
 carried_then l a b c result m n lawful first second =
@@ -279,12 +280,12 @@ carried_then l a b c result m n lawful first second =
     let grounds_for : List Key → Grounds = λ ks. record { good = IsGood b.client b.link; honest = b.link.honest (is_planned ks) } in
     let stays : StaysTrue a.client.keys (IsGood a.client a.link) (moment b.client b.link) (moment c.client c.link) =
     λ good knowns.
-    l.known_for_good a.client.keys knowns b.link.past.objects c.link.past.objects lawful
+    l.client.known_for_good a.client.keys knowns b.link.past.objects c.link.past.objects lawful
     (subst (λ ks. WentOn ks b.link.past c.link.past) keys (second.went.onward (first.went.good good))).onward in
     record {
       went = went_then l a b c stops.Limit result m n memory first.went second.went;
       kept =
-          keeps_then l.blind l.twice l.joins a.client.keys a.client.batch (grounds_in a) (moment a.client a.link) (moment b.client b.link) (moment c.client c.link)
+          keeps_then l.client.blind l.client.twice l.amid.joins a.client.keys a.client.batch (grounds_in a) (moment a.client a.link) (moment b.client b.link) (moment c.client c.link)
           a.keeper b.keeper c.keeper stops.Limit result m n memory stays
           (λ honest whole none. same_text_then a b c result m n first.went second.went honest whole none) first.kept
           (keeps_from a.client.keys a.client.batch (grounds_in a) (grounds_for a.client.keys) (moment b.client b.link) (moment c.client c.link) b.keeper c.keeper result n
@@ -295,7 +296,7 @@ carried_then l a b c result m n lawful first second =
     }
 
 -- and one more, after which some key is worked on still
-pub carried_more : CarryingLaws → (a b c : Situation) (result : Result Stop SaveFault) (m n : ℕ) → IsLawful a.client.keys
+pub carried_more : Lawbook → (a b c : Situation) (result : Result Stop SaveFault) (m n : ℕ) → IsLawful a.client.keys
     → Carried a b (Ok stops.Limit) m → Carried b c result n → result ≡ Ok stops.Limit → n ≡ 1
     → Carried a c (Ok stops.Limit) (m + 1)
 carried_more l a b c result m n lawful before step limit one =
@@ -303,7 +304,7 @@ carried_more l a b c result m n lawful before step limit one =
     (subst (λ n. Carried a c result (m + n)) one (carried_then l a b c result m n lawful before step))
 
 -- after the last of them it stops for what the client knows
-pub carried_stop : CarryingLaws → (a b : Situation) (stop : Stop) (m n : ℕ) → IsLawful a.client.keys → stop ≢ stops.NoMemory → m ≡ n
+pub carried_stop : Lawbook → (a b : Situation) (stop : Stop) (m n : ℕ) → IsLawful a.client.keys → stop ≢ stops.NoMemory → m ≡ n
     → Carried a b (Ok stops.Limit) m → Carried a b (Ok stop) n
 carried_stop l a b stop m n lawful memory same before =
     let rest = carried_rest l b stop memory in
@@ -311,7 +312,7 @@ carried_stop l a b stop m n lawful memory same before =
     subst (λ n. Carried a b (Ok stop) n) all (carried_then l a b b (Ok stop) m 0 lawful before rest)
 
 -- and the end of the run
-pub carried_closed : {V E : Type 0} → CarryingLaws → (a b : Situation) (z : Seen) (result ended : Result Stop SaveFault) (closed : Result V E) (m : ℕ)
+pub carried_closed : {V E : Type 0} → Lawbook → (a b : Situation) (z : Seen) (result ended : Result Stop SaveFault) (closed : Result V E) (m : ℕ)
     → IsLawful a.client.keys → ((names : Names) → b.link.honest names → z.honest names × Delivered names b.link.past z.past)
     → ((keys : List Key) → b.link.amid keys → Sound keys b.link.past → z.amid keys × PassedAmid keys b.link.past z.past)
     → ((names : Names) → b.link.calm names → z.calm names × OnOk closed (z.past ≡ b.link.past)) → OnOk closed (ended ≡ result)
@@ -326,17 +327,17 @@ carried_closed l a b z result ended closed m lawful delivers passes calms same s
     (subst (λ ks. Sound ks b.link.past) first.went.keeps.keys_stay (first.went.good good).sound) in
     let stays : StaysTrue a.client.keys (IsGood a.client a.link) (moment b.client b.link) (moment b.client z) =
     λ good knowns.
-    l.known_for_good a.client.keys knowns b.link.past.objects z.past.objects lawful
-    (l.passing a.client.keys b.link.past z.past (subst (λ ks. Sound ks b.link.past) first.went.keeps.keys_stay (first.went.good good).sound) (over good).1).1 in
+    l.client.known_for_good a.client.keys knowns b.link.past.objects z.past.objects lawful
+    (l.amid.passing a.client.keys b.link.past z.past (subst (λ ks. Sound ks b.link.past) first.went.keeps.keys_stay (first.went.good good).sound) (over good).1).1 in
     record {
       went = went_closed l a b z result ended closed m lawful delivers passes calms memory (λ is. cut_before closed result ended same stop fault is) whole first.went;
       kept =
-          keeps_ended l.blind l.twice l.joins a.client.keys a.client.batch (grounds_in a) (moment a.client a.link) (moment b.client b.link) (moment b.client z) a.keeper b.keeper
+          keeps_ended l.client.blind l.client.twice l.amid.joins a.client.keys a.client.batch (grounds_in a) (moment a.client a.link) (moment b.client b.link) (moment b.client z) a.keeper b.keeper
           result ended m refl
           (λ good.
           went_passed l a.client.keys b.link.past z.past (subst (λ ks. Sound ks b.link.past) first.went.keeps.keys_stay (first.went.good good).sound) (over good).1)
           (λ holds.
-          learnt_delivered l.requests a.client.keys a.client.batch (is_planned a.client.keys) b.link.past z.past b.client.knowns
+          learnt_delivered l.exchanges.requests_stay a.client.keys a.client.batch (is_planned a.client.keys) b.link.past z.past b.client.knowns
           (delivers (is_planned a.client.keys) (first.went.learns holds).0).1)
           (still_unsaved closed result ended same stop fault) (still_tried closed result ended same stop fault) memory (λ done. (whole done).0) stays first.kept;
     }
@@ -391,28 +392,28 @@ pub unless_given_up : (result : Result Stop SaveFault) (made limit : ℕ) (tired
 unless_given_up result made limit tired at fresh is = elim (at is) [ inl all ↦ all | inr gave ↦ absurd cc ]
 
 -- over a calm link, with as many exchanges as the plan is bounded by, all keys are finished
-settled_stop : CarryingLaws → (a b : ClientState) (x y : Seen) (stop : Stop) (made limit : ℕ) → IsLawful a.keys → IsSettling a x
+settled_stop : Lawbook → (a b : ClientState) (x y : Seen) (stop : Stop) (made limit : ℕ) → IsLawful a.keys → IsSettling a x
     → Nearer a b x y made → stop ≢ stops.NoMemory → IsBorneOut stop b.keys b.knowns → (stop ≡ stops.Limit → made ≡ limit) → bound a.keys ≤ limit
     → (stop ≡ stops.AllFinished) × (made ≤ need a x.past) × (AsksOne a → made ≡ need a x.past) × (made ≤ bound a.keys)
 settled_stop l a b x y stops.AllFinished made limit lawful first near memory stands at enough =
     let held = near.settling.ready.held in
-    let few = l.bounded x.past.room a.keys x.past.objects a.knowns lawful first.ready in
-    let nothing = l.needed b.keys y.past.objects b.knowns held (finished_settled y.past.objects b.keys b.knowns held stands) in
+    let few = l.settling.bounded x.past.room a.keys x.past.objects a.knowns lawful first.ready in
+    let nothing = l.settling.needed b.keys y.past.objects b.knowns held (finished_settled y.past.objects b.keys b.knowns held stands) in
     let sum = near.nearer in
     (refl, omega (arith, sum), λ one. omega (arith, near.exactly one, nothing), omega (arith, sum, few))
 settled_stop l a b x y stops.Limit made limit lawful first near memory stands at enough =
-    let few = l.bounded x.past.room a.keys x.past.objects a.knowns lawful first.ready in
+    let few = l.settling.bounded x.past.room a.keys x.past.objects a.knowns lawful first.ready in
     let all = at refl in
     let sum = near.nearer in
     let nothing : need b y.past ≡ 0 = omega (arith, sum, few, enough, all) in
-    let both : Working ≡ Finished = sym stands.2 ∙ l.needless b.keys y.past.objects b.knowns near.settling.ready.held nothing stands.0 stands.1 in
+    let both : Working ≡ Finished = sym stands.2 ∙ l.settling.needless b.keys y.past.objects b.knowns near.settling.ready.held nothing stands.0 stands.1 in
     absurd cc
 settled_stop l a b x y stops.Conflict made limit lawful first near memory stands at enough =
     let clash = stands.1 in
-    absurd (l.no_conflict y.past.objects b.keys b.knowns near.settling.ready.held clash.0 clash.1 clash.3)
+    absurd (l.client.no_conflict y.past.objects b.keys b.knowns near.settling.ready.held clash.0 clash.1 clash.3)
 settled_stop l a b x y stops.NoMemory made limit lawful first near memory stands at enough = absurd (memory refl)
 
-pub settled_end : CarryingLaws → (a b : Situation) (result : Result Stop SaveFault) (made limit : ℕ) → IsLawful a.client.keys
+pub settled_end : Lawbook → (a b : Situation) (result : Result Stop SaveFault) (made limit : ℕ) → IsLawful a.client.keys
     → Went a b result made → IfOk result (λ stop. IsBorneOut stop b.client.keys b.client.knowns) → (result ≡ Ok stops.Limit → made ≡ limit)
     → IsSettling a.client a.link → bound a.client.keys ≤ limit → IsWhole result → (result ≡ Ok stops.AllFinished) × (made ≤ need a.client a.link.past)
     × (AsksOne a.client → made ≡ need a.client a.link.past) × (made ≤ bound a.client.keys)
@@ -423,8 +424,8 @@ settled_end l a b (Ok stop) made limit lawful went stands at settling enough who
     (ap Ok end.0, end.1, end.2, end.3)
 
 -- what is true is in no conflict
-pub good_end : CarryingLaws → (a b : Situation) (result : Result Stop SaveFault) (made : ℕ) → Went a b result made
+pub good_end : Lawbook → (a b : Situation) (result : Result Stop SaveFault) (made : ℕ) → Went a b result made
     → IfOk result (λ stop. IsBorneOut stop b.client.keys b.client.knowns) → IsGood a.client a.link → result ≢ Ok stops.Conflict
 good_end l a b result made went stands good = λ is.
     let clash = (subst (λ r. IfOk r (λ stop. IsBorneOut stop b.client.keys b.client.knowns)) is stands).1 in
-    l.no_conflict b.link.past.objects b.client.keys b.client.knowns (went.good good).held clash.0 clash.1 clash.3
+    l.client.no_conflict b.link.past.objects b.client.keys b.client.knowns (went.good good).held clash.0 clash.1 clash.3

@@ -70,14 +70,14 @@ pub complete : Lawbook → (keys : List Key) (objects : List Object) (knowns : L
     → IsComplete keys objects knowns
 complete l keys objects knowns lawful held finished = record {
   at_end = λ key planned.
-      let stands = l.stand keys key.attrs.name key planned in
+      let stands = l.plan.stand keys key.attrs.name key planned in
       let place = stands.1.0 in
       let verdict = finished place (slice_get_within keys place key stands.1.1) in
-      let there = l.there keys objects knowns lawful held place key stands.1.1 verdict in (
+      let there = l.settling.there keys objects knowns lawful held place key stands.1.1 verdict in (
         ap is_some there.1,
-        l.at_end keys objects knowns lawful held place key stands.1.1 verdict,
+        l.settling.at_end keys objects knowns lawful held place key stands.1.1 verdict,
       );
-  counts = full_counts l.within objects keys knowns held finished;
+  counts = full_counts l.plan.reached objects keys knowns held finished;
   verdicts = full_verdicts objects keys knowns held finished;
 }
 
@@ -88,9 +88,9 @@ untouched_settles l c x lawful start = (
   record {
     calm_for = start.calm_for;
     ready = subst (λ (s : ClientState). IsReady x.past.room c.keys x.past.objects s.knowns) (sym start.fresh_is)
-        (l.untouched c.keys x.past.room x.past.objects lawful start.none_made start.roomy);
+        (l.settling.untouched c.keys x.past.room x.past.objects lawful start.none_made start.roomy);
   },
-  ap (λ (s : ClientState). need_all c.keys s.knowns x.past.objects) start.fresh_is ∙ l.chains c.keys x.past.objects lawful start.none_made,
+  ap (λ (s : ClientState). need_all c.keys s.knowns x.past.objects) start.fresh_is ∙ l.settling.chains c.keys x.past.objects lawful start.none_made,
 )
 
 pub completed : Lawbook → (c next : ClientState) (x y : Seen) (made : ℕ) → IsLawful c.keys → IsUntouched c x → IsSettling next y

@@ -21,12 +21,13 @@ use Rattle.kmip_progress.specs.declared.known.Known.{Known}
 use Rattle.kmip_progress.specs.declared.progress_fault.ProgressFault.{ProgressFault}
 use Rattle.kmip_protocol.specs.Past.{Past, is_planned}
 use Rattle.kmip_protocol.specs.Seen.{Seen}
+use Rattle.kmip_runs.specs.PrivateLawbook.{Lawbook}
 use Rattle.kmip_runs.specs.Campaign.{IsEnd}
 use Rattle.kmip_runs.specs.CrashedDisks.{CannotLeave, IsKeptOn, kept_on}
 use Rattle.kmip_runs.specs.Crashes.{Between, IsRefused, start_at}
 use Rattle.kmip_runs.specs.Driving.{IsBorneOut, IsGood, SomeClash, WentOn}
 use Rattle.kmip_runs.specs.Lasting.{IsReadBack, IsTextOf, KeepsBetween, KeepsMoments, Leaves}
-use Rattle.kmip_runs.specs.PrivateCampaignParts.{CampaignLaws, HasEnded, HasRun, Noted}
+use Rattle.kmip_runs.specs.PrivateCampaignParts.{HasEnded, HasRun, Noted}
 use Rattle.kmip_runs.specs.PrivateCrashes.{BeginsWith, CrashStage, HasCome, IsLeftOn, IsNotLeft, IsStanding, SaysLeft, StandsOn, between, grounds_at}
 use Rattle.kmip_runs.specs.Private.{RanTurned}
 use Rattle.kmip_runs.specs.Remembering.{Talk, resumed, saved_numbered, start_knowns}
@@ -225,7 +226,7 @@ not_tired (inr is) = absurd cc
 -- ---- one run
 
 -- what is true was left true
-pub left_onward : CampaignLaws → (keys : List Key) (x y : Seen) (left : List (List Known)) → IsLawful keys → WentOn keys x.past y.past
+pub left_onward : Lawbook → (keys : List Key) (x y : Seen) (left : List (List Known)) → IsLawful keys → WentOn keys x.past y.past
     → All (TrueProgress x.past.objects keys) left → All (TrueProgress y.past.objects keys) left
 left_onward l keys x y left lawful went holds = true_onward l keys x.past.objects y.past.objects left lawful went.onward holds
 
@@ -276,7 +277,7 @@ whole_come keys run old new left ran turned =
 -- ---- a run that a crash ended
 
 -- All is good after the exchanges of a run, whatever is noted of it: it is begun, and carried out.
-pub carried_stands : CampaignLaws → (keys : List Key) (old : CrashStage) (begun c : ClientState) (new : CrashStage) (stop : Stop)
+pub carried_stands : Lawbook → (keys : List Key) (old : CrashStage) (begun c : ClientState) (new : CrashStage) (stop : Stop)
     → IsLawful keys → old.client.keys ≡ keys → begun.keys ≡ keys → new.client.keys ≡ keys → c.keys ≡ keys
     → (All (TrueProgress old.link.past.objects keys) old.end.campaign.saved.items → Held old.link.past.objects old.client.keys old.client.knowns → Held old.link.past.objects begun.keys begun.knowns)
     → (IsGood begun old.link → IsGood c new.link) → (IsGood begun old.link → WentOn begun.keys old.link.past new.link.past) → (IsGood begun old.link → stop ≢ stops.Conflict)

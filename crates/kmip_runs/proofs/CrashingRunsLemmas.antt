@@ -14,11 +14,12 @@ use Rattle.kmip_progress.specs.Suiting.{Suits}
 use Rattle.kmip_progress.specs.declared.known.Known.{Known}
 use Rattle.kmip_protocol.specs.Past.{Past, is_planned}
 use Rattle.kmip_protocol.specs.Seen.{Seen}
+use Rattle.kmip_runs.specs.PrivateLawbook.{Lawbook}
 use Rattle.kmip_runs.specs.CrashedDisks.{CarriedRun, IsKeptOn, kept_on}
 use Rattle.kmip_runs.specs.Crashes.{AreMade, Between, CrashesWell, IsMade, IsRemembered, MayCrash, RefusesCrash, at_first, carried_between, grounds_over, start_at}
 use Rattle.kmip_runs.specs.Driving.{IsGood, WentOn}
 use Rattle.kmip_runs.specs.Headline.{reported}
-use Rattle.kmip_runs.specs.PrivateCampaignParts.{CampaignLaws, CampaignStage, HasRun, IsBroken, RunsOne}
+use Rattle.kmip_runs.specs.PrivateCampaignParts.{CampaignStage, HasRun, IsBroken, RunsOne}
 use Rattle.kmip_runs.specs.PrivateCrashes.{AreCrashing, CrashStage, CrashesEach, CrashesGood, CrashesOne, HasCome, IsStanding, IsUnchanged, StandsOn, between, grounds_at}
 use Rattle.kmip_runs.specs.Private.{RanTurned}
 use Rattle.kmip_runs.specs.Saved.{Grounds, moment}
@@ -119,11 +120,11 @@ refuses_from keys before later run (Some crash) old new betters gives is = recor
 
 -- ---- run after run
 
-twice_on : CampaignLaws → (keys : List Key) (x y z : Seen) → WentOn keys x.past y.past → WentOn keys y.past z.past → WentOn keys x.past z.past
-twice_on l keys x y z first second = on_then l.twice l.joins keys x.past y.past z.past first second
+twice_on : Lawbook → (keys : List Key) (x y z : Seen) → WentOn keys x.past y.past → WentOn keys y.past z.past → WentOn keys x.past z.past
+twice_on l keys x y z first second = on_then l.client.twice l.amid.joins keys x.past y.past z.past first second
 
 -- no run was made yet
-pub crashing_none : CampaignLaws → (keys : List Key) (runs : List CrashingRun) (client : ClientState) (x : Seen) (end : CrashesEnd) → client ≡ fresh keys
+pub crashing_none : Lawbook → (keys : List Key) (runs : List CrashingRun) (client : ClientState) (x : Seen) (end : CrashesEnd) → client ≡ fresh keys
     → Held x.past.objects client.keys client.knowns → end.campaign.runs.items ≡ [] → end.campaign.saved.items ≡ [] → end.left.items ≡ []
     → AreCrashing keys runs 0 x (record { client = client; link = x; end = end })
 crashing_none l keys runs client x end is held no_end none_saved none_left = record {
@@ -138,7 +139,7 @@ crashing_none l keys runs client x end is held no_end none_saved none_left = rec
 }
 
 -- one more run was made
-pub crashing_more : CampaignLaws → (keys : List Key) (runs : List CrashingRun) (place : ℕ) (run : CrashingRun) (x : Seen) (old new : CrashStage) → slice_get runs place ≡ Some run
+pub crashing_more : Lawbook → (keys : List Key) (runs : List CrashingRun) (place : ℕ) (run : CrashingRun) (x : Seen) (old new : CrashStage) → slice_get runs place ≡ Some run
     → new.client.keys ≡ keys → All (Suits keys) new.end.campaign.saved.items → (IsStanding keys old → StandsOn keys old new)
     → (old.link.honest (is_planned keys) → new.link.honest (is_planned keys)) → HasCome keys run old new
     → AreCrashing keys runs place x old → AreCrashing keys runs (suc place) x new
@@ -163,7 +164,7 @@ crashing_good keys x now same (stands, went) = record {
 }
 
 -- so where the last run has no end
-pub crashing_off : CampaignLaws → (keys : List Key) (runs : List CrashingRun) (place : ℕ) (run : CrashingRun) (x : Seen) (old new : CrashStage) (result : Result (Unit {0}) CrashFault) (fault : CrashFault) (follows all : Type 0)
+pub crashing_off : Lawbook → (keys : List Key) (runs : List CrashingRun) (place : ℕ) (run : CrashingRun) (x : Seen) (old new : CrashStage) (result : Result (Unit {0}) CrashFault) (fault : CrashFault) (follows all : Type 0)
     → slice_get runs place ≡ Some run → result ≡ Err fault → (follows → all) → CrashesOne keys run old result new follows → AreCrashing keys runs place x old
     → CrashesEach x keys runs (Err fault) new.end new.link all
 crashing_off l keys runs place run x old new result fault follows all is failed on makes before =
@@ -204,13 +205,13 @@ crashing_all keys runs place x now done follows all on before = record {
 }
 
 -- there was no memory for a client
-pub crashing_nothing : CampaignLaws → (keys : List Key) (runs : List CrashingRun) (x : Seen) (end : CrashesEnd) (fault : CrashFault) (follows : Type 0) → end.campaign.runs.items ≡ [] → end.campaign.saved.items ≡ []
+pub crashing_nothing : Lawbook → (keys : List Key) (runs : List CrashingRun) (x : Seen) (end : CrashesEnd) (fault : CrashFault) (follows : Type 0) → end.campaign.runs.items ≡ [] → end.campaign.saved.items ≡ []
     → end.left.items ≡ [] → fault ≡ Wanting → CrashesEach x keys runs (Err fault) end x follows
 crashing_nothing l keys runs x end fault follows no_end none_saved none_left wants = record {
   well = λ good. record {
     campaigned = record {
       good = good;
-      on = on_nowhere l.itself l.nothing keys x.past;
+      on = on_nowhere l.client.itself l.amid.nothing keys x.past;
       noted = noted_none x.past.objects keys end.campaign.runs.items end.campaign.saved.items no_end none_saved;
     };
     true_left = rw none_left (All-nil (TrueProgress x.past.objects keys));
@@ -254,7 +255,7 @@ same_if : (keys : List Key) (run : Run) (old new : CrashStage) (result : Result 
 same_if keys run old new (Ok done) left broken = tt
 same_if keys run old new (Err want) left broken = record { same_runs = broken.same.same_runs; same_saved = broken.same.same_saved; same_left = left }
 
-pub whole_one : CampaignLaws → (keys : List Key) (carried : List (List Known)) (run : Run) (old new : CrashStage) (result : Result (Unit {0}) NoMemory) (follows : Type 0)
+pub whole_one : Lawbook → (keys : List Key) (carried : List (List Known)) (run : Run) (old new : CrashStage) (result : Result (Unit {0}) NoMemory) (follows : Type 0)
     → IsLawful keys → carried ≡ [] → new.end.left.items ≡ old.end.left.items → RunsOne keys carried run (campaign_at old) result (campaign_at new) follows
     → WholeOne keys run old result new follows
 whole_one l keys carried run old new result follows lawful none left one = record {
@@ -279,7 +280,7 @@ whole_one l keys carried run old new result follows lawful none left one = recor
 }
 
 -- Where a run that a crash is to end has no end, all is good still, and nothing is noted.
-pub crashed_off : CampaignLaws → (keys : List Key) (run : CrashingRun) (old new : CrashStage) (begun : ClientState) (result : Result (Unit {0}) CrashFault) (fault : CrashFault) (follows : Type 0)
+pub crashed_off : Lawbook → (keys : List Key) (run : CrashingRun) (old new : CrashStage) (begun : ClientState) (result : Result (Unit {0}) CrashFault) (fault : CrashFault) (follows : Type 0)
     → IsLawful keys → old.client.keys ≡ keys → begun.keys ≡ keys → new.client.keys ≡ keys → All (Suits keys) old.end.campaign.saved.items
     → (All (TrueProgress old.link.past.objects keys) old.end.campaign.saved.items → Held old.link.past.objects old.client.keys old.client.knowns → Held old.link.past.objects begun.keys begun.knowns)
     → (IsGood begun old.link → IsGood new.client new.link) → (IsGood begun old.link → WentOn begun.keys old.link.past new.link.past)
@@ -302,20 +303,20 @@ crashed_off l keys run old new begun result fault follows lawful old_keys begun_
     })
 
 -- where nothing has happened, the objects have gone onward
-pub on_itself : CampaignLaws → (keys : List Key) (x : Seen) → WentOn keys x.past x.past
-on_itself l keys x = on_nowhere l.itself l.nothing keys x.past
+pub on_itself : Lawbook → (keys : List Key) (x : Seen) → WentOn keys x.past x.past
+on_itself l keys x = on_nowhere l.client.itself l.amid.nothing keys x.past
 
 -- all that is reported was reached, so what is sound is safe
-pub crashes_well : CampaignLaws → (keys : List Key) (old new : Seen) (ended end : CrashesEnd) → IsLawful keys → end.campaign.runs.items ≡ ended.campaign.runs.items
+pub crashes_well : Lawbook → (keys : List Key) (old new : Seen) (ended end : CrashesEnd) → IsLawful keys → end.campaign.runs.items ≡ ended.campaign.runs.items
     → end.campaign.saved.items ≡ ended.campaign.saved.items → end.left.items ≡ ended.left.items → CrashesGood keys old new ended → CrashesWell old keys end new
 crashes_well l keys old new ended end lawful runs saved left good =
     let ran = good.campaigned in
     record {
       safe =
           rw (runs, saved)
-          (l.safe keys new.past (reported keys ended.campaign.runs.items ended.campaign.saved.items) ran.good.sound
+          (l.exchanges.safe keys new.past (reported keys ended.campaign.runs.items ended.campaign.saved.items) ran.good.sound
           (reported_reached l keys new.past ended.campaign.runs.items ended.campaign.saved.items lawful ran.noted));
-      machine = (λ opening. ran.on.mirrored (l.opening keys old.past opening), ran.on.mirrored);
+      machine = (λ opening. ran.on.mirrored (l.exchanges.opening keys old.past opening), ran.on.mirrored);
       no_conflict = rw runs ran.noted.no_conflict;
       sound = ran.good;
       true_saved = rw saved ran.noted.true_saved;

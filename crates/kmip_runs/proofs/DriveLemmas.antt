@@ -57,14 +57,14 @@ driven_none l c link = record {
   keeps = keeps_itself c;
   near = nearer_none c link;
   honest_still = λ names holds. holds;
-  further = λ good. further_nowhere l.itself l.nothing c.keys link ⊤;
+  further = λ good. further_nowhere l.client.itself l.amid.nothing c.keys link ⊤;
 }
 
 -- what is kept for a plan that prolongs the client's, by one more turn
 pub further_last : Lawbook → (a b c : ClientState) (x y z : Seen) (m : ℕ) (whole : Type 0) → Driven a b x y m
     → (IsGood b y → KeepsFurther b.keys whole y z) → IsGood a x → KeepsFurther a.keys whole x z
 further_last l a b c x y z m whole first last good =
-    further_then l.twice l.joins a.keys x y z ⊤ whole (λ is. tt) (first.further good)
+    further_then l.client.twice l.amid.joins a.keys x y z ⊤ whole (λ is. tt) (first.further good)
     (subst (λ ks. KeepsFurther ks whole y z) first.keeps.keys_stay (last (first.good good)))
 
 -- where the turns were broken off, nothing is said of a calm link
@@ -81,7 +81,7 @@ driven_then l a b c x y z m n first second = record {
       let before = first.learns holds in
       let after = second.learns (subst (λ ks. y.honest (is_planned ks)) (sym first.keeps.keys_stay) before.0) in (
         subst (λ ks. z.honest (is_planned ks)) first.keeps.keys_stay after.0,
-        learnt_then l.blind a.keys a.batch x.past y.past z.past a.knowns b.knowns c.knowns m n before.1
+        learnt_then l.client.blind a.keys a.batch x.past y.past z.past a.knowns b.knowns c.knowns m n before.1
             (learnt_of a.keys b.keys a.batch b.batch y.past z.past b.knowns c.knowns n first.keeps.keys_stay first.keeps.batch_stays after.1),
       );
   takes_nothing_back = λ holds.
@@ -105,7 +105,7 @@ known_end l a b c x y z m first last holds =
     let none : m + 0 ≡ m = omega arith in (
       subst (λ ks. z.honest (is_planned ks)) first.keeps.keys_stay after.0,
       subst (λ n. Learnt a.keys a.batch x.past z.past a.knowns c.knowns n) none
-          (learnt_then l.blind a.keys a.batch x.past y.past z.past a.knowns b.knowns c.knowns m 0 before.1
+          (learnt_then l.client.blind a.keys a.batch x.past y.past z.past a.knowns b.knowns c.knowns m 0 before.1
           (learnt_of a.keys b.keys a.batch b.batch y.past z.past b.knowns c.knowns 0 first.keeps.keys_stay first.keeps.batch_stays after.1)),
     )
 
@@ -136,10 +136,10 @@ pub good_no_conflict : Lawbook → (c : ClientState) (link : Seen) (stop : Stop)
 good_no_conflict l c link stop good stands = λ is. in_conflict (subst (λ s. IsBorneOut s c.keys c.knowns) is stands).1
   where
     in_conflict : {X : Type 0} → SomeClash c.keys c.knowns → X
-    in_conflict clash = absurd (l.no_conflict link.past.objects c.keys c.knowns good.held clash.0 clash.1 clash.3)
+    in_conflict clash = absurd (l.client.no_conflict link.past.objects c.keys c.knowns good.held clash.0 clash.1 clash.3)
 
 -- where each key is settled a run does not stop at its limit
 pub settled_no_limit : Lawbook → (c : ClientState) (stop : Stop) → AreSettled c.keys c.knowns → IsBorneOut stop c.keys c.knowns → stop ≢ stops.Limit
 settled_no_limit l c stop settled stands = λ is.
     let works = subst (λ s. IsBorneOut s c.keys c.knowns) is stands in
-    l.settled c.keys c.knowns settled works.0 works.1 works.2
+    l.client.settled c.keys c.knowns settled works.0 works.1 works.2

@@ -17,11 +17,10 @@ use Rattle.kmip_protocol.specs.Seen.{Seen}
 use Rattle.kmip_protocol.specs.Sound.{Sound}
 use Rattle.kmip_protocol.specs.declared.link_fault.LinkFault.{LinkFault}
 use Rattle.kmip_protocol.specs.Needs.{missing}
+use Rattle.kmip_runs.specs.PrivateLawbook.{Lawbook}
 use Rattle.kmip_runs.specs.Campaign.{CalmLink}
 use Rattle.kmip_runs.specs.Headline.{GoodLink}
-use Rattle.kmip_runs.specs.PrivateCampaignParts.{CampaignLaws}
 use Rattle.kmip_runs.specs.Driving.{IsGood, KeepsFurther, WentOn}
-use Rattle.kmip_runs.specs.PrivateLawbook.{Lawbook}
 use Rattle.kmip_protocol.specs.Losses.{or_loss}
 use Rattle.kmip_protocol.specs.AmidLaws.{NothingPasses, PassingJoins}
 use Rattle.kmip_runs.proofs.OnLemmas.{on_nowhere, on_then}
@@ -61,14 +60,14 @@ asked_further : Lawbook → (keys further : List Key) (x y : Seen) (sent : List 
 asked_further l keys further x y sent answered lawful prolongs just goes good =
     let asked =
     All-weaker (Justified keys x.past.objects) (Justified further x.past.objects)
-    (λ request may. l.asked x.past.objects further keys request lawful prolongs may) (requests_in sent) just in
+    (λ request may. l.client.asked_of_prolonged x.past.objects further keys request lawful prolongs may) (requests_in sent) just in
     let step = goes further good.amid_for good.sound asked in
-    let kept = l.exchanges further x.past y.past sent answered good.sound asked step.1 in (
+    let kept = l.amid.exchanges further x.past y.past sent answered good.sound asked step.1 in (
       record { amid_for = step.0; sound = kept.0 },
       record {
         onward = kept.1;
-        mirrored = λ image. l.images further x.past y.past sent answered good.sound image asked step.1;
-        passed = l.pass further x.past y.past sent answered asked step.1;
+        mirrored = λ image. l.amid.image_exchanged further x.past y.past sent answered good.sound image asked step.1;
+        passed = l.amid.exchanges_pass further x.past y.past sent answered asked step.1;
       },
     )
 
@@ -86,34 +85,34 @@ further_asked l c x y sent answered places question whole lawful_keys about byte
       let far_good : GoodLink further x = calm_good further x far in
       let after = (asked_further l c.keys further x y sent answered lawful prolongs just goes far_good).0 in
       let step = goes_calmly (is_planned further) far.calm_for in
-      let own = goes_calmly (is_planned c.keys) ((x.fewer (is_planned further) (is_planned c.keys) (l.names further c.keys lawful prolongs)).1 far.calm_for) in
+      let own = goes_calmly (is_planned c.keys) ((x.fewer (is_planned further) (is_planned c.keys) (l.exchanges.names_of_prolonged further c.keys lawful prolongs)).1 far.calm_for) in
       let answer = answers is in
       let done =
       subst (λ b. CalmlyExchanged (is_planned c.keys) x.past b (Ok answer.0) y.past) bytes
       (calmly (is_planned c.keys) x.past y.past sent answered answer.0 answer.1 own.1) in
       let roomy = far.roomy in
-      let less = l.less further c.keys x.past.objects prolongs in
-      let ready = l.ready c.keys x.past c.knowns good.sound good.held (omega (arith, roomy, less)) in
+      let less = l.settling.less further c.keys x.past.objects prolongs in
+      let ready = l.settling.ready c.keys x.past c.knowns good.sound good.held (omega (arith, roomy, less)) in
       record {
         calm_for = step.0;
         sound = after.sound;
-        roomy = l.room further c.keys (is_planned c.keys) x.past y.past c.knowns places question answer.0 lawful_keys lawful prolongs far.sound ready about done roomy;
+        roomy = l.settling.room further c.keys (is_planned c.keys) x.past y.past c.knowns places question answer.0 lawful_keys lawful prolongs far.sound ready about done roomy;
       };
 }
 
 -- a run is closed: something is delivered, and nothing over a calm link
-pub further_closed : {E : Type 0} → CampaignLaws → (keys : List Key) (y z : Seen) (closed : Result (Unit {0}) E)
+pub further_closed : {E : Type 0} → Lawbook → (keys : List Key) (y z : Seen) (closed : Result (Unit {0}) E)
     → ((keys : List Key) → y.amid keys → Sound keys y.past → z.amid keys × PassedAmid keys y.past z.past)
     → ((names : Names) → y.calm names → z.calm names × OnOk closed (z.past ≡ y.past)) → KeepsFurther keys (closed ≡ Ok tt) y z
 further_closed l keys y z closed ended ended_calmly = record {
   good = λ further lawful prolongs good.
       let step = ended further good.amid_for good.sound in
-      let kept = l.passing further y.past z.past good.sound step.1 in (
+      let kept = l.amid.passing further y.past z.past good.sound step.1 in (
         record { amid_for = step.0; sound = kept.0 },
         record {
           onward = kept.1;
-          mirrored = λ image. l.images further y.past z.past good.sound image step.1;
-          passed = l.blind_to further [] [] y.past z.past step.1;
+          mirrored = λ image. l.amid.image_passing further y.past z.past good.sound image step.1;
+          passed = l.amid.blind further [] [] y.past z.past step.1;
         },
       );
   calmly = λ is further lawful prolongs far.

@@ -57,10 +57,10 @@ keeps_asked c next is = subst (λ n. Keeps c n) (sym is) (record { keys_stay = r
 -- ---- what goes on
 
 pub went_nowhere : (l : Lawbook) (keys : List Key) (p : Past) → WentOn keys p p
-went_nowhere l keys p = on_nowhere l.itself l.nothing keys p
+went_nowhere l keys p = on_nowhere l.client.itself l.amid.nothing keys p
 
 pub went_then : (l : Lawbook) (keys : List Key) (old between new : Past) → WentOn keys old between → WentOn keys between new → WentOn keys old new
-went_then l keys old between new first second = on_then l.twice l.joins keys old between new first second
+went_then l keys old between new first second = on_then l.client.twice l.amid.joins keys old between new first second
 
 -- what holds of the bytes that were handed over
 pub if_handed : {X : Type 0} (P : List ℕ → Type 0) (answer : Option X) (bytes : X → List ℕ) → IfSome (option_map bytes answer) P → IfSome answer (λ x. P (bytes x))
@@ -93,15 +93,15 @@ pub left : (l : Lawbook) (c : ClientState) (old new : Seen) (sent : List ℕ) (a
     → new.amid keys × ExchangedAmid keys old.past sent answered new.past) → Left c old new
 left l c old new sent answered lawful good just goes =
     let step = goes c.keys good.amid_for good.sound just in
-    let kept = l.exchanges c.keys old.past new.past sent answered good.sound just step.1 in
+    let kept = l.amid.exchanges c.keys old.past new.past sent answered good.sound just step.1 in
     record {
       amid_for = step.0;
       sound = kept.0;
-      held = l.known_for_good c.keys c.knowns old.past.objects new.past.objects lawful kept.1 good.held;
+      held = l.client.known_for_good c.keys c.knowns old.past.objects new.past.objects lawful kept.1 good.held;
       on = record {
         onward = kept.1;
-        mirrored = λ image. l.images c.keys old.past new.past sent answered good.sound image just step.1;
-        passed = l.pass c.keys old.past new.past sent answered just step.1;
+        mirrored = λ image. l.amid.image_exchanged c.keys old.past new.past sent answered good.sound image just step.1;
+        passed = l.amid.exchanges_pass c.keys old.past new.past sent answered just step.1;
       };
     }
 
@@ -119,7 +119,7 @@ pub told : (l : Lawbook) (keys : List Key) (old new : Past) (sent : List ℕ) (a
 told l keys old new sent answered None sound is done = tt
 told l keys old new sent answered (Some given) sound is done =
     let hands = handed_amid keys old new sent answered (Some given) is done in
-    l.answers keys new given sound (subst (λ (p : Past). AreGiven p given) (sym hands.is) hands.given)
+    l.exchanges.answers keys new given sound (subst (λ (p : Past). AreGiven p given) (sym hands.is) hands.given)
 
 pub good_left : (c next : ClientState) (old new : Seen) → Left c old new → next.keys ≡ c.keys → Held new.past.objects next.keys next.knowns
     → IsGood next new × WentOn c.keys old.past new.past

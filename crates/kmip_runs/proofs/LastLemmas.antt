@@ -14,11 +14,12 @@ use Rattle.kmip_client.specs.Held.{TrueOf, TrueProgress}
 use Rattle.kmip_client.specs.Places.{Onward}
 use Rattle.kmip_protocol.specs.Laws.{IsReached}
 use Rattle.kmip_protocol.specs.Past.{Past}
+use Rattle.kmip_runs.specs.PrivateLawbook.{Lawbook}
 use Rattle.kmip_runs.specs.Campaign.{HasNoConflict}
 use Rattle.kmip_runs.specs.Headline.{reported_by}
-use Rattle.kmip_runs.specs.PrivateCampaignParts.{CampaignLaws, Noted, Reaches}
+use Rattle.kmip_runs.specs.PrivateCampaignParts.{Noted, Reaches}
 use Rattle.kmip_runs.specs.Campaigns.{IsTrueFor, carried_over}
-use Rattle.kmip_runs.specs.PrivateCampaignsParts.{NotedFor, PlansLaws}
+use Rattle.kmip_runs.specs.PrivateCampaignsParts.{NotedFor}
 use Rattle.kmip_runs.specs.declared.run_end.RunEnd.{RunEnd}
 use Rattle.kmip_runs.proofs.CampaignLemmas.{FrontReaches, all_flat, all_of, by_front, saved_reached, true_one_onward}
 
@@ -28,27 +29,27 @@ long : (objects : List Object) (keys : List Key) (saved : List Known) → TruePr
 long objects keys saved holds = AllZip-long (TrueOf objects) keys saved holds
 
 -- what was true of a plan is true of one that prolongs it
-pub true_over : PlansLaws → (objects : List Object) (new old : List Key) (saved : List Known) → Prolongs new old → TrueProgress objects old saved → IsTrueFor objects new saved
+pub true_over : Lawbook → (objects : List Object) (new old : List Key) (saved : List Known) → Prolongs new old → TrueProgress objects old saved → IsTrueFor objects new saved
 true_over l objects new old saved prolongs holds =
-    subst (λ n. TrueProgress objects new (saved ++ map (λ key. nothing_known) (drop n new))) (sym (long objects old saved holds)) (l.known objects new old saved prolongs holds)
+    subst (λ n. TrueProgress objects new (saved ++ map (λ key. nothing_known) (drop n new))) (sym (long objects old saved holds)) (l.client.known_of_prolonged objects new old saved prolongs holds)
 
 -- ---- what was reached
 
 -- who has come so far on the way of a plan has come so far on that of one that prolongs it
-front_over : PlansLaws → (objects : List Object) (new old : List Key) (counts : List ℕ) → Prolongs new old → AllZip (Reaches objects) old counts → FrontReaches objects new counts
+front_over : Lawbook → (objects : List Object) (new old : List Key) (counts : List ℕ) → Prolongs new old → AllZip (Reaches objects) old counts → FrontReaches objects new counts
 front_over l objects new [] [] prolongs reached = tt
 front_over l objects new [] (count ∷ counts) prolongs reached = absurd reached
 front_over l objects new (old ∷ olds) [] prolongs reached = absurd reached
 front_over l objects [] (old ∷ olds) (count ∷ counts) prolongs reached = absurd prolongs
 front_over l objects (new ∷ news) (old ∷ olds) (count ∷ counts) prolongs reached =
-    let less = l.no_less objects new old prolongs.0 in
+    let less = l.client.positions objects new old prolongs.0 in
     (omega (arith, reached.0, less), front_over l objects news olds counts prolongs.1 reached.1)
 
-reached_over : CampaignLaws → PlansLaws → (new old : List Key) (p : Past) (counts : List ℕ) → IsLawful new → Prolongs new old → AllZip (Reaches p.objects) old counts
+reached_over : Lawbook → Lawbook → (new old : List Key) (p : Past) (counts : List ℕ) → IsLawful new → Prolongs new old → AllZip (Reaches p.objects) old counts
     → All (IsReached new p) (reported_by new counts)
 reached_over r l new old p counts lawful prolongs reached = by_front r new p new counts (all_of r new lawful) (front_over l p.objects new old counts prolongs reached)
 
-pub noted_over : CampaignLaws → PlansLaws → (new old : List Key) (p : Past) (ends : List RunEnd) (saved : List (List Known)) → IsLawful new → Prolongs new old
+pub noted_over : Lawbook → Lawbook → (new old : List Key) (p : Past) (ends : List RunEnd) (saved : List (List Known)) → IsLawful new → Prolongs new old
     → Noted p.objects old ends saved → NotedFor new p ends saved
 noted_over r l new old p ends saved lawful prolongs noted = record {
   ends_reached = all_flat (IsReached new p) (λ (end : RunEnd). reported_by new end.counts.items) ends
@@ -68,7 +69,7 @@ still_reached keys old new onward effects reached =
     All-weaker (IsReached keys old) (IsReached keys new)
     (λ effect is. let further = (onward is.0 is.1).never_falls in (is.0, is.1, is.2, is.3, omega (arith, is.4, further))) effects reached
 
-pub noted_for_onward : CampaignLaws → (keys : List Key) (old new : Past) (ends : List RunEnd) (saved : List (List Known)) → IsLawful keys → Onward keys old.objects new.objects
+pub noted_for_onward : Lawbook → (keys : List Key) (old new : Past) (ends : List RunEnd) (saved : List (List Known)) → IsLawful keys → Onward keys old.objects new.objects
     → NotedFor keys old ends saved → NotedFor keys new ends saved
 noted_for_onward r keys old new ends saved lawful onward noted = record {
   ends_reached = still_reached keys old new onward (flat_map (λ (end : RunEnd). reported_by keys end.counts.items) ends) noted.ends_reached;

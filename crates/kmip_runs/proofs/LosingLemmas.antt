@@ -71,11 +71,11 @@ paid_one l c next x y sent answered question answer lawful put bytes goes counti
     paid : IsCounted names x.past question.bytes answer y.past x.disturbances y.disturbances
         → ArePaid 1 (left_for c x.past) (left_all c.keys (known_then c.keys question answer c.knowns) y.past) x.disturbances y.disturbances
     paid (inl (clean, same)) =
-        let nearer = l.clean c.keys x.past y.past c.knowns put.places question answer lawful good.sound good.held put.about clean in
+        let nearer = l.losing.clean c.keys x.past y.past c.knowns put.places question answer lawful good.sound good.held put.about clean in
         let even = ap cost same in
         omega (arith, nearer, even, put.about.some)
     paid (inr (strange, enough, more)) =
-        let costs = l.disturbed c.keys x.past y.past c.knowns put.places question answer lawful good.sound good.held put.about hands in
+        let costs = l.losing.disturbed c.keys x.past y.past c.knowns put.places question answer lawful good.sound good.held put.about hands in
         let many = ap length put.about.asks ∙ as_many_asked c.keys c.knowns put.places put.about.works in
         let all = ap cost more in
         omega (arith, costs, enough, many, all)
@@ -83,23 +83,23 @@ paid_one l c next x y sent answered question answer lawful put bytes goes counti
 -- where no more may be left all keys are finished
 pub paid_off : Lawbook → (c : ClientState) (x : Seen) → IsGood c x → left_for c x.past ≡ 0 → AreFinished c.keys c.knowns
 paid_off l c x good none =
-    let needs = l.needs_left c.keys x.past c.knowns in
+    let needs = l.losing.needs_left c.keys x.past c.knowns in
     let nothing : need_all c.keys c.knowns x.past.objects ≡ 0 = omega (arith, needs, none) in
-    l.needless c.keys x.past.objects c.knowns good.held nothing
+    l.settling.needless c.keys x.past.objects c.knowns good.held nothing
 
 -- so it is after as many exchanges as a plan may take, and what the disturbed ones cost
 pub paid_limit : Lawbook → (c now : ClientState) (x y : Seen) (limit : ℕ) → IsLawful c.keys → IsGood c x → IsGood now y
     → ArePaid limit (left_for c x.past) (left_for now y.past) x.disturbances y.disturbances
     → bound c.keys + length c.keys + cost y.disturbances ≤ limit + cost x.disturbances → AreFinished now.keys now.knowns
 paid_limit l c now x y limit lawful good still paid enough =
-    let most = l.left_bounded c.keys x.past c.knowns lawful good.sound good.held in
+    let most = l.losing.left_bounded c.keys x.past c.knowns lawful good.sound good.held in
     let none : left_for now y.past ≡ 0 = omega (arith, paid, enough, most) in
     paid_off l now y still none
 
 -- and where no key is worked on
 pub paid_end : Lawbook → (c : ClientState) (x : Seen) → IsGood c x → AreSettled c.keys c.knowns → AreFinished c.keys c.knowns
 paid_end l c x good settled =
-    l.needless c.keys x.past.objects c.knowns good.held (l.needed c.keys x.past.objects c.knowns good.held settled)
+    l.settling.needless c.keys x.past.objects c.knowns good.held (l.settling.needed c.keys x.past.objects c.knowns good.held settled)
 
 -- ---- counts
 

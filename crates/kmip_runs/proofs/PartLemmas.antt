@@ -5,9 +5,9 @@ use Rattle.kmip_plan.specs.Prolonging.{Prolongs}
 use Rattle.kmip_plan.specs.declared.key.Key.{Key}
 use Rattle.kmip_progress.specs.declared.known.Known.{Known}
 use Rattle.kmip_protocol.specs.Past.{Past}
+use Rattle.kmip_runs.specs.PrivateLawbook.{Lawbook}
 use Rattle.kmip_runs.specs.Campaigns.{AreParts, AreProlonged, IsPart, LastIsShort, Premises, carried_over, first_plan, last_plan}
 use Rattle.kmip_runs.specs.Remembering.{Notes, noted_saves}
-use Rattle.kmip_runs.specs.PrivateCampaignsParts.{PlansLaws}
 use Rattle.kmip_runs.specs.declared.run.Run.{Run}
 use Rattle.kmip_runs.proofs.RunLemmas.{known_if}
 
@@ -17,14 +17,14 @@ same_plan : (a b : List Key) → Some a ≡ Some b → a ≡ b
 same_plan a b is = cc
 
 -- the last plan prolongs each of them
-pub last_prolongs : PlansLaws → (plans : List (List Key)) (place : ℕ) (keys : List Key) → AreProlonged plans → slice_get plans place ≡ Some keys
+pub last_prolongs : Lawbook → (plans : List (List Key)) (place : ℕ) (keys : List Key) → AreProlonged plans → slice_get plans place ≡ Some keys
     → Prolongs (last_plan plans) keys
 last_prolongs l [] place keys prolonged is = absurd cc
-last_prolongs l (first ∷ []) zero keys prolonged is = subst (λ ks. Prolongs first ks) (same_plan first keys is) (l.itself first)
+last_prolongs l (first ∷ []) zero keys prolonged is = subst (λ ks. Prolongs first ks) (same_plan first keys is) (l.plan.plan_itself first)
 last_prolongs l (first ∷ []) (suc place) keys prolonged is = absurd cc
 last_prolongs l (first ∷ next ∷ plans) zero keys prolonged is =
     subst (λ ks. Prolongs (last_plan (next ∷ plans)) ks) (same_plan first keys is)
-    (l.again first next (last_plan (next ∷ plans)) prolonged.0 (last_prolongs l (next ∷ plans) zero next prolonged.1 refl))
+    (l.plan.plan_again first next (last_plan (next ∷ plans)) prolonged.0 (last_prolongs l (next ∷ plans) zero next prolonged.1 refl))
 last_prolongs l (first ∷ next ∷ plans) (suc place) keys prolonged is = last_prolongs l (next ∷ plans) place keys prolonged.1 is
 
 -- and each prolongs the one before it

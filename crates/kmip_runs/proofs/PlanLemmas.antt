@@ -23,11 +23,12 @@ use Rattle.kmip_client.specs.declared.knowledge.Knowledge.{Knowledge}
 use Rattle.kmip_protocol.specs.Past.{Names, Past, is_planned}
 use Rattle.kmip_protocol.specs.Seen.{Seen}
 use Rattle.kmip_protocol.specs.Sound.{Sound}
+use Rattle.kmip_runs.specs.PrivateLawbook.{Lawbook}
 use Rattle.kmip_runs.specs.Campaign.{CalmLink}
 use Rattle.kmip_runs.specs.Headline.{GoodLink}
-use Rattle.kmip_runs.specs.PrivateCampaignParts.{AreSame, CampaignLaws, HasRunAll}
+use Rattle.kmip_runs.specs.PrivateCampaignParts.{AreSame, HasRunAll}
 use Rattle.kmip_runs.specs.Campaigns.{AreInTurn, AreParts, AreProlonged, CalmStart, GoodStart, IsPart, IsTrueFor, LastIsShort, Premises, carried_over, first_plan, last_plan, premises_of}
-use Rattle.kmip_runs.specs.PrivateCampaignsParts.{HasRunBroken, HasRunPart, HasRunPlans, HasRunWhole, IsGoodFor, IsReadFor, PlansLaws}
+use Rattle.kmip_runs.specs.PrivateCampaignsParts.{HasRunBroken, HasRunPart, HasRunPlans, HasRunWhole, IsGoodFor, IsReadFor}
 use Rattle.kmip_runs.specs.Remembering.{AreKnownFrom, Notes, Shows, noted_ends, noted_saves, notes_of, saved_after, saved_from}
 use Rattle.kmip_runs.specs.declared.campaign_end.CampaignEnd.{CampaignEnd}
 use Rattle.kmip_runs.specs.declared.run.Run.{Run}
@@ -186,7 +187,7 @@ module _ (plans : List (List Key)) (runs : List (List Run)) where
     pub calmly : CalmStart plans start → CalmLink (last_plan plans) link
 
   -- before the first plan
-  pub turning_none : CampaignLaws → PlansLaws → (x : Seen) (end : CampaignEnd) (last : List Key) (carried : List (List Known)) → end.runs.items ≡ [] → end.saved.items ≡ [] → carried ≡ []
+  pub turning_none : Lawbook → Lawbook → (x : Seen) (end : CampaignEnd) (last : List Key) (carried : List (List Known)) → end.runs.items ≡ [] → end.saved.items ≡ [] → carried ≡ []
       → AreProlonged plans → IsLawful (last_plan plans) → IsLawful (first_plan plans) → slice_get plans 0 ≡ Some (first_plan plans) → Turning x x 0 end carried
   turning_none r l x end last carried no_end none_saved none prolonged lawful first_lawful is =
       let prolongs = last_prolongs l plans 0 (first_plan plans) prolonged is in
@@ -199,9 +200,9 @@ module _ (plans : List (List Key)) (runs : List (List Run)) where
         honest_still = λ names holds. holds;
         stands = λ start. record {
           good = record {
-            good = record { amid_for = x.honest_is_amid (last_plan plans) start.honest_for; sound = l.sound (last_plan plans) (first_plan plans) x.past first_lawful lawful prolongs start.none_further start.sound };
+            good = record { amid_for = x.honest_is_amid (last_plan plans) start.honest_for; sound = l.exchanges.sound_of_prolonged (last_plan plans) (first_plan plans) x.past first_lawful lawful prolongs start.none_further start.sound };
             honest = start.honest_for;
-            went = on_nowhere r.itself r.nothing (last_plan plans) x.past;
+            went = on_nowhere r.client.itself r.amid.nothing (last_plan plans) x.past;
             noted = noted_for_none (last_plan plans) x.past end.runs.items end.saved.items no_end none_saved;
           };
           sound = λ keys at lawful_keys. subst (λ ks. Sound ks x.past) (first_is plans keys at) start.sound;
@@ -209,7 +210,7 @@ module _ (plans : List (List Key)) (runs : List (List Run)) where
         };
         calmly = λ start. record {
           calm_for = start.calm_for;
-          sound = l.sound (last_plan plans) (first_plan plans) x.past first_lawful lawful prolongs start.none_further start.sound;
+          sound = l.exchanges.sound_of_prolonged (last_plan plans) (first_plan plans) x.past first_lawful lawful prolongs start.none_further start.sound;
           roomy = start.roomy;
         };
       }
@@ -223,11 +224,11 @@ module _ (plans : List (List Key)) (runs : List (List Run)) where
     pub good : GoodStart plans start → IsGoodFor (last_plan plans) start link end.runs.items end.saved.items
 
   -- what is honest and calm for the names of the last plan is so for those of each
-  module _ (r : CampaignLaws) (l : PlansLaws) (prolonged : AreProlonged plans) (lawful : IsLawful (last_plan plans)) where
+  module _ (r : Lawbook) (l : Lawbook) (prolonged : AreProlonged plans) (lawful : IsLawful (last_plan plans)) where
     good_of : (start x : Seen) (place : ℕ) (end : CampaignEnd) (keys : List Key) (carried : List (List Known)) → slice_get plans place ≡ Some keys → IsLawful keys
         → Turning start x place end carried → GoodStart plans start → GoodLink keys x
     good_of start x place end keys carried is lawful_keys before begun =
-        let names = l.names (last_plan plans) keys lawful (last_prolongs l plans place keys prolonged is) in
+        let names = l.exchanges.names_of_prolonged (last_plan plans) keys lawful (last_prolongs l plans place keys prolonged is) in
         record {
           amid_for = x.honest_is_amid keys
               ((x.fewer (is_planned (last_plan plans)) (is_planned keys) names).0 (before.honest_still (is_planned (last_plan plans)) begun.honest_for));
@@ -242,12 +243,12 @@ module _ (plans : List (List Key)) (runs : List (List Run)) where
         → Turning start x place end carried → CalmStart plans start → CalmLink keys x
     calm_of start x place end keys carried is lawful_keys before begun =
         let prolongs = last_prolongs l plans place keys prolonged is in
-        let names = l.names (last_plan plans) keys lawful prolongs in
+        let names = l.exchanges.names_of_prolonged (last_plan plans) keys lawful prolongs in
         let far = before.calmly begun in
         record {
           calm_for = (x.fewer (is_planned (last_plan plans)) (is_planned keys) names).1 far.calm_for;
           sound = (before.stands (begun_of start begun)).sound keys is lawful_keys;
-          roomy = let less = l.miss (last_plan plans) keys x.past.objects prolongs in omega (arith, far.roomy, less);
+          roomy = let less = l.settling.less (last_plan plans) keys x.past.objects prolongs in omega (arith, far.roomy, less);
         }
 
     part_of : (start x y : Seen) (place : ℕ) (keys : List Key) (list : List Run) (old : CampaignEnd) (carried : List (List Known)) (whole : Type 0) → IsLawful keys
@@ -257,7 +258,7 @@ module _ (plans : List (List Key)) (runs : List (List Run)) where
         → IsPart keys (map (carried_over keys) ([] ++ flat_map noted_saves before.parts)) list (record { ends = part.runs.items; saved = part.saved.items })
         (premises_of plans start) whole x.past y.past
     part_of start x y place keys list old carried whole lawful_keys is before part all turns to =
-        let names = l.names (last_plan plans) keys lawful (last_prolongs l plans place keys prolonged is) in
+        let names = l.exchanges.names_of_prolonged (last_plan plans) keys lawful (last_prolongs l plans place keys prolonged is) in
         let carried_is : carried ≡ map (carried_over keys) (flat_map noted_saves before.parts) = (before.carried_are keys is).0 ∙ ap (map (carried_over keys)) before.saved_are in
         record {
           order = all.order;
@@ -294,7 +295,7 @@ module _ (plans : List (List Key)) (runs : List (List Run)) where
               record {
                 good = last;
                 honest = ran.all.stays_honest (is_planned (last_plan plans)) reached.good.honest;
-                went = on_then r.twice r.joins (last_plan plans) start.past x.past y.past reached.good.went went;
+                went = on_then r.client.twice r.amid.joins (last_plan plans) start.past x.past y.past reached.good.went went;
                 noted = rw (ran.runs_are, ran.saved_are)
                     (noted_for_both (last_plan plans) y.past old.runs.items ran.part.runs.items old.saved.items ran.part.saved.items
                     (noted_for_onward r (last_plan plans) x.past y.past old.runs.items old.saved.items lawful went.onward reached.good.noted)
@@ -333,7 +334,7 @@ module _ (plans : List (List Key)) (runs : List (List Run)) where
               record {
                 good = end.good begun;
                 sound = λ next at lawful_next.
-                    l.between (last_plan plans) next keys y.past lawful_keys lawful_next lawful (next_prolongs plans place keys next prolonged is at)
+                    l.exchanges.sound_between (last_plan plans) next keys y.past lawful_keys lawful_next lawful (next_prolongs plans place keys next prolonged is at)
                     (last_prolongs l plans (suc place) next prolonged at) camp.good.sound last.sound;
                 carried_true = λ next at.
                     let prolongs = next_prolongs plans place keys next prolonged is at in

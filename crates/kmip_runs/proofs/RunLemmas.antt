@@ -14,9 +14,10 @@ use Rattle.kmip_client.specs.Clients.{ClientState, fresh}
 use Rattle.kmip_client.specs.Held.{Held, TrueProgress}
 use Rattle.kmip_protocol.specs.Past.{Names, Past}
 use Rattle.kmip_protocol.specs.Seen.{Seen}
+use Rattle.kmip_runs.specs.PrivateLawbook.{Lawbook}
 use Rattle.kmip_runs.specs.Campaign.{CalmLink, IsEnd, Settles, saves}
 use Rattle.kmip_runs.specs.Headline.{GoodLink}
-use Rattle.kmip_runs.specs.PrivateCampaignParts.{Campaigned, CampaignLaws, HasRun, HasSettled, Standing}
+use Rattle.kmip_runs.specs.PrivateCampaignParts.{Campaigned, HasRun, HasSettled, Standing}
 use Rattle.kmip_runs.specs.Driving.{IsGood, KeepsFurther, WentOn}
 use Rattle.kmip_runs.specs.Remembering.{AreKnownFrom, Notes, notes_of}
 use Rattle.kmip_runs.specs.declared.campaign_end.CampaignEnd.{CampaignEnd}
@@ -57,12 +58,12 @@ none_each R runs = subst (λ rs. AllZip R rs []) (sym (take-none runs)) tt
 
 module _ (keys : List Key) (carried : List (List Known)) where
   -- what was carried over is true still
-  pub carried_on : CampaignLaws → (start link : Seen) → IsLawful keys → WentOn keys start.past link.past → All (TrueProgress start.past.objects keys) carried
+  pub carried_on : Lawbook → (start link : Seen) → IsLawful keys → WentOn keys start.past link.past → All (TrueProgress start.past.objects keys) carried
       → All (TrueProgress link.past.objects keys) carried
   carried_on l start link lawful went holds = true_onward l keys start.past.objects link.past.objects carried lawful went.onward holds
 
   -- what stands after one more run, whether it was broken off or not
-  pub ran_on : CampaignLaws → (a b : ClientState) (start x y : Seen) (runs : List Run) (at : ℕ) (whole : Type 0) (ends nexts : List RunEnd) (saved kept : List (List Known))
+  pub ran_on : Lawbook → (a b : ClientState) (start x y : Seen) (runs : List Run) (at : ℕ) (whole : Type 0) (ends nexts : List RunEnd) (saved kept : List (List Known))
       → IsLawful keys → Running keys carried a start x runs (record { ends = ends; saved = saved }) at
       → (Standing keys a x ends saved → All (TrueProgress x.past.objects keys) carried
       → Standing keys b y nexts kept × WentOn keys x.past y.past)
@@ -78,7 +79,7 @@ module _ (keys : List Key) (carried : List (List Known)) where
         further_then l.twice l.joins keys start x y ⊤ whole (λ is. tt) (before.further good holds) (further standing now),
       )
 
-  pub ran_off : CampaignLaws → (a b : ClientState) (start x y : Seen) (runs : List Run) (at : ℕ) (whole : Type 0) (ends nexts : List RunEnd) (saved kept : List (List Known))
+  pub ran_off : Lawbook → (a b : ClientState) (start x y : Seen) (runs : List Run) (at : ℕ) (whole : Type 0) (ends nexts : List RunEnd) (saved kept : List (List Known))
       → IsLawful keys → b.keys ≡ keys → Running keys carried a start x runs (record { ends = ends; saved = saved }) at
       → (Standing keys a x ends saved → All (TrueProgress x.past.objects keys) carried
       → Standing keys b y nexts kept × WentOn keys x.past y.past)
@@ -90,7 +91,7 @@ module _ (keys : List Key) (carried : List (List Known)) where
       (campaigned keys b start y nexts kept b_keys (standing, went), kept_further)
 
   -- and one more run
-  pub running_more : CampaignLaws → (a b : ClientState) (start x y : Seen) (runs : List Run) (at : ℕ) (run : Run) (old new : CampaignEnd) → IsLawful keys
+  pub running_more : Lawbook → (a b : ClientState) (start x y : Seen) (runs : List Run) (at : ℕ) (run : Run) (old new : CampaignEnd) → IsLawful keys
       → slice_get runs at ≡ Some run → Running keys carried a start x runs (notes_of old) at → b.keys ≡ keys → All (Suits keys) new.saved.items
       → (Standing keys a x old.runs.items old.saved.items → All (TrueProgress x.past.objects keys) carried
       → Standing keys b y new.runs.items new.saved.items × WentOn keys x.past y.past)
@@ -127,7 +128,7 @@ module _ (keys : List Key) (carried : List (List Known)) where
       })
 
   -- before the first
-  pub running_none : CampaignLaws → (c : ClientState) (x : Seen) (runs : List Run) (ends : List RunEnd) (saved : List (List Known)) → c ≡ fresh keys
+  pub running_none : Lawbook → (c : ClientState) (x : Seen) (runs : List Run) (ends : List RunEnd) (saved : List (List Known)) → c ≡ fresh keys
       → ((objects : List Object) → Held objects c.keys c.knowns) → ends ≡ [] → saved ≡ [] → Running keys carried c x x runs (record { ends = ends; saved = saved }) 0
   running_none l c x runs ends saved is held no_end none_saved =
       let c_keys = ap (λ (s : ClientState). s.keys) is in
@@ -145,7 +146,7 @@ module _ (keys : List Key) (carried : List (List Known)) where
       }
 
   -- no client was there to begin with
-  pub ran_nothing : CampaignLaws → (x : Seen) (whole : Type 0) (ends : List RunEnd) (saved : List (List Known)) → ends ≡ [] → saved ≡ [] → GoodLink keys x
+  pub ran_nothing : Lawbook → (x : Seen) (whole : Type 0) (ends : List RunEnd) (saved : List (List Known)) → ends ≡ [] → saved ≡ [] → GoodLink keys x
       → Campaigned keys x x ends saved × KeepsFurther keys whole x x
   ran_nothing l x whole ends saved no_end none_saved good = (
     record {

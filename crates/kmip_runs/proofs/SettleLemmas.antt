@@ -96,7 +96,7 @@ nearer_one l c next x y sent answered question answer lawful put bytes goes is s
     let step = goes names settling.calm_for in
     let done =
     subst (λ b. CalmlyExchanged names x.past b (Ok answer) y.past) bytes (calmly names x.past y.past sent answered answer is step.1) in
-    let near = l.nearer c.keys names x.past y.past c.knowns put.places question answer lawful settling.ready put.about done in
+    let near = l.settling.nearer c.keys names x.past y.past c.knowns put.places question answer lawful settling.ready put.about done in
     at_next c next x y (known_then c.keys question answer c.knowns) (length put.places) keys (ap (λ (s : ClientState). s.knowns) learnt) step.0 near.0 near.1
     put.about.some (asks_one c question put)
 
@@ -105,20 +105,20 @@ pub nearer_end : Lawbook → (c now next : ClientState) (x y z : Seen) (made : �
     → AreSettled next.keys next.knowns
     → IsSettling next z × (made ≤ need c x.past) × (AsksOne c → made ≡ need c x.past) × AreFinished next.keys next.knowns
 nearer_end l c now next x y z made still first second settled =
-    let nothing = l.needed next.keys z.past.objects next.knowns second.settling.ready.held settled in (
+    let nothing = l.settling.needed next.keys z.past.objects next.knowns second.settling.ready.held settled in (
       second.settling,
       omega (arith, first.nearer),
       λ one. omega (arith, first.exactly one, second.exactly (still one), nothing),
-      l.needless next.keys z.past.objects next.knowns second.settling.ready.held nothing,
+      l.settling.needless next.keys z.past.objects next.knowns second.settling.ready.held nothing,
     )
 
 -- nor after as many exchanges as all keys need
 pub nearer_limit : Lawbook → (c now : ClientState) (x y : Seen) (limit : ℕ) → IsLawful c.keys → IsSettling c x → bound c.keys ≤ limit
     → Nearer c now x y limit → (limit ≡ need c x.past) × AreFinished now.keys now.knowns
 nearer_limit l c now x y limit lawful settling enough near =
-    let few = l.bounded x.past.room c.keys x.past.objects c.knowns lawful settling.ready in
+    let few = l.settling.bounded x.past.room c.keys x.past.objects c.knowns lawful settling.ready in
     let nothing : need now y.past ≡ 0 = omega (arith, near.nearer, few, enough) in
-    (omega (arith, near.nearer, few, enough), l.needless now.keys y.past.objects now.knowns near.settling.ready.held nothing)
+    (omega (arith, near.nearer, few, enough), l.settling.needless now.keys y.past.objects now.knowns near.settling.ready.held nothing)
 
 pub finished_stop : (keys : List Key) (knowns : List Knowledge) (stop : Stop) → AreFinished keys knowns → stop ≢ stops.NoMemory → IsBorneOut stop keys knowns → stop ≡ stops.AllFinished
 finished_stop keys knowns stops.AllFinished finished memory stands = refl

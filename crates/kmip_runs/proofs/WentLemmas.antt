@@ -19,10 +19,11 @@ use Rattle.kmip_protocol.specs.Past.{Names, Past, is_planned}
 use Rattle.kmip_protocol.specs.Seen.{Seen}
 use Rattle.kmip_protocol.specs.Sound.{Sound}
 use Rattle.kmip_protocol.specs.Ready.{IsReady}
+use Rattle.kmip_runs.specs.PrivateLawbook.{Lawbook}
 use Rattle.kmip_runs.specs.Driving.{AsksOne, IsGood, IsQuestion, Keeps, Learnt, LearntUntil, TakesNothingBack, WentOn, need}
 use Rattle.kmip_runs.specs.declared.stop.Stop.{Stop}
 use Rattle.kmip_runs.specs.declared.stop.Stop.TheVariants as stops
-use Rattle.kmip_runs.specs.PrivateCarried.{CarryingLaws, Went}
+use Rattle.kmip_runs.specs.PrivateCarried.{Went}
 use Rattle.kmip_runs.specs.Saved.{IsInMemory, IsWhole, Situation}
 use Rattle.kmip_runs.specs.declared.save_fault.SaveFault.{SaveFault}
 use Rattle.kmip_runs.proofs.OnLemmas.{on_nowhere, on_then}
@@ -226,10 +227,10 @@ stop_is s t is = cc
 
 -- ---- exchanges, one after the other
 
-pub went_nowhere : CarryingLaws → (a : Situation) (result : Result Stop SaveFault) → IsInMemory result → Went a a result 0
+pub went_nowhere : Lawbook → (a : Situation) (result : Result Stop SaveFault) → IsInMemory result → Went a a result 0
 went_nowhere l a result memory = record {
   good = λ good. good;
-  onward = λ good. on_nowhere l.itself l.nothing a.client.keys a.link.past;
+  onward = λ good. on_nowhere l.client.itself l.amid.nothing a.client.keys a.link.past;
   learns = λ holds. (holds, λ in_memory. learnt_nothing a.client.keys a.client.batch a.link.past a.client.knowns);
   broken = λ holds is. absurd (memory is);
   takes_nothing_back = λ holds. grown_itself a.link.past;
@@ -238,10 +239,10 @@ went_nowhere l a result memory = record {
 }
 
 -- where there was no memory to begin with
-pub went_unbegun : CarryingLaws → (a : Situation) → Went a a (Ok stops.NoMemory) 0
+pub went_unbegun : Lawbook → (a : Situation) → Went a a (Ok stops.NoMemory) 0
 went_unbegun l a = record {
   good = λ good. good;
-  onward = λ good. on_nowhere l.itself l.nothing a.client.keys a.link.past;
+  onward = λ good. on_nowhere l.client.itself l.amid.nothing a.client.keys a.link.past;
   learns = λ holds. (holds, λ memory. absurd (memory refl));
   broken = λ holds is. record {
     between = a.link.past;
@@ -254,7 +255,7 @@ went_unbegun l a = record {
   near = λ settling whole. absurd (whole refl);
 }
 
-pub went_then : CarryingLaws → (a b c : Situation) (stop : Stop) (result : Result Stop SaveFault) (m n : ℕ) → stop ≢ stops.NoMemory
+pub went_then : Lawbook → (a b c : Situation) (stop : Stop) (result : Result Stop SaveFault) (m n : ℕ) → stop ≢ stops.NoMemory
     → Went a b (Ok stop) m → Went b c result n → Went a c result (m + n)
 went_then l a b c stop result m n memory first second =
     let in_memory : IsInMemory (Ok stop) = λ is. memory (stop_is stop stops.NoMemory is) in
@@ -264,20 +265,20 @@ went_then l a b c stop result m n memory first second =
       onward = λ good.
           let before = first.onward good in
           let after = subst (λ ks. WentOn ks b.link.past c.link.past) keys (second.onward (first.good good)) in
-          on_then l.twice l.joins a.client.keys a.link.past b.link.past c.link.past before after;
+          on_then l.client.twice l.amid.joins a.client.keys a.link.past b.link.past c.link.past before after;
       learns = λ holds.
           let before = first.learns holds in
           let after = second.learns (subst (λ ks. b.link.honest (is_planned ks)) (sym keys) before.0) in (
             subst (λ ks. c.link.honest (is_planned ks)) keys after.0,
             λ whole.
-                learnt_then l.blind a.client.keys a.client.batch a.link.past b.link.past c.link.past a.client.knowns b.client.knowns c.client.knowns m n (before.1 in_memory)
+                learnt_then l.client.blind a.client.keys a.client.batch a.link.past b.link.past c.link.past a.client.knowns b.client.knowns c.client.knowns m n (before.1 in_memory)
                 (subst (λ ks. Learnt ks a.client.batch b.link.past c.link.past b.client.knowns c.client.knowns n) keys
                 (subst (λ most. Learnt b.client.keys most b.link.past c.link.past b.client.knowns c.client.knowns n) first.keeps.batch_stays (after.1 whole))),
           );
       broken = λ holds is.
           let before = first.learns holds in
           let after = second.broken (subst (λ ks. b.link.honest (is_planned ks)) (sym keys) before.0) is in
-          until_then l.blind a.client.keys a.client.batch a.link.past b.link.past c.link.past a.client.knowns b.client.knowns c.client.knowns m n (before.1 in_memory)
+          until_then l.client.blind a.client.keys a.client.batch a.link.past b.link.past c.link.past a.client.knowns b.client.knowns c.client.knowns m n (before.1 in_memory)
           (subst (λ ks. LearntUntil ks a.client.batch b.link.past c.link.past b.client.knowns c.client.knowns n) keys
           (subst (λ most. LearntUntil b.client.keys most b.link.past c.link.past b.client.knowns c.client.knowns n) first.keeps.batch_stays after));
       takes_nothing_back = λ holds.
@@ -294,15 +295,15 @@ went_then l a b c stop result m n memory first second =
     }
 
 -- what may happen meanwhile goes onward
-pub went_passed : CarryingLaws → (keys : List Key) (old new : Past) → Sound keys old → PassedAmid keys old new → WentOn keys old new
+pub went_passed : Lawbook → (keys : List Key) (old new : Past) → Sound keys old → PassedAmid keys old new → WentOn keys old new
 went_passed l keys old new sound passed = record {
-  onward = (l.passing keys old new sound passed).1;
-  mirrored = λ image. l.images keys old new sound image passed;
-  passed = l.blind_to keys [] [] old new passed;
+  onward = (l.amid.passing keys old new sound passed).1;
+  mirrored = λ image. l.amid.image_passing keys old new sound image passed;
+  passed = l.amid.blind keys [] [] old new passed;
 }
 
 -- the end of the run, after these exchanges
-pub went_closed : {V E : Type 0} → CarryingLaws → (a b : Situation) (z : Seen) (result ended : Result Stop SaveFault) (closed : Result V E) (m : ℕ) → IsLawful a.client.keys
+pub went_closed : {V E : Type 0} → Lawbook → (a b : Situation) (z : Seen) (result ended : Result Stop SaveFault) (closed : Result V E) (m : ℕ) → IsLawful a.client.keys
     → ((names : Names) → b.link.honest names → z.honest names × Delivered names b.link.past z.past)
     → ((keys : List Key) → b.link.amid keys → Sound keys b.link.past → z.amid keys × PassedAmid keys b.link.past z.past)
     → ((names : Names) → b.link.calm names → z.calm names × OnOk closed (z.past ≡ b.link.past)) → (IsInMemory ended → IsInMemory result)
@@ -315,7 +316,7 @@ went_closed l a b z result ended closed m lawful delivers passes calms memory cu
       onward = λ good.
           let before = first.onward good in
           let after = subst (λ ks. WentOn ks b.link.past z.past) keys (good_closed (first.good good)).1 in
-          on_then l.twice l.joins a.client.keys a.link.past b.link.past z.past before after;
+          on_then l.client.twice l.amid.joins a.client.keys a.link.past b.link.past z.past before after;
       learns = λ holds.
           let before = first.learns holds in
           let step = delivers (is_planned a.client.keys) before.0 in (
@@ -323,19 +324,19 @@ went_closed l a b z result ended closed m lawful delivers passes calms memory cu
             λ in_memory.
                 let none : m + 0 ≡ m = omega arith in
                 subst (λ n. Learnt a.client.keys a.client.batch a.link.past z.past a.client.knowns b.client.knowns n) none
-                (learnt_then l.blind a.client.keys a.client.batch a.link.past b.link.past z.past a.client.knowns b.client.knowns b.client.knowns m 0 (before.1 (memory in_memory))
-                (learnt_delivered l.requests a.client.keys a.client.batch (is_planned a.client.keys) b.link.past z.past b.client.knowns step.1)),
+                (learnt_then l.client.blind a.client.keys a.client.batch a.link.past b.link.past z.past a.client.knowns b.client.knowns b.client.knowns m 0 (before.1 (memory in_memory))
+                (learnt_delivered l.exchanges.requests_stay a.client.keys a.client.batch (is_planned a.client.keys) b.link.past z.past b.client.knowns step.1)),
           );
       broken = λ holds is.
           let before = first.learns holds in
           let step = delivers (is_planned a.client.keys) before.0 in
           elim (cut is) [
-            | inl so ↦ until_delivered l.requests a.client.keys a.client.batch (is_planned a.client.keys) a.link.past b.link.past z.past a.client.knowns b.client.knowns m step.1 (first.broken holds so)
-            | inr in_memory ↦ until_behind l.requests a.client.keys a.client.batch (is_planned a.client.keys) a.link.past b.link.past z.past a.client.knowns b.client.knowns m step.1 (before.1 in_memory)
+            | inl so ↦ until_delivered l.exchanges.requests_stay a.client.keys a.client.batch (is_planned a.client.keys) a.link.past b.link.past z.past a.client.knowns b.client.knowns m step.1 (first.broken holds so)
+            | inr in_memory ↦ until_behind l.exchanges.requests_stay a.client.keys a.client.batch (is_planned a.client.keys) a.link.past b.link.past z.past a.client.knowns b.client.knowns m step.1 (before.1 in_memory)
           ];
       takes_nothing_back = λ holds.
           let step = delivers (is_planned a.client.keys) (first.learns holds).0 in
-          grown_then a.link.past b.link.past z.past (first.takes_nothing_back holds) (grown_delivered l.requests (is_planned a.client.keys) b.link.past z.past step.1);
+          grown_then a.link.past b.link.past z.past (first.takes_nothing_back holds) (grown_delivered l.exchanges.requests_stay (is_planned a.client.keys) b.link.past z.past step.1);
       keeps = first.keeps;
       near = λ settling done.
           let held = whole done in
@@ -355,16 +356,16 @@ went_closed l a b z result ended closed m lawful delivers passes calms memory cu
     good_closed : IsGood b.client b.link → IsGood b.client z × WentOn b.client.keys b.link.past z.past
     good_closed good =
         let step = passes b.client.keys good.amid_for good.sound in
-        let kept = l.passing b.client.keys b.link.past z.past good.sound step.1 in
+        let kept = l.amid.passing b.client.keys b.link.past z.past good.sound step.1 in
         let on = kept.1 in (
           record {
             amid_for = step.0;
             sound = kept.0;
-            held = l.known_for_good b.client.keys b.client.knowns b.link.past.objects z.past.objects (subst (λ ks. IsLawful ks) (sym first.keeps.keys_stay) lawful) on good.held;
+            held = l.client.known_for_good b.client.keys b.client.knowns b.link.past.objects z.past.objects (subst (λ ks. IsLawful ks) (sym first.keeps.keys_stay) lawful) on good.held;
           },
           record {
             onward = on;
-            mirrored = λ image. l.images b.client.keys b.link.past z.past good.sound image step.1;
-            passed = l.blind_to b.client.keys [] [] b.link.past z.past step.1;
+            mirrored = λ image. l.amid.image_passing b.client.keys b.link.past z.past good.sound image step.1;
+            passed = l.amid.blind b.client.keys [] [] b.link.past z.past step.1;
           },
         )

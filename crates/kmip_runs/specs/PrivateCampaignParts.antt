@@ -3,24 +3,18 @@
 use Rattle.std.specs.Prelude.{◌≡◌, ◌≢◌, ◌≤◌, ◌<◌, ℕ, ◌+◌, List, [], ◌∷◌, ◌++◌, filter, length, map, Ok, OnErr, OnOk, Option, Result, Some, None, string_bytes, take, if◌then◌else◌, vec_capacity, vec_len}
 use Rattle.std.specs.List.{All, AllZip}
 use Rattle.kmip_objects.specs.Objects.{Object}
-use Rattle.kmip_plan.specs.Laws.{KeysAreFound}
-use Rattle.kmip_plan.specs.ChainLaws.{PlacesAndSteps}
 use Rattle.kmip_plan.specs.declared.key.Key.{Key}
 use Rattle.kmip_progress.specs.Suiting.{Suits}
 use Rattle.kmip_progress.specs.declared.known.Known.{Known}
 use Rattle.kmip_client.specs.Clients.{ClientState}
 use Rattle.kmip_client.specs.Held.{TrueProgress}
-use Rattle.kmip_client.specs.Laws.{OnwardToItself, OnwardTwice, HeldForGood}
 use Rattle.kmip_client.specs.Places.{position}
 use Rattle.kmip_client.specs.Saving.{known_of}
 use Rattle.kmip_client.specs.Shapes.{IsKept}
 use Rattle.kmip_client.specs.Verdicts.{AreWithin, counts_of, verdicts_of}
 use Rattle.kmip_client.specs.declared.knowledge.Knowledge.{Knowledge}
-use Rattle.kmip_protocol.specs.AmidLaws.{NothingPasses, PassingAmidKeepsSound, PassingAmidKeepsTheImage, PassingIsBlind, PassingJoins}
-use Rattle.kmip_protocol.specs.Laws.{OpeningIsMirrored, SoundIsSafe}
 use Rattle.kmip_protocol.specs.Past.{Names, is_planned}
 use Rattle.kmip_protocol.specs.Seen.{Seen}
-use Rattle.kmip_protocol.specs.SettlingLaws.{SoundIsReady}
 use Rattle.kmip_runs.specs.Campaign.{CalmLink, HasNoConflict, IsEnd, Settles, saves}
 use Rattle.kmip_runs.specs.Headline.{GoodLink}
 use Rattle.kmip_runs.specs.Driving.{IsGood, KeepsFurther, Learnt, TakesNothingBack, WentOn}
@@ -36,22 +30,6 @@ use Rattle.kmip_runs.specs.declared.run_end.RunEnd.{RunEnd}
 use Rattle.kmip_runs.specs.declared.ending.Ending.{Ending}
 use Rattle.kmip_runs.specs.declared.stop.Stop.{Stop}
 use Rattle.kmip_runs.specs.declared.stop.Stop.TheVariants as stops
-
--- the laws of the crates below that campaigns rest on
-pub record CampaignLaws : Type 0 where
-  pub found : KeysAreFound
-  pub places : PlacesAndSteps
-  pub itself : OnwardToItself
-  pub twice : OnwardTwice
-  pub known_for_good : HeldForGood
-  pub passing : PassingAmidKeepsSound
-  pub images : PassingAmidKeepsTheImage
-  pub nothing : NothingPasses
-  pub joins : PassingJoins
-  pub blind_to : PassingIsBlind
-  pub opening : OpeningIsMirrored
-  pub safe : SoundIsSafe
-  pub ready : SoundIsReady
 
 -- each key has come at least as far as is counted
 abbrev pub Reaches : List Object → Key → ℕ → Type 0

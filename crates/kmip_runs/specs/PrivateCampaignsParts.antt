@@ -2,15 +2,12 @@
 -- Source: own (view).
 use Rattle.std.specs.Prelude.{◌≡◌, ◌≢◌, ◌<◌, ◌⊎◌, List, [], ◌++◌, flat_map, length, map, IfOk, IfSome, IsOk, None, OnErr, OnOk, Option, Result}
 use Rattle.std.specs.List.{All}
-use Rattle.kmip_plan.specs.Laws.{NewPlansAreNoShorter, PlansProlongAgain, PlansProlongThemselves}
 use Rattle.kmip_plan.specs.declared.key.Key.{Key}
 use Rattle.kmip_progress.specs.Suiting.{Suits}
 use Rattle.kmip_progress.specs.declared.known.Known.{Known}
-use Rattle.kmip_client.specs.Laws.{PositionsAreNoLess, TrueOfProlonged}
-use Rattle.kmip_protocol.specs.Laws.{IsReached, NamesOfProlonged, SoundBetween, SoundOfProlonged}
+use Rattle.kmip_protocol.specs.Laws.{IsReached}
 use Rattle.kmip_protocol.specs.Past.{Past, is_planned}
 use Rattle.kmip_protocol.specs.Seen.{Seen}
-use Rattle.kmip_protocol.specs.SettlingLaws.{ProlongedMissNoLess}
 use Rattle.kmip_ttlv.specs.declared.no_memory.NoMemory.{NoMemory}
 use Rattle.kmip_runs.specs.Headline.{GoodLink, reported_by}
 use Rattle.kmip_runs.specs.Campaign.{HasNoConflict}
@@ -23,18 +20,6 @@ use Rattle.kmip_runs.specs.declared.campaign_end.CampaignEnd.{CampaignEnd}
 use Rattle.kmip_runs.specs.TurnedRuns.{AreTurnedFrom}
 use Rattle.kmip_runs.specs.declared.run.Run.{Run}
 use Rattle.kmip_runs.specs.declared.run_end.RunEnd.{RunEnd}
-
--- the laws of the crates below on plans that prolong others
-pub record PlansLaws : Type 0 where
-  pub itself : PlansProlongThemselves
-  pub again : PlansProlongAgain
-  pub longer : NewPlansAreNoShorter
-  pub no_less : PositionsAreNoLess
-  pub known : TrueOfProlonged
-  pub names : NamesOfProlonged
-  pub sound : SoundOfProlonged
-  pub between : SoundBetween
-  pub miss : ProlongedMissNoLess
 
 -- Each step that the ends of runs and what was saved report done was reached, no end has a conflict, and what
 -- was saved is true.

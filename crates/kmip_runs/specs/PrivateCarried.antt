@@ -8,12 +8,7 @@ use Rattle.kmip_disk.specs.Views.{DiskView}
 use Rattle.kmip_disk.specs.Whole.{IsWritten, LeavesOneOf}
 use Rattle.kmip_progress.specs.Reading.{read_text}
 use Rattle.kmip_progress.specs.Texts.{progress_text}
-use Rattle.kmip_client.specs.Laws.{OnwardToItself, OnwardTwice, HeldForGood, HeldIsNoConflict, HearingIsBlind}
-use Rattle.kmip_protocol.specs.AmidLaws.{NothingPasses, PassingAmidKeepsSound, PassingAmidKeepsTheImage, PassingIsBlind, PassingJoins}
-use Rattle.kmip_protocol.specs.Laws.{DeliveriesKeepTheRequests}
 use Rattle.kmip_protocol.specs.Past.{Names, is_planned}
-use Rattle.kmip_protocol.specs.SettlingLaws.{NeedsAreBounded, WhoIsSettledNeedsNothing, WhoNeedsNothingIsFinished}
-use Rattle.kmip_protocol.specs.LosingLaws.{LateArrivalsAddNothing, LeftIsBounded, NeedsAreLeft}
 use Rattle.kmip_runs.specs.Driving.{IsBorneOut, IsGood, IsSettling, Keeps, Learnt, LearntUntil, Nearer, TakesNothingBack, WentOn}
 use Rattle.kmip_runs.specs.declared.stop.Stop.{Stop}
 use Rattle.kmip_runs.specs.declared.stop.Stop.TheVariants as stops
@@ -26,26 +21,6 @@ use Rattle.kmip_runs.specs.Keeping.{SavesText}
 use Rattle.kmip_runs.specs.Lasting.{KeepsBetween}
 use Rattle.kmip_runs.specs.Refusals.{HasRisen}
 use Rattle.kmip_runs.specs.Turning.{IsTurned, stop_in}
-
--- The laws of the crates below that the proofs use.
-pub record CarryingLaws : Type 0 where
-  pub itself : OnwardToItself
-  pub twice : OnwardTwice
-  pub known_for_good : HeldForGood
-  pub no_conflict : HeldIsNoConflict
-  pub blind : HearingIsBlind
-  pub passing : PassingAmidKeepsSound
-  pub images : PassingAmidKeepsTheImage
-  pub nothing : NothingPasses
-  pub joins : PassingJoins
-  pub blind_to : PassingIsBlind
-  pub requests : DeliveriesKeepTheRequests
-  pub bounded : NeedsAreBounded
-  pub needless : WhoNeedsNothingIsFinished
-  pub needed : WhoIsSettledNeedsNothing
-  pub late : LateArrivalsAddNothing
-  pub left_bounded : LeftIsBounded
-  pub needs_left : NeedsAreLeft
 
 -- What `made` exchanges keep of what is good, and what they teach. The fields are clauses of `carry_out`.
 pub record Went (old new : Situation) (result : Result Stop SaveFault) (made : ℕ) : Type 0 where

@@ -7,7 +7,7 @@ ghost use Rattle.kmip_client.specs.Held.{Held, TrueProgress};
 ghost use Rattle.kmip_progress.specs.Suiting.{Suits};
 ghost use Rattle.kmip_runs.specs.Campaign.{MayBatch};
 ghost use Rattle.kmip_runs.specs.Headline.{GoodLink};
-ghost use Rattle.kmip_runs.specs.PrivateCampaignParts.{CampaignLaws, MakesRuns, RunsOne};
+ghost use Rattle.kmip_runs.specs.PrivateCampaignParts.{MakesRuns, RunsOne};
 ghost use Rattle.kmip_runs.specs.Remembering.{notes_of, resumed, saved_numbered, start_knowns};
 ghost use Rattle.kmip_runs.specs.TurnedRuns.{begin_client, resumed_client};
 ghost use Rattle.kmip_runs.specs.MakesCampaigns.{MakesCampaign};
@@ -15,20 +15,14 @@ ghost use Rattle.kmip_runs.specs.MakesCampaigns.{MakesCampaign};
 use crate::campaign_end::CampaignEnd;
 use crate::driving::drive;
 use crate::ending::{close_run, ending_of, note};
+use crate::laws::the_laws_below_hold;
 use crate::run::Run;
 use crate::start::Start;
 use kmip_client::Client;
-use kmip_client::laws::{onward_is_an_order, truth_is_for_good};
 use kmip_plan::Plan;
-use kmip_plan::chain_laws::steps_have_places;
-use kmip_plan::laws::keys_have_names;
+use kmip_plan::laws::a_plan_is_lawful;
 use kmip_progress::Progress;
 use kmip_protocol::Link;
-use kmip_protocol::amid_laws::{
-    sound_stays_so_amid_others, the_image_is_kept_amid_others, what_passes_passes_for_others,
-};
-use kmip_protocol::laws::{opening_is_mirrored, sound_is_safe};
-use kmip_protocol::settling_laws::sound_is_ready;
 use kmip_ttlv::NoMemory;
 use std::alloc::Global;
 
@@ -48,26 +42,10 @@ pub fn campaign<L: Link>(alloc: Global, plan: &Plan, link: &mut L, runs: &[Run])
     ensures { MakesCampaign (L.seen link.old) plan.now runs.now result (L.seen link.new)
         (L.follows link.old link.new) }
 {
-    laws_of_runs();
-    plan.keys();
+    the_laws_below_hold(); // proof
+    a_plan_is_lawful(plan); // proof
     let carried = Vec::new(alloc);
     run_all(alloc, plan, link, runs, carried.as_slice())
-}
-
-/// The laws of the crates below.
-pub(crate) fn laws_of_runs()
-    ensures { CampaignLaws }
-{
-    keys_have_names();
-    steps_have_places();
-    onward_is_an_order();
-    truth_is_for_good();
-    sound_stays_so_amid_others();
-    the_image_is_kept_amid_others();
-    what_passes_passes_for_others();
-    opening_is_mirrored();
-    sound_is_safe();
-    sound_is_ready();
 }
 
 /// Makes the runs of a plan in turn, where this was saved under earlier plans, as it is read for the
@@ -113,8 +91,8 @@ fn run_each<L: Link>(
     ensures { MakesRuns plan.now carried.now runs.now (notes_of end.new) (result ≡ Ok tt)
         (L.seen link.old) (L.seen link.new) (L.follows link.old link.new) }
 {
-    laws_of_runs();
-    plan.keys();
+    the_laws_below_hold(); // proof
+    a_plan_is_lawful(plan); // proof
     if runs.is_empty() {
         return Ok(());
     }
@@ -147,8 +125,8 @@ pub(crate) fn one_run<'p, L: Link>(
         (record { client = client.new; link = L.seen link.new; end = end.new })
         (L.follows link.old link.new) }
 {
-    laws_of_runs();
-    plan.keys();
+    the_laws_below_hold(); // proof
+    a_plan_is_lawful(plan); // proof
     begin(alloc, plan, client, carried, end.saved.as_slice(), run)?;
     let driven = drive(alloc, client, link, run.limit);
     let ending = ending_of(alloc, client, run, driven, end)?;

@@ -4,32 +4,23 @@ ghost use Rattle.std.specs.Option.{unwrap_or};
 ghost use Rattle.kmip_client.specs.Saving.{progress};
 ghost use Rattle.kmip_progress.specs.Texts.{progress_text};
 ghost use Rattle.kmip_runs.specs.CarriesOut.{CarriesOut, stage};
-ghost use Rattle.kmip_runs.specs.PrivateCarried.{CarryingLaws, MakesExchangesInTurn, MakesOneExchange, SavesProgress};
+ghost use Rattle.kmip_runs.specs.PrivateCarried.{MakesExchangesInTurn, MakesOneExchange, SavesProgress};
 ghost use Rattle.kmip_runs.specs.PrivateTurns.{asked_count};
 ghost use Rattle.kmip_runs.specs.Refusals.{HasRisen};
 ghost use Rattle.kmip_runs.specs.Saved.{HasMemory};
 
-use crate::campaigning::laws_of_runs;
 use crate::driving::{stop_of, turn};
 use crate::keeper::Keeper;
+use crate::laws::the_laws_below_hold;
 use crate::observer::Observer;
 use crate::patience::Patience;
 use crate::save_fault::SaveFault;
 use crate::sights::Sights;
 use crate::{Stop, close_run};
 use kmip_client::Client;
-use kmip_client::laws::{
-    onward_is_an_order, the_settled_are_not_worked_on, truth_is_for_good, what_is_known_was_heard,
-    what_is_true_is_no_conflict,
-};
+use kmip_client::laws::a_client_has_a_lawful_plan;
 use kmip_progress::laws::texts_are_read_back;
 use kmip_protocol::Link;
-use kmip_protocol::amid_laws::{
-    sound_stays_so_amid_others, the_image_is_kept_amid_others, what_passes_passes_for_others,
-};
-use kmip_protocol::laws::deliveries_keep_the_requests;
-use kmip_protocol::losing_laws::{late_arrivals_add_nothing, left_is_bounded};
-use kmip_protocol::settling_laws::{needs_are_bounded, who_needs_nothing_is_finished};
 use kmip_ttlv::NoMemory;
 use std::alloc::Global;
 
@@ -78,32 +69,13 @@ pub fn carry_out<L: Link, K: Keeper, P: Patience, O: Observer>(
         (P.asked patience.new))
         (L.follows link.old link.new) }
 {
-    laws_below();
-    laws_of_runs();
-    let _plan = client.plan();
+    the_laws_below_hold(); // proof
+    a_client_has_a_lawful_plan(client); // proof
     let (carried, made) = exchange_in_turn(alloc, client, link, keeper, patience, observer, limit);
     let closed = close_run(alloc, link);
     observer.ended();
     let _ = keeper.close(); // where that fails, a crash may leave an older text, which is as true
     (after_close(carried, closed), made)
-}
-
-/// The laws of the crates below.
-fn laws_below()
-    ensures { CarryingLaws }
-{
-    onward_is_an_order();
-    truth_is_for_good();
-    what_is_known_was_heard();
-    what_is_true_is_no_conflict();
-    sound_stays_so_amid_others();
-    the_image_is_kept_amid_others();
-    what_passes_passes_for_others();
-    deliveries_keep_the_requests();
-    needs_are_bounded();
-    who_needs_nothing_is_finished();
-    left_is_bounded();
-    late_arrivals_add_nothing();
 }
 
 /// Makes exchanges and saves what is known after each, until no key is worked on any more, `limit`
@@ -128,8 +100,8 @@ fn exchange_in_turn<L: Link, K: Keeper, P: Patience, O: Observer>(
         (P.asked patience.new)) }
     ensures followed { HasMemory result.0 → L.follows link.old link.new }
 {
-    laws_below();
-    let _plan = client.plan();
+    the_laws_below_hold(); // proof
+    a_client_has_a_lawful_plan(client); // proof
     let Ok(begun) = Sights::of(alloc, client) else {
         return (Ok(Stop::NoMemory), 0);
     };
@@ -171,9 +143,8 @@ fn exchange_once<L: Link, K: Keeper, O: Observer>(
     ensures followed { HasMemory result.0 → L.follows link.old link.new }
     ensures asked { HasMemory result.0 → result.2 ≡ unwrap_or (asked_count client.old) 0 }
 {
-    laws_below();
+    the_laws_below_hold(); // proof
     // proof: a key that is settled is not worked on
-    the_settled_are_not_worked_on();
     let asked = match turn(alloc, client, link, observer) {
         Ok(Some(asked)) => asked,
         Ok(None) => return (Ok(stop_of(client)), 0, 0),
@@ -225,8 +196,7 @@ fn save_progress<K: Keeper>(
     ensures output { IfErr result (λ fault. fault ≡ SaveFault.Output
         → HasRisen (K.kept keeper.old).refusals (K.kept keeper.new).refusals) }
 {
-    // proof: a text that was written is read back
-    texts_are_read_back();
+    texts_are_read_back(); // proof
     let progress = client.progress(alloc)?;
     let text = progress.write_text(alloc, client.plan())?;
     keeper.save(alloc, text.as_str().as_bytes())

@@ -10,7 +10,7 @@ ghost use Rattle.kmip_runs.specs.declared.crash_fault.CrashFault.TheVariants.{Re
 ghost use Rattle.kmip_runs.specs.declared.left.Left.TheVariants.{Torn};
 
 use crate::campaign_end::CampaignEnd;
-use crate::campaigning::{begin, laws_of_runs, one_run};
+use crate::campaigning::{begin, one_run};
 use crate::carrying::carry_out;
 use crate::crash::Crash;
 use crate::crash_fault::CrashFault;
@@ -19,14 +19,15 @@ use crate::crashing_run::CrashingRun;
 use crate::disk_keeper::DiskKeeper;
 use crate::driving::stop_of;
 use crate::ending::{ending_of, note};
+use crate::laws::the_laws_below_hold;
 use crate::left::Left;
 use crate::run::Run;
 use crate::save_fault::SaveFault;
 use crate::stop::Stop;
 use crate::tireless::Tireless;
-use kmip_client::laws::what_is_true_is_no_conflict;
 use kmip_client::{Client, NoListener};
 use kmip_plan::Plan;
+use kmip_plan::laws::a_plan_is_lawful;
 use kmip_progress::{Progress, ProgressFault};
 use kmip_protocol::Link;
 use kmip_ttlv::NoMemory;
@@ -52,8 +53,8 @@ pub fn campaign_with_crashes<L: Link>(
     ensures { MakesCrashes (L.seen link.old) plan.now runs.now result (L.seen link.new)
         (L.follows link.old link.new) }
 {
-    laws_of_runs();
-    plan.keys();
+    the_laws_below_hold(); // proof
+    a_plan_is_lawful(plan); // proof
     let mut end = CrashesEnd {
         campaign: CampaignEnd {
             runs: Vec::new(alloc),
@@ -98,8 +99,8 @@ fn crash_each<L: Link>(
     ensures { CrashesEach (L.seen link.old) plan.now runs.now result end.new (L.seen link.new)
         (L.follows link.old link.new) }
 {
-    laws_of_runs();
-    plan.keys();
+    the_laws_below_hold(); // proof
+    a_plan_is_lawful(plan); // proof
     let mut client = Client::fresh(alloc, plan)?;
     for place in 0..runs.len() {
         one_crashing(alloc, plan, &mut client, link, runs[place], end)?;
@@ -153,8 +154,8 @@ fn whole_run<'p, L: Link>(
         (record { client = client.new; link = L.seen link.new; end = end.new })
         (L.follows link.old link.new) }
 {
-    laws_of_runs();
-    plan.keys();
+    the_laws_below_hold(); // proof
+    a_plan_is_lawful(plan); // proof
     let nothing = Vec::new(alloc);
     one_run(
         alloc,
@@ -189,9 +190,8 @@ fn crashed_run<'p, L: Link>(
         (record { client = client.new; link = L.seen link.new; end = end.new })
         (L.follows link.old link.new) }
 {
-    laws_of_runs();
-    what_is_true_is_no_conflict();
-    plan.keys();
+    the_laws_below_hold(); // proof
+    a_plan_is_lawful(plan); // proof
     let nothing = Vec::new(alloc);
     begin(
         alloc,

@@ -45,8 +45,7 @@ impl DiskKeeper {
         ensures none_saved { IfOk result (λ keeper. keeper.texts.items ≡ []) }
         ensures none_refused { IfOk result (λ keeper. keeper.refusals ≡ 0) }
     {
-        // proof: a text that was written is read back
-        texts_are_read_back();
+        texts_are_read_back(); // proof
         let mut file = WholeFile {
             disk: MemoryDisk::new(alloc, usize::MAX),
         };

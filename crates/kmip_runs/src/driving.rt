@@ -7,31 +7,16 @@ ghost use Rattle.kmip_client.specs.Hearing.{hear};
 ghost use Rattle.kmip_client.specs.Truth.{TrueMessage};
 ghost use Rattle.kmip_runs.specs.Driving.{IsBorneOut, IsGood, Keeps};
 ghost use Rattle.kmip_runs.specs.Private.{IsToBePut, AreParts};
-ghost use Rattle.kmip_runs.specs.PrivateLawbook.{Lawbook};
 ghost use Rattle.kmip_protocol.specs.Turns.{answers_part, is_unanswered, lost_each, taught, taught_by};
 ghost use Rattle.kmip_runs.specs.Drives.{Drives};
 ghost use Rattle.kmip_runs.specs.PrivateTurns.{MakesTurn, PutsQuestion};
 
+use crate::laws::the_laws_below_hold;
 use crate::observer::Observer;
 use crate::stop::Stop;
 use crate::turn_fault::TurnFault;
-use kmip_client::laws::{
-    onward_is_an_order, prolonged_plans_keep_the_truth, the_settled_are_not_worked_on,
-    truth_is_for_good, what_is_known_was_heard, what_is_true_is_no_conflict,
-};
+use kmip_client::laws::a_client_has_a_lawful_plan;
 use kmip_client::{Client, HearFault, Heard, NoListener, Part, Question, Verdict};
-use kmip_plan::chain_laws::states_have_places;
-use kmip_plan::laws::keys_have_names;
-use kmip_protocol::amid_laws::{
-    sound_stays_so_amid_others, the_image_is_kept_amid_others, what_passes_passes_for_others,
-};
-use kmip_protocol::laws::{answers_are_true, prolonged_plans_are_sound};
-use kmip_protocol::losing_laws::{a_losing_turn_is_bounded, left_is_bounded};
-use kmip_protocol::settling_laws::{
-    a_calm_turn_is_nearer, needs_are_bounded, nothing_made_is_ready,
-    room_is_left_for_prolonged_plans, sound_is_ready, the_finished_stand_at_the_end,
-    who_needs_nothing_is_finished,
-};
 use kmip_protocol::{Link, LinkFault, NoReplyReason, answer_or_loss};
 use kmip_ttlv::NoMemory;
 use std::alloc::Global;
@@ -58,8 +43,8 @@ pub fn drive<L: Link>(
     ensures { Drives (L.seen link.old) client.old limit result (L.seen link.new) client.new
         (L.follows link.old link.new) }
 {
-    laws_below();
-    let _plan = client.plan();
+    the_laws_below_hold(); // proof
+    a_client_has_a_lawful_plan(client); // proof
     for made in 0..limit {
         match turn(alloc, client, link, &mut NoListener) {
             Ok(Some(_)) => {}
@@ -68,34 +53,6 @@ pub fn drive<L: Link>(
         }
     }
     (stop_of(client), limit)
-}
-
-/// The laws of the crates below.
-fn laws_below()
-    ensures { Lawbook }
-{
-    keys_have_names();
-    states_have_places();
-    onward_is_an_order();
-    truth_is_for_good();
-    what_is_known_was_heard();
-    the_settled_are_not_worked_on();
-    what_is_true_is_no_conflict();
-    sound_stays_so_amid_others();
-    the_image_is_kept_amid_others();
-    what_passes_passes_for_others();
-    answers_are_true();
-    nothing_made_is_ready();
-    a_calm_turn_is_nearer();
-    needs_are_bounded();
-    who_needs_nothing_is_finished();
-    the_finished_stand_at_the_end();
-    sound_is_ready();
-    prolonged_plans_are_sound();
-    prolonged_plans_keep_the_truth();
-    room_is_left_for_prolonged_plans();
-    left_is_bounded();
-    a_losing_turn_is_bounded();
 }
 
 /// Sends the next message, and learns from what comes back. Returns the number of keys that it asks
@@ -113,7 +70,7 @@ pub(crate) fn turn<L: Link, O: Observer>(
     ensures { MakesTurn (L.seen link.old) client.old result (L.seen link.new) client.new
         (L.follows link.old link.new) }
 {
-    laws_below();
+    the_laws_below_hold(); // proof
     let Some(question) = client.ask(alloc)? else {
         return Ok(None);
     };
@@ -136,8 +93,8 @@ fn put<L: Link, O: Observer>(
     ensures { PutsQuestion question.now (L.seen link.old) client.old result (L.seen link.new)
         client.new (L.follows link.old link.new) }
 {
-    laws_below();
-    let _plan = client.plan();
+    the_laws_below_hold(); // proof
+    a_client_has_a_lawful_plan(client); // proof
     observer.asked(question.parts.as_slice());
     let answered = link.exchange(alloc, question.bytes.as_slice());
     tell_nothing_came(&answered, observer);

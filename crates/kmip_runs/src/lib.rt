@@ -58,6 +58,7 @@ mod ending;
 mod exchange_news;
 mod file_keeper;
 mod keeper;
+mod laws;
 mod left;
 mod observer;
 mod pace;

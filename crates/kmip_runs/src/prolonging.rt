@@ -4,22 +4,19 @@ ghost use Rattle.std.specs.List.{All};
 ghost use Rattle.kmip_plan.specs.Prolonging.{Prolongs};
 ghost use Rattle.kmip_progress.specs.Suiting.{Suits};
 ghost use Rattle.kmip_runs.specs.Campaign.{MayBatch};
-ghost use Rattle.kmip_runs.specs.PrivateCampaignParts.{CampaignLaws};
 ghost use Rattle.kmip_runs.specs.Campaigns.{AreProlonged, GoodStart, carried_over};
-ghost use Rattle.kmip_runs.specs.PrivateCampaignsParts.{IsReadFor, MakesPart, MakesPlans, PlansLaws};
+ghost use Rattle.kmip_runs.specs.PrivateCampaignsParts.{IsReadFor, MakesPart, MakesPlans};
 ghost use Rattle.kmip_runs.specs.MakesCampaigns.{MakesCampaigns};
 
 use crate::campaign_end::CampaignEnd;
-use crate::campaigning::{laws_of_runs, run_all};
+use crate::campaigning::run_all;
+use crate::laws::the_laws_below_hold;
 use crate::run::Run;
-use kmip_client::laws::{progress_is_true_of_prolonged_plans, prolonged_plans_keep_the_truth};
 use kmip_plan::Plan;
-use kmip_plan::laws::{prolonged_keys_stand, prolonging_may_be_repeated};
+use kmip_plan::laws::a_plan_is_lawful;
 use kmip_progress::Progress;
 use kmip_progress::laws::texts_are_prolonged;
 use kmip_protocol::Link;
-use kmip_protocol::laws::prolonged_plans_are_sound;
-use kmip_protocol::settling_laws::room_is_left_for_prolonged_plans;
 use kmip_ttlv::NoMemory;
 use std::alloc::Global;
 
@@ -52,7 +49,7 @@ pub fn campaigns<L: Link>(
     ensures { MakesCampaigns (L.seen link.old) plans.now (map (λ list. list.items) runs.now) result
         (L.seen link.new) (L.follows link.old link.new) }
 {
-    laws_below();
+    the_laws_below_hold(); // proof
     let mut end = CampaignEnd {
         runs: Vec::new(alloc),
         saved: Vec::new(alloc),
@@ -61,20 +58,6 @@ pub fn campaigns<L: Link>(
     let fault = run_plans(alloc, plans, link, runs, &mut end).err();
     end.fault = fault;
     end
-}
-
-/// The laws of the crates below.
-fn laws_below()
-    ensures runs { CampaignLaws }
-    ensures plans { PlansLaws }
-{
-    laws_of_runs();
-    prolonging_may_be_repeated();
-    prolonged_keys_stand();
-    progress_is_true_of_prolonged_plans();
-    prolonged_plans_keep_the_truth();
-    prolonged_plans_are_sound();
-    room_is_left_for_prolonged_plans();
 }
 
 /// Makes the lists of runs in turn, and notes how each run ended.
@@ -97,13 +80,13 @@ fn run_plans<L: Link>(
     ensures { MakesPlans plans.now (map (λ list. list.items) runs.now) (result ≡ Ok tt)
         (L.seen link.old) (L.seen link.new) end.new (L.follows link.old link.new) }
 {
-    laws_below();
-    plans[0].keys();
-    plans[plans.len() - 1].keys();
+    the_laws_below_hold(); // proof
+    a_plan_is_lawful(&plans[0]); // proof
+    a_plan_is_lawful(&plans[plans.len() - 1]); // proof
     let mut carried = Vec::new(alloc);
     for place in 0..plans.len() {
         let plan = &plans[place];
-        plan.keys();
+        a_plan_is_lawful(plan); // proof
         let next = plans.get(place + 1);
         let list = runs[place].as_slice();
         carried = run_part(alloc, plan, next, link, list, carried.as_slice(), end)?;
@@ -213,8 +196,8 @@ fn read_over(
     ensures read { IfOk result (λ read. read ≡ carried_over next.now progress.now) }
     ensures suits { IfOk result (λ read. Suits next.now read) }
 {
-    texts_are_prolonged();
-    plan.keys();
+    texts_are_prolonged(); // proof
+    a_plan_is_lawful(plan); // proof
     let text = progress.write_text(alloc, plan)?;
     match Progress::read_text(alloc, next, text.as_str()) {
         Ok(read) => Ok(read),

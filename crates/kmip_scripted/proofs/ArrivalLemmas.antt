@@ -52,7 +52,7 @@ stay_distinct laws room old new ask outcome (rows.name_taken h) are = are
 stay_distinct laws room old new ask outcome (rows.full h i) are = are
 stay_distinct laws room old new ask outcome (rows.created {attrs = attrs} {uid = uid} free roomy uid_free fits) are =
     let o : Object = record { uid = uid; attrs = attrs; state = PreActive } in
-    record { names = laws.names_more old o are.names free; identifiers = laws.uids_more old o are.identifiers uid_free }
+    record { names = laws.objects.one_more_name old o are.names free; identifiers = laws.objects.one_more_identifier old o are.identifiers uid_free }
 stay_distinct laws room old new ask outcome rows.searched are = are
 stay_distinct laws room old new ask outcome (rows.told h) are = are
 stay_distinct laws room old new ask outcome (rows.unknown h) are = are
@@ -60,8 +60,8 @@ stay_distinct laws room old new ask outcome (rows.compromised h) are = are
 stay_distinct laws room old new ask outcome (rows.not_found h i) are = are
 stay_distinct laws room old new ask outcome (rows.wrong_state h i j) are = are
 stay_distinct laws room old new ask outcome (rows.done {uid = uid} {state = state} asked with_uid row) are = record {
-  names = laws.names_stay uid state old are.names;
-  identifiers = laws.uids_stay uid state old are.identifiers;
+  names = laws.objects.names_stay uid state old are.names;
+  identifiers = laws.objects.identifiers_stay uid state old are.identifiers;
 }
 
 served_distinct : (laws : ArrivalLaws) (part : Question) (reply : Reply) (old new : Stock) → IsServedBy part reply old new → Distinct (objects_in old)
@@ -92,7 +92,7 @@ request_serves laws request reply old new p asked served are = record {
   step = served.step;
   operation_is = inl served.operation_is;
   id_is = inl served.id_is;
-  effects = laws.joins (room_in old) (objects_in old) (objects_in new) request.ask reply.outcome are.names are.identifiers served.step;
+  effects = laws.exchanges.joins (room_in old) (objects_in old) (objects_in new) request.ask reply.outcome are.names are.identifiers served.step;
 }
 
 part_is_taken : (laws : ArrivalLaws) (part : Question) (parts : List Question) (reply : Reply) (old new : Stock) (p : Past)
@@ -173,7 +173,7 @@ part_is_delivered laws names (Ok request) parts reply old new p asked served are
 part_is_delivered laws names (Err refusal) parts reply old new p asked refused are =
     subst (Delivered names (over old p))
     (ap (λ es. over old (record p { effects = es })) (sym (append-nil p.effects)) ∙ ap (λ s. over s (record p { effects = p.effects ++ [] })) (sym refused.same))
-    (laws.nothing names (over old p))
+    (laws.exchanges.nothing names (over old p))
 
 begun_is_delivered : (laws : ArrivalLaws) (names : Names) (stops : Bool) (parts : List Question) (effects : List Effect) (old new : Stock) (p : Past)
     → All (Contains p.requests) (filter_map result_ok parts) → AreBegun stops parts effects old new → Distinct (objects_in old)
@@ -183,13 +183,13 @@ begun_is_delivered laws names stops (part ∷ parts) effects old new p asked (in
     subst (Delivered names (over old p))
     (ap (λ es. over old (record p { effects = es })) (sym (append-nil p.effects)) ∙ ap (λ es. over old (record p { effects = p.effects ++ es })) (sym none)
     ∙ ap (λ s. over s (record p { effects = p.effects ++ effects })) (sym same))
-    (laws.nothing names (over old p))
+    (laws.exchanges.nothing names (over old p))
 begun_is_delivered laws names stops (part ∷ parts) effects old new p asked (inr (reply, between, more, first, effects_are, goes, begun)) are =
     let one = record p { effects = p.effects ++ done_by old part reply } in
     let all : over new (record one { effects = one.effects ++ more }) ≡ over new (record p { effects = p.effects ++ effects }) =
     ap (λ es. over new (record p { effects = es })) (append_assoc p.effects (done_by old part reply) more ∙ ap (λ es. p.effects ++ es) (sym effects_are)) in
     subst (Delivered names (over old p)) all
-    (laws.twice names (over old p) (over between one) (over new (record one { effects = one.effects ++ more }))
+    (laws.exchanges.join names (over old p) (over between one) (over new (record one { effects = one.effects ++ more }))
     (part_is_delivered laws names part parts reply old between p asked first are)
     (begun_is_delivered laws names stops parts more between new one (others_asked p.requests part parts asked) begun
     (served_distinct laws part reply old between first are)))
@@ -201,7 +201,7 @@ distinct_in s lawful = record { names = lawful.names; identifiers = lawful.ident
 
 parts_asked : (laws : ArrivalLaws) (message : List ℕ) (s : Scene) → WasAsked message s
     → All (Contains (past_in s).requests) (filter_map result_ok (parts_in message))
-parts_asked laws message s asked = subst (All (Contains (past_in s).requests)) (laws.requests message) asked
+parts_asked laws message s asked = subst (All (Contains (past_in s).requests)) (laws.messages.requests message) asked
 
 served_past : (message : List ℕ) (s : Scene)
     → past_in (with_served message s)
@@ -228,7 +228,7 @@ pub scene_is_delivered : (laws : ArrivalLaws) (names : Names) (message : List �
     → AreServedInTurn (stops_in message) (parts_in message) (replies_in (batch_reply s.stock message (pos 0))) (effects_in s.stock message) s.stock new.stock
     → HasLawfulObjects s.stock → new ≡ with_served message s → WasAsked message s → Delivered names (past_in s) (past_in new)
 scene_is_delivered laws names message s new served lawful is asked =
-    laws.taken names (stops_in message) (parts_in message) (replies_in (batch_reply s.stock message (pos 0))) (past_in s) (past_in new)
+    laws.exchanges.taken names (stops_in message) (parts_in message) (replies_in (batch_reply s.stock message (pos 0))) (past_in s) (past_in new)
     (scene_is_taken laws message s new served lawful is asked)
 
 pub half_is_delivered : (laws : ArrivalLaws) (names : Names) (message : List ℕ) (s new : Scene)

@@ -20,7 +20,7 @@ use crate::disturbing::counts_after;
 use crate::scripted::{Scripted, copied};
 use crate::word::Word;
 use crate::words::goes_on;
-use kmip_protocol::laws::{deliveries_join, deliveries_keep_the_requests};
+use kmip_protocol::laws::the_laws_of_exchanges_hold;
 use kmip_server::Records;
 use kmip_ttlv::NoMemory;
 use std::alloc::Global;
@@ -39,7 +39,7 @@ impl<S: Records> Scripted<S> {
             → Delivered names (past_in (asked_only asked self.old))
             (past_in (asked_only asked self.new))) }
     {
-        deliveries_join();
+        the_laws_of_exchanges_hold(); // proof
         let asked = self.request(number);
         let Some(message) = copied(alloc, asked)? else {
             return Ok(());
@@ -60,7 +60,7 @@ impl<S: Records> Scripted<S> {
             → Delivered names (past_in (asked_only asked self.old))
             (past_in (asked_only asked self.new))) }
     {
-        deliveries_join();
+        the_laws_of_exchanges_hold(); // proof
         match word {
             Word::Again(number) => self.repeat(alloc, number),
             Word::Pass | Word::LoseRequest | Word::LoseReply => Ok(()),
@@ -76,7 +76,7 @@ impl<S: Records> Scripted<S> {
             → HasStopped at_end self.old self.new) }
         ensures words { DoesWords at_end result self.old self.new }
     {
-        deliveries_join();
+        the_laws_of_exchanges_hold(); // proof
         let Some(word) = self.first_word() else {
             return Ok(false);
         };
@@ -93,7 +93,7 @@ impl<S: Records> Scripted<S> {
         ensures ok { OnOk result (self.new ≡ after_words at_end self.old.words self.old) }
         ensures words { DoesWords at_end result self.old self.new }
     {
-        deliveries_join();
+        the_laws_of_exchanges_hold(); // proof
         'words: loop {
             if !self.step(alloc, at_end)? {
                 return Ok(());
@@ -119,7 +119,7 @@ impl<S: Records> Scripted<S> {
         ensures delivered { (names : Names) → WasAsked request.now self.old
             → Delivered names (past_in self.old) (past_in self.new) }
     {
-        deliveries_join();
+        the_laws_of_exchanges_hold(); // proof
         match word {
             Word::LoseRequest => Ok(None),
             Word::LoseReply => self.lose_reply(alloc, request),
@@ -179,8 +179,7 @@ impl<S: Records> Scripted<S> {
         ensures want { OnErr result ((names : Names) → IsWanting names request.now
             (past_in self.old) (past_in self.new)) }
     {
-        deliveries_join();
-        deliveries_keep_the_requests();
+        the_laws_of_exchanges_hold(); // proof
         self.ask(alloc, request)?;
         self.do_words(alloc, false)?;
         Ok(())
@@ -240,7 +239,7 @@ impl<S: Records> Scripted<S> {
         // Where no word was left, none is left, however it ends.
         ensures stays { self.old.words ≡ [] → self.new.words ≡ [] }
     {
-        deliveries_join();
+        the_laws_of_exchanges_hold(); // proof
         let repeated = self.is_repeated();
         self.prepare(alloc, request)?;
         let word = self.next_word();

@@ -14,7 +14,7 @@ ghost use Rattle.kmip_scripted.specs.Scenes.{disturbances_in, past_in};
 ghost use Rattle.kmip_scripted.specs.Words.{AreBegun, IsBegun, after_run, exchange};
 
 use crate::scripted::Scripted;
-use kmip_protocol::amid_laws::what_is_honest_is_amid;
+use kmip_protocol::amid_laws::the_laws_amid_others_hold;
 use kmip_protocol::{Link, LinkFault};
 use kmip_server::Records;
 use kmip_ttlv::NoMemory;
@@ -74,7 +74,7 @@ impl<S: Records> Link for Scripted<S> {
         ensures followed { IsInMemory (answer_in (λ v. v.items) result)
             → Follows self.old self.new }
     {
-        what_is_honest_is_amid();
+        the_laws_amid_others_hold(); // proof
         match self.follow(alloc, request) {
             Ok(answer) => Ok(answer),
             Err(NoMemory) => Err(LinkFault::NoMemory),
@@ -108,7 +108,7 @@ impl<S: Records> Link for Scripted<S> {
         // Unless memory ran out, the link is what this end of a run made of it.
         ensures followed { IsInMemory result → Follows self.old self.new }
     {
-        what_is_honest_is_amid();
+        the_laws_amid_others_hold(); // proof
         match self.finish_run(alloc) {
             Ok(()) => Ok(()),
             Err(NoMemory) => Err(LinkFault::NoMemory),

@@ -16,7 +16,7 @@ ghost use Rattle.kmip_scripted.specs.Private.{first_of};
 use crate::Counts;
 use crate::disturbing::is_repeated;
 use crate::script::Script;
-use crate::serving::{arrival_laws, serve_logged};
+use crate::serving::{serve_logged, the_laws_below_hold};
 use crate::word::Word;
 use crate::words::{
     first_word, next_exchange_word, take_ending_word, take_exchange_word, take_restarts,
@@ -203,7 +203,7 @@ impl<S: Records> Scripted<S> {
             → Delivered names (past_in (asked_only asked self.old))
             (past_in (asked_only asked self.new))) }
     {
-        arrival_laws();
+        the_laws_below_hold(); // proof
         self.log(alloc, message)?;
         Ok(())
     }

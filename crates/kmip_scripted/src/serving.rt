@@ -5,9 +5,10 @@ ghost use Rattle.kmip_server.specs.Batching.{AreBegun, AreServedInTurn, GrownBy,
 ghost use Rattle.kmip_server.specs.Shown.{HasLawfulObjects};
 ghost use Rattle.kmip_scripted.specs.PrivateArriving.{ArrivalLaws};
 
-use kmip_messages::laws::question_laws;
-use kmip_objects::laws::{added_laws, restated_laws};
-use kmip_protocol::laws::{deliveries_join, what_is_done_joins, what_is_taken_is_delivered};
+use kmip_messages::laws::the_laws_of_messages_hold;
+use kmip_objects::laws::the_laws_of_objects_hold;
+use kmip_protocol::laws::the_laws_of_exchanges_hold;
+use kmip_server::laws::a_server_is_lawful;
 use kmip_server::{Effect, Records, Server};
 use kmip_ttlv::{Bytes, NoMemory};
 use std::alloc::Global;
@@ -38,22 +39,19 @@ pub(crate) fn serve_logged<S: Records>(
     ensures same_given { OnErr result (given.new.items ≡ given.old.items) }
     ensures lawful { HasLawfulObjects server.old }
 {
-    question_laws();
-    let _records = server.records();
+    the_laws_of_messages_hold(); // proof
+    a_server_is_lawful(server); // proof
     given.reserve(1)?;
     let reply = server.handle_batch(alloc, message, 0, effects)?;
     given.push_reserved(Bytes::from_vec(reply));
     Ok(())
 }
 
-/// The laws of the crates below that the arrival of a message rests on.
-pub(crate) fn arrival_laws()
+/// The laws of the crates below hold.
+pub(crate) fn the_laws_below_hold()
     ensures { ArrivalLaws }
 {
-    question_laws();
-    added_laws();
-    restated_laws();
-    what_is_done_joins();
-    what_is_taken_is_delivered();
-    deliveries_join();
+    the_laws_of_messages_hold(); // proof
+    the_laws_of_objects_hold(); // proof
+    the_laws_of_exchanges_hold(); // proof
 }

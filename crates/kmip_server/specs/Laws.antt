@@ -28,3 +28,8 @@ LocateFindsAllNamed =
     → ServerStep room objects (Locate (Some every_state) (by_name name)) outcome after
     → (after ≡ objects)
     × (outcome ≡ Located (map (λ o. o.uid) (filter (λ o. pointwise nat_eq name o.attrs.name) objects)))
+
+-- What holds of every server that is asked for a name.
+pub record ServerLaws : Type 0 where
+  pub located : LocateFindsTheName
+  pub all_located : LocateFindsAllNamed

@@ -5,10 +5,12 @@ ghost use Rattle.kmip_batch_items.specs.declared.ask.Ask.{Ask};
 ghost use Rattle.kmip_server.specs.Again.{stock_after_asks, changes, has_failed};
 ghost use Rattle.kmip_server.specs.ServerStep.{ServerStep};
 ghost use Rattle.kmip_server.specs.Serving.{answer};
-ghost use Rattle.kmip_server.specs.Laws.{LocateFindsAllNamed, LocateFindsTheName};
+ghost use Rattle.kmip_server.specs.Laws.{ServerLaws};
 ghost use Rattle.kmip_server.specs.Shown.{HasLawfulObjects, objects_in, room_in};
 ghost use Rattle.kmip_store.specs.Stock.{Stock, IsKept};
 
+use crate::server::Server;
+use kmip_store::Records;
 use kmip_store::laws::{changes_keep_the_records, the_next_identifier_is_free};
 
 /// Where the records are kept, what the server answers, and what it leaves, is a step of the server: a
@@ -18,7 +20,7 @@ pub fn serving_is_a_step()
         → ServerStep (room_in s) (objects_in s) ask (answer s ask).0
         (objects_in (answer s ask).1) }
 {
-    the_next_identifier_is_free();
+    the_next_identifier_is_free(); // proof
 }
 
 /// What holds of the records at all times holds after each question in its ranges.
@@ -26,7 +28,7 @@ pub fn serving_keeps_the_records()
     ensures { (s : Stock) (ask : Ask) → ask_fits ask ≡ true → IsKept s.rows s.room
         → IsKept (answer s ask).1.rows (answer s ask).1.room }
 {
-    changes_keep_the_records();
+    changes_keep_the_records(); // proof
 }
 
 /// An operation that took effect is refused whenever it is asked again, whatever was asked in between, and
@@ -45,11 +47,15 @@ pub fn the_objects_are_lawful()
     ensures { (s : Stock) → IsKept s.rows s.room → HasLawfulObjects s }
 {}
 
-/// What a Locate answers by a name alone, under the mask that searches the objects in every state.
-pub fn a_name_is_found()
-    // Where names are distinct, it answers the identifier of the object with the name, where there is one,
-    // and nothing else. No object changes.
-    ensures one { LocateFindsTheName }
-    // It answers the identifiers of the objects with the name, in their order. No object changes.
-    ensures all { LocateFindsAllNamed }
+/// What holds of every server that is asked for a name, one law a field. It does nothing.
+pub fn the_laws_of_servers_hold()
+    ensures { ServerLaws }
 {}
+
+/// The records of a server are kept, and its objects are lawful. It does nothing.
+pub fn a_server_is_lawful<S: Records>(server: &Server<S>)
+    ensures kept { IsKept server.now.rows server.now.room }
+    ensures objects { HasLawfulObjects server.now }
+{
+    server.records(); // proof
+}

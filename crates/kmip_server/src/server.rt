@@ -11,9 +11,10 @@ ghost use Rattle.kmip_store.specs.Stock.{IsKept};
 use crate::batching::{answer_all, refuse_batch};
 use crate::effect::Effect;
 use crate::laws::{serving_is_a_step, serving_keeps_the_records};
-use kmip_messages::laws::question_laws;
+use kmip_messages::laws::the_laws_of_messages_hold;
 use kmip_messages::read_request;
 use kmip_store::Records;
+use kmip_store::laws::the_records_are_kept;
 use kmip_ttlv::NoMemory;
 use std::alloc::Global;
 use std::marker::Model;
@@ -44,7 +45,7 @@ impl<S: Records> Server<S> {
         // room, and each is in its ranges.
         ensures objects { HasLawfulObjects result }
     {
-        let _count = store.count();
+        the_records_are_kept(&store); // proof
         Server { store }
     }
 
@@ -57,7 +58,7 @@ impl<S: Records> Server<S> {
         // The objects are lawful.
         ensures objects { HasLawfulObjects self.now }
     {
-        let _count = self.store.count();
+        the_records_are_kept(&self.store); // proof
         &self.store
     }
 
@@ -98,12 +99,12 @@ impl<S: Records> Server<S> {
             (parts_in message.now) more self.old self.new)
             effects.old.items effects.new.items) }
     {
-        question_laws();
-        serving_is_a_step();
-        serving_keeps_the_records();
-        let _before = self.store.count();
+        the_laws_of_messages_hold(); // proof
+        serving_is_a_step(); // proof
+        serving_keeps_the_records(); // proof
+        the_records_are_kept(&self.store); // proof
         let reply = self.handle_parts(alloc, message, now, effects);
-        let _after = self.store.count();
+        the_records_are_kept(&self.store); // proof
         reply
     }
 
@@ -125,7 +126,7 @@ impl<S: Records> Server<S> {
             (parts_in message.now) more self.old self.new)
             effects.old.items effects.new.items) }
     {
-        question_laws();
+        the_laws_of_messages_hold(); // proof
         match read_request(alloc, message) {
             Ok(batch) => {
                 let stops = batch.stops();

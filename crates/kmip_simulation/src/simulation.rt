@@ -25,7 +25,8 @@ ghost use Rattle.kmip_simulation.specs.declared.sim_fault.SimFault.TheVariants.{
 
 use crate::sim_fault::SimFault;
 use kmip_plan::Plan;
-use kmip_protocol::laws::{nothing_done_is_sound, opening_is_mirrored};
+use kmip_plan::laws::a_plan_is_lawful;
+use kmip_protocol::laws::the_laws_of_exchanges_hold;
 use kmip_runs::{CampaignEnd, CrashingRun, Run, campaign, campaign_with_crashes, campaigns};
 use kmip_scripted::{Script, Scripted};
 use kmip_server::{IndexedStore, Server};
@@ -67,9 +68,8 @@ pub fn simulate(
     // The words that are kept are those of the script.
     ensures words { IfOk result (λ s. s.words ≡ script) }
 {
-    nothing_done_is_sound();
-    opening_is_mirrored();
-    plan.keys();
+    the_laws_of_exchanges_hold(); // proof
+    a_plan_is_lawful(plan); // proof
     let runs = script.runs(alloc, plan)?;
     let runs = in_batches(alloc, runs.as_slice(), batch)?;
     let words = copied(alloc, &script)?;
@@ -135,9 +135,8 @@ pub fn simulate_with_crashes(
     ensures refused { (number : ℕ) → result ≡ Err (CrashRefused number)
         → RefusesCrashOf plan.now batch script number }
 {
-    nothing_done_is_sound();
-    opening_is_mirrored();
-    plan.keys();
+    the_laws_of_exchanges_hold(); // proof
+    a_plan_is_lawful(plan); // proof
     let runs = script.crashing_runs(alloc, plan)?;
     let runs = crashing_in_batches(alloc, runs.as_slice(), batch)?;
     let words = copied(alloc, &script)?;
@@ -190,7 +189,7 @@ pub fn simulate_plans(
     // The words that are kept are those of the script.
     ensures words { IfOk result (λ s. s.words ≡ script) }
 {
-    nothing_done_is_sound();
+    the_laws_of_exchanges_hold(); // proof
     let lists = script.lists(alloc, &plans[1])?;
     let lists = all_in_batches(alloc, lists.as_slice(), batch)?;
     let words = copied(alloc, &script)?;

@@ -13,7 +13,7 @@ use crate::receiving::{hand_over, take_piece};
 use crate::sink::Sink;
 use crate::source::Source;
 use kmip_frames::Framer;
-use kmip_frames::laws::sizes;
+use kmip_frames::laws::the_laws_of_sizes_hold;
 use kmip_protocol::LinkFault;
 use kmip_server::{Records, Server};
 use kmip_ttlv::NoMemory;
@@ -189,7 +189,7 @@ impl Conversation {
         ensures kept { W.IsWhole
             → OnErr result (Keeps (W.contents writer.old) (W.contents writer.new)) }
     {
-        sizes();
+        the_laws_of_sizes_hold(); // proof
         if self.written < self.reply.len() {
             return match self.write_some(writer) {
                 Ok(()) => Ok(Ok(true)),

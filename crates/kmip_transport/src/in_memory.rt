@@ -23,6 +23,6 @@ impl<'a> Source for InMemory<'a> {
     }
 
     fn is_bounded(&self) {
-        let _size = self.rest.len();
+        self.rest.len(); // proof
     }
 }

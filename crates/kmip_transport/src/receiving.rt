@@ -8,7 +8,7 @@ ghost use Rattle.kmip_transport.specs.Receiving.{Receives};
 
 use crate::in_memory::InMemory;
 use crate::source::Source;
-use kmip_frames::laws::sizes;
+use kmip_frames::laws::{a_framer_holds_one_message, the_laws_of_sizes_hold};
 use kmip_frames::{FrameFault, Framer};
 use kmip_protocol::LinkFault;
 use std::alloc::Global;
@@ -85,7 +85,7 @@ pub(crate) fn receive<R: Source>(
             Err(fault) => return Err(fault),
         }
     }
-    let _held = framer.pending();
+    a_framer_holds_one_message(framer); // proof
     match hand_over(alloc, framer) {
         Ok(None) => Err(LinkFault::Io),
         answer => answer,
@@ -96,7 +96,7 @@ pub(crate) fn receive<R: Source>(
 pub(crate) fn hand_over(alloc: Global, framer: &mut Framer) -> Result<Option<Vec<u8>>, LinkFault>
     ensures { IsHandedOver (λ message. message.items) result framer.old framer.new }
 {
-    let _held = framer.pending();
+    a_framer_holds_one_message(framer); // proof
     match framer.next(alloc) {
         Ok(message) => Ok(message),
         Err(FrameFault::NoMemory) => Err(LinkFault::NoMemory),
@@ -112,8 +112,8 @@ pub(crate) fn take_piece<R: Source>(reader: &mut R, framer: &mut Framer) -> Resu
     ensures { ReadsOnce R.IsSure result framer.old framer.new
         (R.remaining reader.old) (R.remaining reader.new) }
 {
-    sizes();
-    let _held = framer.pending();
+    the_laws_of_sizes_hold(); // proof
+    a_framer_holds_one_message(framer); // proof
     let mut piece = [0u8; PIECE];
     let size = framer.wants().min(PIECE);
     read_into(reader, framer, &mut piece[..size])
@@ -130,7 +130,7 @@ fn read_into<R: Source>(
     ensures { ReadsOnce R.IsSure result framer.old framer.new
         (R.remaining reader.old) (R.remaining reader.new) }
 {
-    sizes();
+    the_laws_of_sizes_hold(); // proof
     match reader.read_once(room) {
         Ok(0) => Ok(false),
         Ok(count) => {

@@ -12,7 +12,7 @@ use crate::sink::Sink;
 use crate::source::Source;
 use crate::stream_end::StreamEnd;
 use kmip_frames::Framer;
-use kmip_frames::laws::{sizes, stream_laws};
+use kmip_frames::laws::{the_laws_of_sizes_hold, the_laws_of_streams_hold};
 use kmip_protocol::LinkFault;
 use kmip_server::{Records, Server};
 use std::alloc::Global;
@@ -42,7 +42,7 @@ pub fn serve_stream<S: Records, R: Read, W: Write>(
     ensures { Serves now result server.old server.new (R.remaining reader.old)
         (R.remaining reader.new) (W.contents writer.old) (W.contents writer.new) }
 {
-    sizes();
+    the_laws_of_sizes_hold(); // proof
     match serve_in_turn(server, alloc, now, reader, writer) {
         Ok(end) => end,
         Err(_) => StreamEnd::Io,
@@ -68,7 +68,7 @@ pub fn serve_bytes<S: Records>(
     ensures broken { result ≡ StreamEnd.NoMemory → BreaksOff now server.old server.new
         input.now output.old.items output.new.items }
 {
-    stream_laws();
+    the_laws_of_streams_hold(); // proof
     let mut source = InMemory { rest: input };
     let mut sink = Gathered {
         bytes: mem::replace(output, Vec::new(alloc)),
@@ -102,8 +102,8 @@ fn serve_in_turn<S: Records, R: Source, W: Sink>(
     ensures own_fault { IfErr result (λ fault. fault ≡ W.fault) }
     ensures sure { R.IsSure → result ≢ Ok StreamEnd.Io }
 {
-    sizes();
-    reader.is_bounded();
+    the_laws_of_sizes_hold(); // proof
+    reader.is_bounded(); // proof
     let Ok(mut framer) = Framer::new(alloc) else {
         return Ok(StreamEnd::NoMemory);
     };
@@ -143,7 +143,7 @@ fn serve_message<S: Records, R: Source, W: Sink>(
     ensures own_fault { IfErr result (λ fault. fault ≡ W.fault) }
     ensures sure { R.IsSure → result ≢ Ok (Some StreamEnd.Io) }
 {
-    sizes();
+    the_laws_of_sizes_hold(); // proof
     let message = match receive(alloc, reader, framer) {
         Ok(Some(message)) => message,
         Ok(None) => return Ok(Some(StreamEnd::Ended(framer.pending()))),

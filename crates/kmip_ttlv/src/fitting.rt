@@ -9,6 +9,7 @@ ghost use Rattle.kmip_ttlv.specs.Private.{IsSizeWithin, AreSizesWithin, IsStruct
 use crate::item::Item;
 use crate::item_type::ItemType;
 use crate::limits::{HEAD_SIZE, MAX_DEPTH, MAX_SIZE, padding_of};
+use crate::tag::a_tag_has_three_bytes;
 use crate::value::Value;
 
 /// Whether the item has a written form. It takes no memory.
@@ -29,8 +30,7 @@ fn size_within(item: &Item, levels: usize, room: usize) -> Option<usize>
     requires { room ≤ most_bytes }
     ensures { IsSizeWithin result (view item.now) levels room }
 {
-    // A tag is below 2^24.
-    let _tag = item.tag.number();
+    a_tag_has_three_bytes(item.tag); // proof
     if levels == 0 {
         return None;
     }

@@ -43,3 +43,10 @@ impl Tag {
         self.number
     }
 }
+
+/// The number of a tag has three bytes. It does nothing.
+pub(crate) fn a_tag_has_three_bytes(tag: Tag)
+    ensures { tag < 2 ^ 24 }
+{
+    tag.number(); // proof
+}

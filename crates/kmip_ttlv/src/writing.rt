@@ -12,7 +12,7 @@ use crate::item::Item;
 use crate::item_type::ItemType;
 use crate::limits::{HEAD_SIZE, padding_of};
 use crate::no_memory::NoMemory;
-use crate::tag::Tag;
+use crate::tag::{Tag, a_tag_has_three_bytes};
 use crate::value::Value;
 use byteorder::{BigEndian, ByteOrder};
 
@@ -53,8 +53,7 @@ fn append(item: &Item, out: &mut Vec<u8>) -> Result<(), NoMemory>
     ensures in_range { OnOk result (IsInRange (view item.now)) }
 {
     let tag = item.tag;
-    // A tag is below 2^24.
-    let _number = tag.number();
+    a_tag_has_three_bytes(tag); // proof
     match &item.value {
         Value::Structure(items) => append_structure(tag, items.as_slice(), out),
         Value::Integer(number) => {

@@ -17,7 +17,7 @@ use Rattle.kmip_client.proofs.batching.question_at.Goals as goal
 
 pub write_request-requires : goal.write_request-requires
 write_request-requires c =
-    batch_fits c.args.keys.now c.args.knowns.now c.args.places.now c.as_slice.result.now c.steps_have_places.ensures.revoke c.requires.shaped c.requires.fits
+    batch_fits c.args.keys.now c.args.knowns.now c.args.places.now c.as_slice.result.now c.the_laws_of_plans_hold.ensures.revoke c.requires.shaped c.requires.fits
     c.requires.works c.requires.some
     (c.as_slice.ensures.value ∙ all_there (λ place key known. request_about key known) c.args.keys.now c.args.knowns.now c.args.places.now c.loop-place.place-index c.loop-place.requests.items
     (omega (arith, c.loop-place-test.false)) c.loop-place.invariant.1)
@@ -28,7 +28,7 @@ returns-clause-justified c = λ objects held.
     c.as_slice.ensures.value ∙ all_there (λ place key known. request_about key known) c.args.keys.now c.args.knowns.now c.args.places.now c.loop-place.place-index c.loop-place.requests.items
     (omega (arith, c.loop-place-test.false)) c.loop-place.invariant.1 in
     subst (λ rs. All (Justified c.args.keys.now objects) rs) (sym (ap requests_in c.from_vec-2.ensures ∙ c.in_ok-bytes.ensures.asks ∙ asked))
-    (requests_justified c.args.keys.now objects c.args.knowns.now c.args.places.now c.steps_have_places.ensures.next c.keys_have_names.ensures.found
+    (requests_justified c.args.keys.now objects c.args.knowns.now c.args.places.now c.the_laws_of_plans_hold.ensures.next_step c.the_laws_of_plans_hold.ensures.found
     c.requires.lawful held c.requires.works)
 
 pub returns-clause-about : goal.returns-clause-about
@@ -36,7 +36,7 @@ returns-clause-about c =
     let asked : c.as_slice.result.now ≡ requests_at c.args.keys.now c.args.knowns.now c.args.places.now =
     c.as_slice.ensures.value ∙ all_there (λ place key known. request_about key known) c.args.keys.now c.args.knowns.now c.args.places.now c.loop-place.place-index
     c.loop-place.requests.items (omega (arith, c.loop-place-test.false)) c.loop-place.invariant.1 in
-    let many = (requests_are_fit c.args.keys.now c.args.knowns.now c.args.places.now c.steps_have_places.ensures.revoke c.requires.shaped c.requires.fits c.requires.works).1 in
+    let many = (requests_are_fit c.args.keys.now c.args.knowns.now c.args.places.now c.the_laws_of_plans_hold.ensures.revoke c.requires.shaped c.requires.fits c.requires.works).1 in
     record {
       some = leb-true 1 (length c.args.places.now) (and_parts (nat_le 1 (length c.args.places.now)) (nat_le (length c.args.places.now) MOST_QUESTIONS) c.requires.some).0;
       works = c.requires.works;

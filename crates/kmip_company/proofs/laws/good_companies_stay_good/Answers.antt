@@ -7,19 +7,19 @@ pub returns-clause-begin : goal.returns-clause-begin
 returns-clause-begin c = nobody_good
 
 pub returns-clause-good : goal.returns-clause-good
-returns-clause-good c = λ keys w events lawful good may. good_events c.laws_below.ensures keys events w lawful good may
+returns-clause-good c = λ keys w events lawful good may. good_events c.the_laws_below_hold.ensures keys events w lawful good may
 
 pub returns-clause-image : goal.returns-clause-image
-returns-clause-image c = λ keys w events lawful good image may. image_events c.laws_below.ensures keys events w lawful good image may
+returns-clause-image c = λ keys w events lawful good image may. image_events c.the_laws_below_hold.ensures keys events w lawful good image may
 
 pub returns-clause-safe : goal.returns-clause-safe
-returns-clause-safe c = λ keys w lawful good image. safe_company c.laws_below.ensures keys w lawful good image
+returns-clause-safe c = λ keys w lawful good image. safe_company c.the_laws_below_hold.ensures keys w lawful good image
 
 pub returns-clause-suits : goal.returns-clause-suits
-returns-clause-suits c = λ keys w lawful good. saved_suits c.laws_below.ensures keys w lawful good
+returns-clause-suits c = λ keys w lawful good. saved_suits c.the_laws_below_hold.ensures keys w lawful good
 
 pub returns-clause-justified : goal.returns-clause-justified
 returns-clause-justified c = λ keys w good. good.sound.requests
 
 pub returns-clause-ready : goal.returns-clause-ready
-returns-clause-ready c = λ keys w good roomy. all_ready c.laws_below.ensures keys w good roomy
+returns-clause-ready c = λ keys w good roomy. all_ready c.the_laws_below_hold.ensures keys w good roomy

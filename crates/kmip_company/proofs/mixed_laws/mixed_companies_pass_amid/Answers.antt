@@ -3,4 +3,4 @@ use Rattle.kmip_company.proofs.MixedEventLemmas.{passes_events}
 use Rattle.kmip_company.proofs.mixed_laws.mixed_companies_pass_amid.Goals as goal
 
 pub returns : goal.returns
-returns c = λ keys w events lawful good may. passes_events c.laws_below.ensures keys events w lawful good may
+returns c = λ keys w events lawful good may. passes_events c.the_laws_below_hold.ensures keys events w lawful good may

@@ -45,17 +45,17 @@ returns g c =
             still = still;
             few = sends_looks keys olds part mark requests old new c.requires.asks puts;
             goes = on_ok c.hear_each.result
-                (λ is. goes_by c.laws_below.ensures names part mark why requests replies keys olds news old new c.requires.asks fits is has) c.hear_each.ensures;
+                (λ is. goes_by c.the_laws_below_hold.ensures names part mark why requests replies keys olds news old new c.requires.asks fits is has) c.hear_each.ensures;
           };
       calmly = λ names calm.
           let (still, served) = c.in_ok-heard.ensures.calmly names calm in
           record {
             still = still;
             comes = when_ok c.hear_each.result
-                (λ done is. calmly_by c.laws_below.ensures part mark why requests replies keys olds news old new c.requires.asks fits is served) c.hear_each.ensures;
+                (λ done is. calmly_by c.the_laws_below_hold.ensures part mark why requests replies keys olds news old new c.requires.asks fits is served) c.hear_each.ensures;
           };
       tried = λ names honest.
           let (still, puts, has) = c.in_ok-heard.ensures.honestly names honest in
           on_ok c.hear_each.result
-          (λ is. tried_by c.laws_below.ensures names part mark why requests replies keys olds news old new c.requires.asks fits is has) c.hear_each.ensures;
+          (λ is. tried_by c.the_laws_below_hold.ensures names part mark why requests replies keys olds news old new c.requires.asks fits is has) c.hear_each.ensures;
     }

@@ -28,7 +28,7 @@ returns-clause-served g c = λ names calm.
     let asks = subst (λ m. parts_in m ≡ Ok c.args.request.now ∷ []) (sym c.as_slice.ensures.value) (c.in_ok-bytes.ensures.parts ∙ ap (map Ok) c.from_ref.ensures.value) in (
       still,
       weaken c.answer_to.result
-          (λ answer told. replied_by c.answer_laws.ensures.read (g.L.Link.seen c.args.link.now).past (g.L.Link.seen c.send_up_to.new.link).past c.as_slice.result.now c.args.request.now c.args.number
+          (λ answer told. replied_by c.the_laws_of_messages_hold.ensures.read (g.L.Link.seen c.args.link.now).past (g.L.Link.seen c.send_up_to.new.link).past c.as_slice.result.now c.args.request.now c.args.number
           c.args.prefix.now answer _ is asks calmly told)
           c.answer_to.ensures.answer,
     )

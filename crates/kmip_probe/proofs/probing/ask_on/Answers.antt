@@ -100,7 +100,7 @@ loop-preserved g c =
           let slice = c.as_slice-in-loop.ensures.value in (
             still,
             subst (λ xs. AreServed c.args.prefix.now xs (g.L.Link.seen c.put.new.link).past) (sym pushed)
-                (one_served c.laws_below.ensures c.args.prefix.now c.loop.answers.items c.in_ok-answer.answer (g.L.Link.seen c.loop.link).past (g.L.Link.seen c.put.new.link).past
+                (one_served c.the_laws_of_objects_hold.ensures c.args.prefix.now c.loop.answers.items c.in_ok-answer.answer (g.L.Link.seen c.loop.link).past (g.L.Link.seen c.put.new.link).past
                 (omega (arith, c.loop.invariant.count, c.loop-test.true, c.requires.most)) served
                 (subst (λ xs. HasServedNext c.args.prefix.now xs c.in_ok-answer.answer (g.L.Link.seen c.loop.link).past (g.L.Link.seen c.put.new.link).past) slice once)),
           );

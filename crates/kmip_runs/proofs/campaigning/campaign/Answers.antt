@@ -13,7 +13,7 @@ use Rattle.kmip_runs.proofs.campaigning.campaign.Goals as goal
 
 pub returns : goal.returns
 returns g c =
-    let l = c.laws_of_runs.ensures in
+    let l = c.the_laws_below_hold.ensures in
     let keys = c.args.plan.now in
     let none : c.as_slice.result.now ≡ [] = c.as_slice.ensures.value ∙ c.new-carried.ensures.items in
     let all =
@@ -26,11 +26,11 @@ returns g c =
       well = λ good. record {
         safe =
             let ran = (all.well good nothing).campaigned in
-            l.safe keys (g.L.Link.seen c.run_all.new.link).past (reported keys ends saved) ran.good.sound
-            (reported_reached l keys (g.L.Link.seen c.run_all.new.link).past ends saved c.keys.ensures.lawful ran.noted);
+            l.exchanges.safe keys (g.L.Link.seen c.run_all.new.link).past (reported keys ends saved) ran.good.sound
+            (reported_reached l keys (g.L.Link.seen c.run_all.new.link).past ends saved c.a_plan_is_lawful.ensures ran.noted);
         machine =
             let on = (all.well good nothing).campaigned.on in
-            (λ opening. on.mirrored (l.opening keys (g.L.Link.seen c.args.link.now).past opening), on.mirrored);
+            (λ opening. on.mirrored (l.exchanges.opening keys (g.L.Link.seen c.args.link.now).past opening), on.mirrored);
         no_conflict = (all.well good nothing).campaigned.noted.no_conflict;
         sound = (all.well good nothing).campaigned.good;
         true_saved = (all.well good nothing).campaigned.noted.true_saved;

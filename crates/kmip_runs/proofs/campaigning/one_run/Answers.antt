@@ -32,7 +32,7 @@ returns-in_err-begin g c =
       well = λ standing holds. record {
         standing = search rules;
         onward = search rules;
-        further = further_nowhere c.laws_of_runs.ensures.itself c.laws_of_runs.ensures.nothing keys old _;
+        further = further_nowhere c.the_laws_below_hold.ensures.client.itself c.the_laws_below_hold.ensures.amid.nothing keys old _;
         settles = search rules;
         outlasts = search rules;
       };
@@ -61,8 +61,8 @@ returns-in_err-ending g c =
     let old = g.L.Link.seen c.args.link.now in
     let mid = g.L.Link.seen c.drive-driven.new.link in
     let end = c.args.end.now in
-    let l = c.laws_of_runs.ensures in
-    let lawful = c.keys.ensures.lawful in
+    let l = c.the_laws_below_hold.ensures in
+    let lawful = c.a_plan_is_lawful.ensures in
     let drives = c.drive-driven.ensures in
     let driven_keys = drives.forgets_nothing.keys_stay ∙ c.begin.ensures.keys in
     let begins = λ (holds : All (TrueProgress old.past.objects keys) carried) (saved : All (TrueProgress old.past.objects keys) end.saved.items).
@@ -110,8 +110,8 @@ returns-in_err-close_run g c =
     let old = g.L.Link.seen c.args.link.now in
     let mid = g.L.Link.seen c.drive-driven.new.link in
     let end = c.args.end.now in
-    let l = c.laws_of_runs.ensures in
-    let lawful = c.keys.ensures.lawful in
+    let l = c.the_laws_below_hold.ensures in
+    let lawful = c.a_plan_is_lawful.ensures in
     let drives = c.drive-driven.ensures in
     let driven_keys = drives.forgets_nothing.keys_stay ∙ c.begin.ensures.keys in
     let begins = λ (holds : All (TrueProgress old.past.objects keys) carried) (saved : All (TrueProgress old.past.objects keys) end.saved.items).
@@ -135,7 +135,7 @@ returns-in_err-close_run g c =
             onward = all.1;
             further =
                 further_if keys old new _ _ (λ is. no_ok result tt failed is)
-                (further_then l.twice l.joins keys old mid new _ _ (λ is. c.in_ok-ending.ensures.is.end_is.in_memory)
+                (further_then l.client.twice l.amid.joins keys old mid new _ _ (λ is. c.in_ok-ending.ensures.is.end_is.in_memory)
                 (driven_further keys carried client begun old mid c.drive-driven.result.0 end.runs.items end.saved.items c.requires.keys c.begin.ensures.keys
                 (begins holds) (λ good. (drives.well good).further) standing)
                 (further_closed l keys mid new c.close_run.result c.close_run.ensures.amid c.close_run.ensures.calm));
@@ -168,8 +168,8 @@ returns g c =
     let old = g.L.Link.seen c.args.link.now in
     let mid = g.L.Link.seen c.drive-driven.new.link in
     let end = c.args.end.now in
-    let l = c.laws_of_runs.ensures in
-    let lawful = c.keys.ensures.lawful in
+    let l = c.the_laws_below_hold.ensures in
+    let lawful = c.a_plan_is_lawful.ensures in
     let drives = c.drive-driven.ensures in
     let driven_keys = drives.forgets_nothing.keys_stay ∙ c.begin.ensures.keys in
     let begins = λ (holds : All (TrueProgress old.past.objects keys) carried) (saved : All (TrueProgress old.past.objects keys) end.saved.items).
@@ -204,7 +204,7 @@ returns g c =
             onward = all.1;
             further =
                 further_if keys old new _ _ (λ is. search rules)
-                (further_then l.twice l.joins keys old mid new _ _ (λ is. memory)
+                (further_then l.client.twice l.amid.joins keys old mid new _ _ (λ is. memory)
                 (driven_further keys carried client begun old mid c.drive-driven.result.0 end.runs.items end.saved.items c.requires.keys c.begin.ensures.keys
                 (begins holds) (λ good. (drives.well good).further) standing)
                 (further_closed l keys mid new c.close_run.result c.close_run.ensures.amid c.close_run.ensures.calm));

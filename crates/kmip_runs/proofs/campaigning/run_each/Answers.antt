@@ -35,7 +35,7 @@ returns-then-is_empty g c =
         stays_honest = λ names honest. honest;
         well = λ good holds.
             let nothing =
-            ran_nothing keys carried c.laws_of_runs.ensures old _ end.runs.items end.saved.items c.requires.no_end c.requires.none_saved good in
+            ran_nothing keys carried c.the_laws_below_hold.ensures old _ end.runs.items end.saved.items c.requires.no_end c.requires.none_saved good in
             record {
               campaigned = nothing.0;
               further = nothing.1;
@@ -71,7 +71,7 @@ returns-in_err-client g c =
         stays_honest = λ names honest. honest;
         well = λ good holds.
             let nothing =
-            ran_nothing keys carried c.laws_of_runs.ensures old _ end.runs.items end.saved.items c.requires.no_end c.requires.none_saved good in
+            ran_nothing keys carried c.the_laws_below_hold.ensures old _ end.runs.items end.saved.items c.requires.no_end c.requires.none_saved good in
             record {
               campaigned = nothing.0;
               further = nothing.1;
@@ -93,7 +93,7 @@ returns-in_err-client g c =
 pub loop-place-init : goal.loop-place-init
 loop-place-init g c = record {
   running =
-      running_none c.args.plan.now c.args.carried.now c.laws_of_runs.ensures c.in_ok-client.client (g.L.Link.seen c.args.link.now) c.args.runs.now c.args.end.now.runs.items
+      running_none c.args.plan.now c.args.carried.now c.the_laws_below_hold.ensures c.in_ok-client.client (g.L.Link.seen c.args.link.now) c.args.runs.now c.args.end.now.runs.items
       c.args.end.now.saved.items c.in_ok-client.ensures.fresh c.in_ok-client.ensures.held c.requires.no_end c.requires.none_saved;
   ended = λ honest. join_none [] c.args.end.now.runs.items ⊤ _ _ _ _ c.requires.no_end refl (λ is. refl);
   outlasted = λ good holds honest. outlast_none c.args.plan.now c.args.runs.now c.args.end.now.runs.items _ _ c.requires.no_end refl;
@@ -124,8 +124,8 @@ returns-in_err-one_run g c =
         stays_honest = λ names honest. c.one_run.ensures.honest names (before.honest_still names honest);
         well = λ good holds.
             let off =
-            ran_off keys carried c.laws_of_runs.ensures c.loop-place.client c.one_run.new.client old mid new runs c.loop-place.place _ end.runs.items
-            after.runs.items end.saved.items after.saved.items c.keys.ensures.lawful c.one_run.ensures.keys_stay before
+            ran_off keys carried c.the_laws_below_hold.ensures c.loop-place.client c.one_run.new.client old mid new runs c.loop-place.place _ end.runs.items
+            after.runs.items end.saved.items after.saved.items c.a_plan_is_lawful.ensures c.one_run.ensures.keys_stay before
             (λ standing holds. let well = c.one_run.ensures.well standing holds in (well.standing, well.onward))
             (λ standing holds. further_if keys mid new _ _ (λ is. no_ok result tt failed is) (c.one_run.ensures.well standing holds).further) good holds in
             record { campaigned = off.0; further = off.1; outlasts = λ honest is. no_ok result tt failed is };
@@ -152,8 +152,8 @@ loop-place-preserved g c =
     let below : c.loop-place.place < length c.args.runs.now = search rules in
     record {
       running =
-          running_more c.args.plan.now c.args.carried.now c.laws_of_runs.ensures c.loop-place.client c.one_run.new.client
-          (g.L.Link.seen c.args.link.now) (g.L.Link.seen c.loop-place.link) (g.L.Link.seen c.one_run.new.link) c.args.runs.now c.loop-place.place _ c.loop-place.end c.one_run.new.end c.keys.ensures.lawful
+          running_more c.args.plan.now c.args.carried.now c.the_laws_below_hold.ensures c.loop-place.client c.one_run.new.client
+          (g.L.Link.seen c.args.link.now) (g.L.Link.seen c.loop-place.link) (g.L.Link.seen c.one_run.new.link) c.args.runs.now c.loop-place.place _ c.loop-place.end c.one_run.new.end c.a_plan_is_lawful.ensures
           (slice_get-get_or c.args.runs.now c.loop-place.place _ below) c.loop-place.invariant.running c.one_run.ensures.keys_stay c.one_run.ensures.suits
           (λ standing carried. let well = c.one_run.ensures.well standing carried in (well.standing, well.onward))
           c.one_run.ensures.honest
@@ -167,8 +167,8 @@ loop-place-preserved g c =
       outlasted = λ good holds honest.
           let (standing, went) = c.loop-place.invariant.running.stands good holds in
           let now =
-          carried_on c.args.plan.now c.args.carried.now c.laws_of_runs.ensures (g.L.Link.seen c.args.link.now) (g.L.Link.seen c.loop-place.link)
-          c.keys.ensures.lawful went holds in
+          carried_on c.args.plan.now c.args.carried.now c.the_laws_below_hold.ensures (g.L.Link.seen c.args.link.now) (g.L.Link.seen c.loop-place.link)
+          c.a_plan_is_lawful.ensures went holds in
           let e : c.loop-place.place + 1 ≡ suc c.loop-place.place = omega arith in
           subst
           (λ n. AllOutlast c.args.plan.now (take n c.args.runs.now) c.one_run.new.end.runs.items (g.L.Link.seen c.args.link.now).disturbances (g.L.Link.seen c.one_run.new.link).disturbances)

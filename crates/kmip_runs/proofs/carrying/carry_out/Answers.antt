@@ -17,8 +17,8 @@ use Rattle.kmip_runs.proofs.carrying.carry_out.Goals as goal
 
 pub returns : goal.returns
 returns g c =
-    let laws = c.laws_below.ensures in
-    let lawful = c.plan-plan.ensures.lawful in
+    let laws = c.the_laws_below_hold.ensures in
+    let lawful = c.a_client_has_a_lawful_plan.ensures in
     let done = c.exchange_in_turn-carried in
     let close = c.close_run-closed in
     let end = c.after_close.ensures in
@@ -62,7 +62,7 @@ returns g c =
             no_conflict = good_end laws before after last done.result.1 carried.went stands good;
             safe =
                 let ended = carried.went.good good in
-                known_is_safe c.laws_of_runs.ensures client.keys new.past next.knowns lawful
+                known_is_safe c.the_laws_below_hold.ensures client.keys new.past next.knowns lawful
                 (subst (λ ks. Sound ks new.past) carried.went.keeps.keys_stay ended.sound)
                 (subst (λ ks. Held new.past.objects ks next.knowns) carried.went.keeps.keys_stay ended.held);
           };
@@ -77,7 +77,7 @@ returns g c =
                 ended_whole client.keys client.batch old.past mid.past client.knowns next.knowns close.result done.result.0 last done.result.1
                 old.ended mid.ended new.ended end.whole end.stop end.fault known.1 (done.ensures.made.ended honest) closed.ended;
             once =
-                ended_once mid.past new.past old.ended mid.ended new.ended (laws.requests names mid.past new.past closed.honest.1).sent
+                ended_once mid.past new.past old.ended mid.ended new.ended (laws.exchanges.requests_stay names mid.past new.past closed.honest.1).sent
                 (done.ensures.made.ended honest) (one_of_both close.result closed.ended closed.unended);
           };
       forgets_nothing = carried.went.keeps;

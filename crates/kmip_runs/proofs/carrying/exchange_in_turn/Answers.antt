@@ -16,7 +16,7 @@ use Rattle.kmip_runs.proofs.carrying.exchange_in_turn.Goals.{else-made-limit-via
 pub loop-made-init : goal.loop-made-init
 loop-made-init g c = record {
   carried =
-      carried_itself c.laws_below.ensures (record { client = c.args.client.now; link = g.L.Link.seen c.args.link.now; keeper = g.K.Keeper.kept c.args.keeper.now });
+      carried_itself c.the_laws_below_hold.ensures (record { client = c.args.client.now; link = g.L.Link.seen c.args.link.now; keeper = g.K.Keeper.kept c.args.keeper.now });
   as_many = search rules;
   patient = refl;
   asked = omega arith;
@@ -35,10 +35,10 @@ returns-then-not-is_at_limit-clause-made g c =
     record {
       exchanges = record {
         carried =
-            carried_then c.laws_below.ensures (record { client = c.args.client.now; link = g.L.Link.seen c.args.link.now; keeper = g.K.Keeper.kept c.args.keeper.now })
+            carried_then c.the_laws_below_hold.ensures (record { client = c.args.client.now; link = g.L.Link.seen c.args.link.now; keeper = g.K.Keeper.kept c.args.keeper.now })
             (record { client = c.loop-made.client; link = g.L.Link.seen c.loop-made.link; keeper = g.K.Keeper.kept c.loop-made.keeper })
             (record { client = step.new.client; link = g.L.Link.seen step.new.link; keeper = g.K.Keeper.kept step.new.keeper })
-            step.result.0 c.loop-made.made step.result.1 c.plan-plan.ensures.lawful before.carried made.carried;
+            step.result.0 c.loop-made.made step.result.1 c.a_client_has_a_lawful_plan.ensures before.carried made.carried;
         turned =
             turned_then _ _ stops.Limit _ c.loop-made.made step.result.1 c.args.client.now c.loop-made.client step.new.client (g.L.Link.seen c.args.link.now).past (g.L.Link.seen c.loop-made.link).past
             (g.L.Link.seen step.new.link).past (λ is. absurd cc) before.carried.went.keeps.keys_stay
@@ -72,10 +72,10 @@ loop-made-preserved g c =
     let limit : step.result.0 ≡ Ok stops.Limit = search rules in
     record {
       carried =
-          carried_more c.laws_below.ensures (record { client = c.args.client.now; link = g.L.Link.seen c.args.link.now; keeper = g.K.Keeper.kept c.args.keeper.now })
+          carried_more c.the_laws_below_hold.ensures (record { client = c.args.client.now; link = g.L.Link.seen c.args.link.now; keeper = g.K.Keeper.kept c.args.keeper.now })
           (record { client = c.loop-made.client; link = g.L.Link.seen c.loop-made.link; keeper = g.K.Keeper.kept c.loop-made.keeper })
           (record { client = step.new.client; link = g.L.Link.seen step.new.link; keeper = g.K.Keeper.kept step.new.keeper })
-          step.result.0 c.loop-made.made step.result.1 c.plan-plan.ensures.lawful c.loop-made.invariant.carried made.carried limit (step.ensures.made.limit limit);
+          step.result.0 c.loop-made.made step.result.1 c.a_client_has_a_lawful_plan.ensures c.loop-made.invariant.carried made.carried limit (step.ensures.made.limit limit);
       as_many = c.tell.ensures.as_many ∙ c.loop-made.invariant.as_many ∙ ap length (sym made.carried.went.keeps.keys_stay);
       patient =
           elim c.else-made-limit.branch [
@@ -121,7 +121,7 @@ loop-made-preserved g c =
 pub returns-in_default-clause-made : goal.returns-in_default-clause-made
 returns-in_default-clause-made g c = record {
   exchanges = record {
-    carried = carried_unbegun c.laws_below.ensures (record { client = c.args.client.now; link = g.L.Link.seen c.args.link.now; keeper = g.K.Keeper.kept c.args.keeper.now });
+    carried = carried_unbegun c.the_laws_below_hold.ensures (record { client = c.args.client.now; link = g.L.Link.seen c.args.link.now; keeper = g.K.Keeper.kept c.args.keeper.now });
     turned = turned_so _ stops.Limit stops.NoMemory 0 c.args.client.now c.args.client.now (g.L.Link.seen c.args.link.now).past (g.L.Link.seen c.args.link.now).past (λ is. absurd cc)
         (turned_not_yet _ c.args.client.now (g.L.Link.seen c.args.link.now).past);
     counted = search rules;
@@ -144,10 +144,10 @@ returns-then-not-go_on-clause-made g c =
     record {
       exchanges = record {
         carried =
-            carried_more c.laws_below.ensures (record { client = c.args.client.now; link = g.L.Link.seen c.args.link.now; keeper = g.K.Keeper.kept c.args.keeper.now })
+            carried_more c.the_laws_below_hold.ensures (record { client = c.args.client.now; link = g.L.Link.seen c.args.link.now; keeper = g.K.Keeper.kept c.args.keeper.now })
             (record { client = c.loop-made.client; link = g.L.Link.seen c.loop-made.link; keeper = g.K.Keeper.kept c.loop-made.keeper })
             (record { client = step.new.client; link = g.L.Link.seen step.new.link; keeper = g.K.Keeper.kept step.new.keeper })
-            step.result.0 c.loop-made.made step.result.1 c.plan-plan.ensures.lawful c.loop-made.invariant.carried made.carried limit (step.ensures.made.limit limit);
+            step.result.0 c.loop-made.made step.result.1 c.a_client_has_a_lawful_plan.ensures c.loop-made.invariant.carried made.carried limit (step.ensures.made.limit limit);
         turned =
             subst (λ r. IsTurned ((g.L.Link.seen c.args.link.now).honest (is_planned c.args.client.now.keys)) (stop_in r) (c.loop-made.made + 1) c.args.client.now step.new.client (g.L.Link.seen c.args.link.now).past (g.L.Link.seen step.new.link).past) limit
             (subst (λ n. IsTurned ((g.L.Link.seen c.args.link.now).honest (is_planned c.args.client.now.keys)) (stop_in step.result.0) (c.loop-made.made + n) c.args.client.now step.new.client (g.L.Link.seen c.args.link.now).past (g.L.Link.seen step.new.link).past) (step.ensures.made.limit limit)
@@ -182,9 +182,9 @@ returns-clause-made g c =
     record {
       exchanges = record {
         carried =
-            carried_stop c.laws_below.ensures (record { client = c.args.client.now; link = g.L.Link.seen c.args.link.now; keeper = g.K.Keeper.kept c.args.keeper.now })
+            carried_stop c.the_laws_below_hold.ensures (record { client = c.args.client.now; link = g.L.Link.seen c.args.link.now; keeper = g.K.Keeper.kept c.args.keeper.now })
             (record { client = c.loop-made.client; link = g.L.Link.seen c.loop-made.link; keeper = g.K.Keeper.kept c.loop-made.keeper })
-            c.stop_of.result c.loop-made.made c.args.limit c.plan-plan.ensures.lawful c.stop_of.ensures.in_memory made c.loop-made.invariant.carried;
+            c.stop_of.result c.loop-made.made c.args.limit c.a_client_has_a_lawful_plan.ensures c.stop_of.ensures.in_memory made c.loop-made.invariant.carried;
         turned =
             subst (λ n. IsTurned ((g.L.Link.seen c.args.link.now).honest (is_planned c.args.client.now.keys)) c.stop_of.result n c.args.client.now c.loop-made.client (g.L.Link.seen c.args.link.now).past (g.L.Link.seen c.loop-made.link).past) made
             (turned_so _ stops.Limit c.stop_of.result c.loop-made.made c.args.client.now c.loop-made.client (g.L.Link.seen c.args.link.now).past (g.L.Link.seen c.loop-made.link).past (λ is. absurd cc) c.loop-made.invariant.turned);

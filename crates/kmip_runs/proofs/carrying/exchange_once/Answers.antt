@@ -75,7 +75,7 @@ returns-in-Ok-clause-made g c =
     record {
       exchanges = record {
         carried =
-            carried_one c.laws_below.ensures (record { client = client; link = x; keeper = i }) (record { client = next; link = y; keeper = j }) stop tt c.stop_of-in-Ok.ensures.in_memory
+            carried_one c.the_laws_below_hold.ensures (record { client = client; link = x; keeper = i }) (record { client = next; link = y; keeper = j }) stop tt c.stop_of-in-Ok.ensures.in_memory
             (λ remembers. let so = c.in-Ok.ensures.remembered remembers in (so.0, so.1))
             c.in-Ok.ensures.whole
             (subst (λ asked. Went (record { client = client; link = x; keeper = i }) (record { client = next; link = y; keeper = j }) (Ok stop) (turn_count asked)) c.in-Ok-Some.field-0-is

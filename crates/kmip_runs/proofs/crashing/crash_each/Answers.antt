@@ -8,7 +8,7 @@ use Rattle.kmip_runs.proofs.crashing.crash_each.Goals as goal
 
 pub loop-place-init : goal.loop-place-init
 loop-place-init g c = (
-  crashing_none c.laws_of_runs.ensures c.args.plan.now c.args.runs.now c.in_ok-client.client (g.L.Link.seen c.args.link.now) c.args.end.now
+  crashing_none c.the_laws_below_hold.ensures c.args.plan.now c.args.runs.now c.in_ok-client.client (g.L.Link.seen c.args.link.now) c.args.end.now
       c.in_ok-client.ensures.fresh (c.in_ok-client.ensures.held (g.L.Link.seen c.args.link.now).past.objects) c.requires.no_end c.requires.none_saved c.requires.none_left,
   g.met.L.Link.itself c.args.link.now,
 )
@@ -25,7 +25,7 @@ loop-place-preserved g c =
     let next : place + 1 ≡ suc place = omega arith in
     let followed = c.in_ok-one_crashing.ensures.followed (λ is. absurd cc) in (
       subst (λ at. AreCrashing keys runs at first now) (sym next)
-          (crashing_more c.laws_of_runs.ensures keys runs place _ first _ now (slice_get-get_or runs place _ below) one.keys_stay one.suits one.well one.honest
+          (crashing_more c.the_laws_below_hold.ensures keys runs place _ first _ now (slice_get-get_or runs place _ below) one.keys_stay one.suits one.well one.honest
           c.in_ok-one_crashing.ensures.come c.loop-place.invariant.0),
       g.met.L.Link.twice c.args.link.now c.loop-place.link c.one_crashing.new.link c.loop-place.invariant.1 followed,
     )
@@ -37,7 +37,7 @@ returns-in_err-client g c =
     let fault = err_from_is_err_and result c.from_residual.ensures.1 in
     let x = g.L.Link.seen c.args.link.now in
     subst (λ r. CrashesEach x c.args.plan.now c.args.runs.now r c.args.end.now x (g.L.Link.follows c.args.link.now c.args.link.now)) (sym fault.1)
-    (crashing_nothing c.laws_of_runs.ensures c.args.plan.now c.args.runs.now x c.args.end.now fault.0 _ c.requires.no_end c.requires.none_saved c.requires.none_left fault.2)
+    (crashing_nothing c.the_laws_below_hold.ensures c.args.plan.now c.args.runs.now x c.args.end.now fault.0 _ c.requires.no_end c.requires.none_saved c.requires.none_left fault.2)
 
 -- a run has no end
 pub returns-in_err-one_crashing : goal.returns-in_err-one_crashing
@@ -52,7 +52,7 @@ returns-in_err-one_crashing g c =
     let result = c.from_residual-in_err-one_crashing.result in
     let fault = err_from_is_err_and result c.from_residual-in_err-one_crashing.ensures.1 in
     subst (λ r. CrashesEach first keys runs r new.end new.link (g.L.Link.follows c.args.link.now c.one_crashing.new.link)) (sym fault.1)
-    (crashing_off c.laws_of_runs.ensures keys runs place _ first old new c.one_crashing.result fault.0 _ _ (slice_get-get_or runs place _ below)
+    (crashing_off c.the_laws_below_hold.ensures keys runs place _ first old new c.one_crashing.result fault.0 _ _ (slice_get-get_or runs place _ below)
     (failed_so c.one_crashing.result c.in_err-one_crashing.field-0.0 fault.0 c.in_err-one_crashing.was fault.2)
     (λ followed. g.met.L.Link.twice c.args.link.now c.loop-place.link c.one_crashing.new.link c.loop-place.invariant.1 followed) c.one_crashing.ensures c.loop-place.invariant.0)
 

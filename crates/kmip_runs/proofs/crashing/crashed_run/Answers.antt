@@ -26,9 +26,9 @@ use Rattle.kmip_runs.proofs.crashing.crashed_run.Goals as goal
 -- there was no memory to begin
 pub returns-in_err-begin : goal.returns-in_err-begin
 returns-in_err-begin g c =
-    let l = c.laws_of_runs.ensures in
+    let l = c.the_laws_below_hold.ensures in
     let keys = c.args.plan.now in
-    let lawful = c.keys.ensures.lawful in
+    let lawful = c.a_plan_is_lawful.ensures in
     let old : CrashStage = record { client = c.args.client.now; link = g.L.Link.seen c.args.link.now; end = c.args.end.now } in
     let begun = c.begin.new.client in
     let crashing : CrashingRun = record { run = c.args.run; crash = Some c.args.crash } in
@@ -46,9 +46,9 @@ returns-in_err-begin g c =
 -- there was none for the disk
 pub returns-in_err-keeper : goal.returns-in_err-keeper
 returns-in_err-keeper g c =
-    let l = c.laws_of_runs.ensures in
+    let l = c.the_laws_below_hold.ensures in
     let keys = c.args.plan.now in
-    let lawful = c.keys.ensures.lawful in
+    let lawful = c.a_plan_is_lawful.ensures in
     let old : CrashStage = record { client = c.args.client.now; link = g.L.Link.seen c.args.link.now; end = c.args.end.now } in
     let begun = c.begin.new.client in
     let crashing : CrashingRun = record { run = c.args.run; crash = Some c.args.crash } in
@@ -66,9 +66,9 @@ returns-in_err-keeper g c =
 -- memory ran out in the run
 pub returns-in_err-in_memory : goal.returns-in_err-in_memory
 returns-in_err-in_memory g c =
-    let l = c.laws_of_runs.ensures in
+    let l = c.the_laws_below_hold.ensures in
     let keys = c.args.plan.now in
-    let lawful = c.keys.ensures.lawful in
+    let lawful = c.a_plan_is_lawful.ensures in
     let old : CrashStage = record { client = c.args.client.now; link = g.L.Link.seen c.args.link.now; end = c.args.end.now } in
     let begun = c.begin.new.client in
     let crashing : CrashingRun = record { run = c.args.run; crash = Some c.args.crash } in
@@ -93,9 +93,9 @@ returns-in_err-in_memory g c =
 -- the crash is refused, or there was no memory for what it left
 pub returns-in_err-left : goal.returns-in_err-left
 returns-in_err-left g c =
-    let l = c.laws_of_runs.ensures in
+    let l = c.the_laws_below_hold.ensures in
     let keys = c.args.plan.now in
-    let lawful = c.keys.ensures.lawful in
+    let lawful = c.a_plan_is_lawful.ensures in
     let old : CrashStage = record { client = c.args.client.now; link = g.L.Link.seen c.args.link.now; end = c.args.end.now } in
     let begun = c.begin.new.client in
     let crashing : CrashingRun = record { run = c.args.run; crash = Some c.args.crash } in
@@ -134,9 +134,9 @@ returns-in_err-left g c =
 -- there was no memory for the end of the run
 pub returns-in_err-ending : goal.returns-in_err-ending
 returns-in_err-ending g c =
-    let l = c.laws_of_runs.ensures in
+    let l = c.the_laws_below_hold.ensures in
     let keys = c.args.plan.now in
-    let lawful = c.keys.ensures.lawful in
+    let lawful = c.a_plan_is_lawful.ensures in
     let old : CrashStage = record { client = c.args.client.now; link = g.L.Link.seen c.args.link.now; end = c.args.end.now } in
     let begun = c.begin.new.client in
     let crashing : CrashingRun = record { run = c.args.run; crash = Some c.args.crash } in
@@ -161,9 +161,9 @@ returns-in_err-ending g c =
 -- there was none for the client that goes on
 pub returns-in_err-next : goal.returns-in_err-next
 returns-in_err-next g c =
-    let l = c.laws_of_runs.ensures in
+    let l = c.the_laws_below_hold.ensures in
     let keys = c.args.plan.now in
-    let lawful = c.keys.ensures.lawful in
+    let lawful = c.a_plan_is_lawful.ensures in
     let old : CrashStage = record { client = c.args.client.now; link = g.L.Link.seen c.args.link.now; end = c.args.end.now } in
     let begun = c.begin.new.client in
     let crashing : CrashingRun = record { run = c.args.run; crash = Some c.args.crash } in
@@ -188,9 +188,9 @@ returns-in_err-next g c =
 -- there was none to keep what was left
 pub returns-in_err-push : goal.returns-in_err-push
 returns-in_err-push g c =
-    let l = c.laws_of_runs.ensures in
+    let l = c.the_laws_below_hold.ensures in
     let keys = c.args.plan.now in
-    let lawful = c.keys.ensures.lawful in
+    let lawful = c.a_plan_is_lawful.ensures in
     let old : CrashStage = record { client = c.args.client.now; link = g.L.Link.seen c.args.link.now; end = c.args.end.now } in
     let begun = c.begin.new.client in
     let crashing : CrashingRun = record { run = c.args.run; crash = Some c.args.crash } in
@@ -215,9 +215,9 @@ returns-in_err-push g c =
 -- it was noted, and the client goes on from what was left
 pub returns : goal.returns
 returns g c =
-    let l = c.laws_of_runs.ensures in
+    let l = c.the_laws_below_hold.ensures in
     let keys = c.args.plan.now in
-    let lawful = c.keys.ensures.lawful in
+    let lawful = c.a_plan_is_lawful.ensures in
     let old : CrashStage = record { client = c.args.client.now; link = g.L.Link.seen c.args.link.now; end = c.args.end.now } in
     let begun = c.begin.new.client in
     let crashing : CrashingRun = record { run = c.args.run; crash = Some c.args.crash } in
@@ -260,7 +260,7 @@ returns g c =
     let fine =
     subst (λ ks. IsFine ks begun.knowns (IsGood begun old.link) new.link.past.objects left) begun_keys
     (left_is_fine first_on last_on carried.result.0 made tt tt c.in_ok-keeper.ensures.begins carries.moments says.text left
-    (λ good. l.known_for_good begun.keys begun.knowns old.link.past.objects new.link.past.objects (subst (λ ks. IsLawful ks) (sym begun_keys) lawful) (carries.well good).onward.onward good.held)
+    (λ good. l.client.known_for_good begun.keys begun.knowns old.link.past.objects new.link.past.objects (subst (λ ks. IsLawful ks) (sym begun_keys) lawful) (carries.well good).onward.onward good.held)
     (λ good. subst (λ ks. Held new.link.past.objects ks client.knowns) carries.forgets_nothing.keys_stay (carries.well good).good.held)
     says.may (subst (λ ks. read_text ks says.text ≡ Ok left) (sym begun_keys) says.read_back)) in
     let runs_are = c.note.ensures.runs ∙ ap (λ ends. ends ++ ending.run ∷ []) c.ending_of.ensures.same.same_runs in
@@ -272,7 +272,7 @@ returns g c =
       well =
           carried_stands l keys old begun client new stop lawful c.requires.keys begun_keys next_keys client_keys begins
           (λ good. (carries.well good).good) (λ good. (carries.well good).onward)
-          (λ good. held_no_conflict c.what_is_true_is_no_conflict.ensures client new.link stop (carries.well good).good c.stop_of.ensures.stops_for_its_reason)
+          (λ good. held_no_conflict c.the_laws_below_hold.ensures.client.no_conflict client new.link stop (carries.well good).good c.stop_of.ensures.stops_for_its_reason)
           (λ first later. c.in_ok-next.ensures.held new.link.past.objects (fine.true_of first))
           (λ objects not held noted. noted_ending objects client.keys cut client.knowns (stop, made) ending old.end.campaign after c.in_ok-ending.ensures.is
           (c.in_ok-ending.ensures.held objects) runs_are saved_are not held noted)

@@ -11,7 +11,7 @@ returns-in_err-one_run g c =
     let old : CrashStage = record { client = c.args.client.now; link = g.L.Link.seen c.args.link.now; end = c.args.end.now } in
     let new : CrashStage = record { client = c.one_run.new.client; link = g.L.Link.seen c.one_run.new.link; end = record c.args.end.now { campaign = c.one_run.new.end } } in
     let none : c.as_slice.result.now ≡ [] = c.as_slice.ensures.value ∙ c.new-nothing.ensures.items in
-    let one = whole_one c.laws_of_runs.ensures keys c.as_slice.result.now c.args.run old new c.one_run.result _ c.keys.ensures.lawful none refl c.one_run.ensures in
+    let one = whole_one c.the_laws_below_hold.ensures keys c.as_slice.result.now c.args.run old new c.one_run.result _ c.a_plan_is_lawful.ensures none refl c.one_run.ensures in
     let result = c.from_residual.result in
     let fault = err_from_is_err_and result c.from_residual.ensures.1 in
     subst (λ r. CrashesOne keys (record { run = c.args.run; crash = None }) old r new (g.L.Link.follows c.args.link.now c.one_run.new.link)) (sym fault.1)
@@ -23,5 +23,5 @@ returns g c =
     let old : CrashStage = record { client = c.args.client.now; link = g.L.Link.seen c.args.link.now; end = c.args.end.now } in
     let new : CrashStage = record { client = c.one_run.new.client; link = g.L.Link.seen c.one_run.new.link; end = record c.args.end.now { campaign = c.one_run.new.end } } in
     let none : c.as_slice.result.now ≡ [] = c.as_slice.ensures.value ∙ c.new-nothing.ensures.items in
-    let one = whole_one c.laws_of_runs.ensures keys c.as_slice.result.now c.args.run old new c.one_run.result _ c.keys.ensures.lawful none refl c.one_run.ensures in
+    let one = whole_one c.the_laws_below_hold.ensures keys c.as_slice.result.now c.args.run old new c.one_run.result _ c.a_plan_is_lawful.ensures none refl c.one_run.ensures in
     whole_on keys c.args.run old new c.one_run.result c.in_ok-one_run.field-0 _ c.in_ok-one_run.was one

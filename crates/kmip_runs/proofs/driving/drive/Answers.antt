@@ -39,7 +39,7 @@ and_none made = omega arith
 
 pub loop-made-init : goal.loop-made-init
 loop-made-init g c = record {
-  driven = driven_none c.laws_below.ensures c.args.client.now (g.L.Link.seen c.args.link.now);
+  driven = driven_none c.the_laws_below_hold.ensures c.args.client.now (g.L.Link.seen c.args.link.now);
   counts = λ names honest. (omega arith, omega arith, omega arith);
   ended = λ names honest. refl;
   paid = λ good honest. paid_none (left_for c.args.client.now (g.L.Link.seen c.args.link.now).past) (g.L.Link.seen c.args.link.now).disturbances;
@@ -52,7 +52,7 @@ returns-in-Ok-None g c = record {
   well = λ good. record {
     good = (c.turn.ensures.well (c.loop-made.invariant.driven.good good)).good;
     onward =
-        went_then c.laws_below.ensures c.args.client.now.keys (g.L.Link.seen c.args.link.now).past (g.L.Link.seen c.loop-made.link).past (g.L.Link.seen c.turn.new.link).past (c.loop-made.invariant.driven.onward good)
+        went_then c.the_laws_below_hold.ensures c.args.client.now.keys (g.L.Link.seen c.args.link.now).past (g.L.Link.seen c.loop-made.link).past (g.L.Link.seen c.turn.new.link).past (c.loop-made.invariant.driven.onward good)
         (subst (λ ks. WentOn ks (g.L.Link.seen c.loop-made.link).past (g.L.Link.seen c.turn.new.link).past) c.loop-made.invariant.driven.keeps.keys_stay (c.turn.ensures.well (c.loop-made.invariant.driven.good good)).onward);
     -- a last turn that asked nothing
     losing = λ honest memory.
@@ -66,16 +66,16 @@ returns-in-Ok-None g c = record {
     outlasts = λ honest memory enough.
         let still = (c.turn.ensures.well (c.loop-made.invariant.driven.good good)).good in
         finished_stop c.turn.new.client.keys c.turn.new.client.knowns c.stop_of.result
-        (paid_end c.laws_below.ensures c.turn.new.client (g.L.Link.seen c.turn.new.link) still (c.in-Ok-None.ensures.settled c.in-Ok-None.field-0-is))
+        (paid_end c.the_laws_below_hold.ensures c.turn.new.client (g.L.Link.seen c.turn.new.link) still (c.in-Ok-None.ensures.settled c.in-Ok-None.field-0-is))
         c.stop_of.ensures.in_memory c.stop_of.ensures.stops_for_its_reason;
     no_conflict =
-        good_no_conflict c.laws_below.ensures c.turn.new.client (g.L.Link.seen c.turn.new.link) c.stop_of.result (c.turn.ensures.well (c.loop-made.invariant.driven.good good)).good c.stop_of.ensures.stops_for_its_reason;
-    further = (further_last c.laws_below.ensures c.args.client.now c.loop-made.client c.turn.new.client (g.L.Link.seen c.args.link.now) (g.L.Link.seen c.loop-made.link) (g.L.Link.seen c.turn.new.link) c.loop-made.made _ c.loop-made.invariant.driven (λ good. further_if c.loop-made.client.keys (g.L.Link.seen c.loop-made.link) (g.L.Link.seen c.turn.new.link) _ _ (λ is. search rules) (c.turn.ensures.well good).further)) good;
+        good_no_conflict c.the_laws_below_hold.ensures c.turn.new.client (g.L.Link.seen c.turn.new.link) c.stop_of.result (c.turn.ensures.well (c.loop-made.invariant.driven.good good)).good c.stop_of.ensures.stops_for_its_reason;
+    further = (further_last c.the_laws_below_hold.ensures c.args.client.now c.loop-made.client c.turn.new.client (g.L.Link.seen c.args.link.now) (g.L.Link.seen c.loop-made.link) (g.L.Link.seen c.turn.new.link) c.loop-made.made _ c.loop-made.invariant.driven (λ good. further_if c.loop-made.client.keys (g.L.Link.seen c.loop-made.link) (g.L.Link.seen c.turn.new.link) _ _ (λ is. search rules) (c.turn.ensures.well good).further)) good;
   };
   honestly = λ honest. record {
     learns =
         let ended =
-        known_end c.laws_below.ensures c.args.client.now c.loop-made.client c.turn.new.client (g.L.Link.seen c.args.link.now) (g.L.Link.seen c.loop-made.link)
+        known_end c.the_laws_below_hold.ensures c.args.client.now c.loop-made.client c.turn.new.client (g.L.Link.seen c.args.link.now) (g.L.Link.seen c.loop-made.link)
         (g.L.Link.seen c.turn.new.link) c.loop-made.made c.loop-made.invariant.driven
         (λ holds.
         let step = c.in-Ok-None.ensures.honestly holds in (
@@ -88,7 +88,7 @@ returns-in-Ok-None g c = record {
     broken = λ is. absurd (c.stop_of.ensures.in_memory is);
     few =
         let ended =
-        known_end c.laws_below.ensures c.args.client.now c.loop-made.client c.turn.new.client (g.L.Link.seen c.args.link.now) (g.L.Link.seen c.loop-made.link)
+        known_end c.the_laws_below_hold.ensures c.args.client.now c.loop-made.client c.turn.new.client (g.L.Link.seen c.args.link.now) (g.L.Link.seen c.loop-made.link)
         (g.L.Link.seen c.turn.new.link) c.loop-made.made c.loop-made.invariant.driven
         (λ holds.
         let step = c.in-Ok-None.ensures.honestly holds in (
@@ -116,11 +116,11 @@ returns-in-Ok-None g c = record {
       keeps_then c.args.client.now c.loop-made.client c.turn.new.client c.loop-made.invariant.driven.keeps c.turn.ensures.tries.keeps;
   stops_for_its_reason = search rules;
   limit = λ is.
-      absurd (settled_no_limit c.laws_below.ensures c.turn.new.client c.stop_of.result (c.in-Ok-None.ensures.settled c.in-Ok-None.field-0-is) c.stop_of.ensures.stops_for_its_reason is);
+      absurd (settled_no_limit c.the_laws_below_hold.ensures c.turn.new.client c.stop_of.result (c.in-Ok-None.ensures.settled c.in-Ok-None.field-0-is) c.stop_of.ensures.stops_for_its_reason is);
   within = search rules;
   calmly = λ settling. record {
     settles = λ enough memory.
-        let l = c.laws_below.ensures in
+        let l = c.the_laws_below_hold.ensures in
         let client = c.args.client.now in
         let first = c.loop-made.invariant.driven.near settling in
         let last =
@@ -130,7 +130,7 @@ returns-in-Ok-None g c = record {
         nearer_end l client c.loop-made.client c.turn.new.client (g.L.Link.seen c.args.link.now) (g.L.Link.seen c.loop-made.link) (g.L.Link.seen c.turn.new.link) c.loop-made.made
         (asks_one client c.loop-made.client c.loop-made.invariant.driven.keeps) first last
         (c.in-Ok-None.ensures.settled c.in-Ok-None.field-0-is) in
-        let few = l.bounded (g.L.Link.seen c.args.link.now).past.room client.keys (g.L.Link.seen c.args.link.now).past.objects client.knowns c.plan-plan.ensures.lawful settling.ready in (
+        let few = l.settling.bounded (g.L.Link.seen c.args.link.now).past.room client.keys (g.L.Link.seen c.args.link.now).past.objects client.knowns c.a_client_has_a_lawful_plan.ensures settling.ready in (
           finished_stop c.turn.new.client.keys c.turn.new.client.knowns c.stop_of.result end.3 c.stop_of.ensures.in_memory c.stop_of.ensures.stops_for_its_reason,
           end.1,
           end.2,
@@ -147,9 +147,9 @@ returns-in-Ok-None g c = record {
         (asks_one client c.loop-made.client c.loop-made.invariant.driven.keeps) first last);
   };
   finishes = λ start enough memory.
-      let l = c.laws_below.ensures in
+      let l = c.the_laws_below_hold.ensures in
       let client = c.args.client.now in
-      let settling = (untouched_settles l client (g.L.Link.seen c.args.link.now) c.plan-plan.ensures.lawful start).0 in
+      let settling = (untouched_settles l client (g.L.Link.seen c.args.link.now) c.a_client_has_a_lawful_plan.ensures start).0 in
       let first = c.loop-made.invariant.driven.near settling in
       let last =
       subst (λ asked. Nearer c.loop-made.client c.turn.new.client (g.L.Link.seen c.loop-made.link) (g.L.Link.seen c.turn.new.link) (turn_count asked)) c.in-Ok-None.field-0-is
@@ -159,7 +159,7 @@ returns-in-Ok-None g c = record {
       (asks_one client c.loop-made.client c.loop-made.invariant.driven.keeps) first last
       (c.in-Ok-None.ensures.settled c.in-Ok-None.field-0-is) in
       let done =
-      completed l client c.turn.new.client (g.L.Link.seen c.args.link.now) (g.L.Link.seen c.turn.new.link) c.loop-made.made c.plan-plan.ensures.lawful start end.0
+      completed l client c.turn.new.client (g.L.Link.seen c.args.link.now) (g.L.Link.seen c.turn.new.link) c.loop-made.made c.a_client_has_a_lawful_plan.ensures start end.0
       (c.turn.ensures.tries.keeps.keys_stay ∙ c.loop-made.invariant.driven.keeps.keys_stay) end.1 end.2 end.3 in (
         finished_stop c.turn.new.client.keys c.turn.new.client.knowns c.stop_of.result end.3 c.stop_of.ensures.in_memory c.stop_of.ensures.stops_for_its_reason,
         done.0,
@@ -179,12 +179,12 @@ returns-in-Err g c = record {
   well = λ good. record {
     good = (c.turn.ensures.well (c.loop-made.invariant.driven.good good)).good;
     onward =
-        went_then c.laws_below.ensures c.args.client.now.keys (g.L.Link.seen c.args.link.now).past (g.L.Link.seen c.loop-made.link).past (g.L.Link.seen c.turn.new.link).past (c.loop-made.invariant.driven.onward good)
+        went_then c.the_laws_below_hold.ensures c.args.client.now.keys (g.L.Link.seen c.args.link.now).past (g.L.Link.seen c.loop-made.link).past (g.L.Link.seen c.turn.new.link).past (c.loop-made.invariant.driven.onward good)
         (subst (λ ks. WentOn ks (g.L.Link.seen c.loop-made.link).past (g.L.Link.seen c.turn.new.link).past) c.loop-made.invariant.driven.keeps.keys_stay (c.turn.ensures.well (c.loop-made.invariant.driven.good good)).onward);
     losing = λ honest memory. absurd (memory refl);
     outlasts = λ honest memory enough. absurd (memory refl);
     no_conflict = search rules;
-    further = (further_last c.laws_below.ensures c.args.client.now c.loop-made.client c.turn.new.client (g.L.Link.seen c.args.link.now) (g.L.Link.seen c.loop-made.link) (g.L.Link.seen c.turn.new.link) c.loop-made.made _ c.loop-made.invariant.driven (λ good. further_if c.loop-made.client.keys (g.L.Link.seen c.loop-made.link) (g.L.Link.seen c.turn.new.link) _ _ (λ is. absurd (is refl)) (c.turn.ensures.well good).further)) good;
+    further = (further_last c.the_laws_below_hold.ensures c.args.client.now c.loop-made.client c.turn.new.client (g.L.Link.seen c.args.link.now) (g.L.Link.seen c.loop-made.link) (g.L.Link.seen c.turn.new.link) c.loop-made.made _ c.loop-made.invariant.driven (λ good. further_if c.loop-made.client.keys (g.L.Link.seen c.loop-made.link) (g.L.Link.seen c.turn.new.link) _ _ (λ is. absurd (is refl)) (c.turn.ensures.well good).further)) good;
   };
   honestly = λ honest. record {
     learns = (c.turn.ensures.tries.honest _ (c.loop-made.invariant.driven.honest_still _ honest), λ memory. absurd (memory refl));
@@ -237,7 +237,7 @@ returns-in-Err g c = record {
 pub loop-made-preserved : goal.loop-made-preserved
 loop-made-preserved g c =
     record {
-      driven = driven_then c.laws_below.ensures c.args.client.now c.loop-made.client c.turn.new.client (g.L.Link.seen c.args.link.now) (g.L.Link.seen c.loop-made.link)
+      driven = driven_then c.the_laws_below_hold.ensures c.args.client.now c.loop-made.client c.turn.new.client (g.L.Link.seen c.args.link.now) (g.L.Link.seen c.loop-made.link)
           (g.L.Link.seen c.turn.new.link) c.loop-made.made 1 c.loop-made.invariant.driven
           (record {
             good = λ good. (c.in-Ok-Some.ensures.well good).good;
@@ -294,11 +294,11 @@ returns g c = record {
         subst (λ n. ArePaid n (left_for c.args.client.now (g.L.Link.seen c.args.link.now).past) (left_for c.loop-made.client (g.L.Link.seen c.loop-made.link).past) (g.L.Link.seen c.args.link.now).disturbances
         (g.L.Link.seen c.loop-made.link).disturbances) made (c.loop-made.invariant.paid good honest) in
         finished_stop c.loop-made.client.keys c.loop-made.client.knowns c.stop_of-2.result
-        (paid_limit c.laws_below.ensures c.args.client.now c.loop-made.client (g.L.Link.seen c.args.link.now) (g.L.Link.seen c.loop-made.link) c.args.limit
-        c.plan-plan.ensures.lawful good (c.loop-made.invariant.driven.good good) paid enough)
+        (paid_limit c.the_laws_below_hold.ensures c.args.client.now c.loop-made.client (g.L.Link.seen c.args.link.now) (g.L.Link.seen c.loop-made.link) c.args.limit
+        c.a_client_has_a_lawful_plan.ensures good (c.loop-made.invariant.driven.good good) paid enough)
         c.stop_of-2.ensures.in_memory c.stop_of-2.ensures.stops_for_its_reason;
     no_conflict =
-        good_no_conflict c.laws_below.ensures c.loop-made.client (g.L.Link.seen c.loop-made.link) c.stop_of-2.result (c.loop-made.invariant.driven.good good) c.stop_of-2.ensures.stops_for_its_reason;
+        good_no_conflict c.the_laws_below_hold.ensures c.loop-made.client (g.L.Link.seen c.loop-made.link) c.stop_of-2.result (c.loop-made.invariant.driven.good good) c.stop_of-2.ensures.stops_for_its_reason;
     further =
         further_if c.args.client.now.keys (g.L.Link.seen c.args.link.now) (g.L.Link.seen c.loop-made.link) ⊤ _ (λ is. tt) (c.loop-made.invariant.driven.further good);
   };
@@ -327,14 +327,14 @@ returns g c = record {
   within = search rules;
   calmly = λ settling. record {
     settles = λ enough memory.
-        let l = c.laws_below.ensures in
+        let l = c.the_laws_below_hold.ensures in
         let client = c.args.client.now in
         let made = all_made c.loop-made.made c.args.limit c.loop-made-test.false c.loop-made.auto.made-end in
         let near =
         subst (λ n. Nearer client c.loop-made.client (g.L.Link.seen c.args.link.now) (g.L.Link.seen c.loop-made.link) n) made (c.loop-made.invariant.driven.near settling) in
         let end =
-        nearer_limit l client c.loop-made.client (g.L.Link.seen c.args.link.now) (g.L.Link.seen c.loop-made.link) c.args.limit c.plan-plan.ensures.lawful settling enough near in
-        let few = l.bounded (g.L.Link.seen c.args.link.now).past.room client.keys (g.L.Link.seen c.args.link.now).past.objects client.knowns c.plan-plan.ensures.lawful settling.ready in (
+        nearer_limit l client c.loop-made.client (g.L.Link.seen c.args.link.now) (g.L.Link.seen c.loop-made.link) c.args.limit c.a_client_has_a_lawful_plan.ensures settling enough near in
+        let few = l.settling.bounded (g.L.Link.seen c.args.link.now).past.room client.keys (g.L.Link.seen c.args.link.now).past.objects client.knowns c.a_client_has_a_lawful_plan.ensures settling.ready in (
           finished_stop c.loop-made.client.keys c.loop-made.client.knowns c.stop_of-2.result end.1 c.stop_of-2.ensures.in_memory c.stop_of-2.ensures.stops_for_its_reason,
           omega (arith, end.0),
           λ one. end.0,
@@ -346,16 +346,16 @@ returns g c = record {
         (c.loop-made.invariant.driven.near settling);
   };
   finishes = λ start enough memory.
-      let l = c.laws_below.ensures in
+      let l = c.the_laws_below_hold.ensures in
       let client = c.args.client.now in
-      let settling = (untouched_settles l client (g.L.Link.seen c.args.link.now) c.plan-plan.ensures.lawful start).0 in
+      let settling = (untouched_settles l client (g.L.Link.seen c.args.link.now) c.a_client_has_a_lawful_plan.ensures start).0 in
       let made = all_made c.loop-made.made c.args.limit c.loop-made-test.false c.loop-made.auto.made-end in
       let near =
       subst (λ n. Nearer client c.loop-made.client (g.L.Link.seen c.args.link.now) (g.L.Link.seen c.loop-made.link) n) made (c.loop-made.invariant.driven.near settling) in
       let end =
-      nearer_limit l client c.loop-made.client (g.L.Link.seen c.args.link.now) (g.L.Link.seen c.loop-made.link) c.args.limit c.plan-plan.ensures.lawful settling enough near in
+      nearer_limit l client c.loop-made.client (g.L.Link.seen c.args.link.now) (g.L.Link.seen c.loop-made.link) c.args.limit c.a_client_has_a_lawful_plan.ensures settling enough near in
       let done =
-      completed l client c.loop-made.client (g.L.Link.seen c.args.link.now) (g.L.Link.seen c.loop-made.link) c.args.limit c.plan-plan.ensures.lawful start near.settling
+      completed l client c.loop-made.client (g.L.Link.seen c.args.link.now) (g.L.Link.seen c.loop-made.link) c.args.limit c.a_client_has_a_lawful_plan.ensures start near.settling
       c.loop-made.invariant.driven.keeps.keys_stay (omega (arith, end.0)) (λ one. end.0) end.1 in (
         finished_stop c.loop-made.client.keys c.loop-made.client.knowns c.stop_of-2.result end.1 c.stop_of-2.ensures.in_memory c.stop_of-2.ensures.stops_for_its_reason,
         done.0,

@@ -28,8 +28,8 @@ returns-in_default g c =
     let next = c.lose_each.new.client in
     let old = g.L.Link.seen c.args.link.now in
     let new = g.L.Link.seen c.exchange-answered.new.self in
-    let l = c.laws_below.ensures in
-    let lawful = c.plan-plan.ensures.lawful in
+    let l = c.the_laws_below_hold.ensures in
+    let lawful = c.a_client_has_a_lawful_plan.ensures in
     let names = is_planned client.keys in
     let answered = answer_in (λ v. v.items) c.exchange-answered.result in
     let none : or_loss answered ≡ None = search rules in
@@ -66,7 +66,7 @@ returns-in_default g c =
         tries = record {
           stays_honest = (c.exchange-answered.ensures.honestly names honest).honest.0;
           learnt = tt;
-          broken = (lost_facts l.lost client next c.args.question.now lost, unmade honest);
+          broken = (lost_facts l.client.losses_teach_nothing client next c.args.question.now lost, unmade honest);
           takes_nothing_back = exchanged_grown names old.past new.past c.as_slice-2.result.now _ (c.exchange-answered.ensures.honestly names honest).honest.1;
         };
         sent = (unmade honest).sent_stays ∙ sym (append-nil old.past.sent);
@@ -82,8 +82,8 @@ returns g c =
     let next = c.learn.new.client in
     let old = g.L.Link.seen c.args.link.now in
     let new = g.L.Link.seen c.exchange-answered.new.self in
-    let l = c.laws_below.ensures in
-    let lawful = c.plan-plan.ensures.lawful in
+    let l = c.the_laws_below_hold.ensures in
+    let lawful = c.a_client_has_a_lawful_plan.ensures in
     let names = is_planned client.keys in
     let question = c.args.question.now in
     let hands = λ (honest : old.honest names).
@@ -130,11 +130,11 @@ returns g c =
         tries = record {
           stays_honest = (c.exchange-answered.ensures.honestly names honest).honest.0;
           learnt =
-              on_ok c.learn.result (learnt_one l.lost names client next old.past new.past question _ c.requires (hands honest)) c.learn.ensures.taught;
+              on_ok c.learn.result (learnt_one l.client.losses_teach_nothing names client next old.past new.past question _ c.requires (hands honest)) c.learn.ensures.taught;
           broken =
               both_err _ _ c.learn.result c.learn.ensures.lost c.learn.ensures.unheard
               (λ fault lost unheard. (
-                lost_facts l.lost client next question lost,
+                lost_facts l.client.losses_teach_nothing client next question lost,
                 subst (λ f. IsBrokenOff client.keys client.batch old.past new.past f) (sym unheard.0)
                     (broken_handed names client old.past new.past question _ c.requires (some_mapped c.in-Ok.answer (λ v. v.items) unheard.1) (hands honest)),
               ));

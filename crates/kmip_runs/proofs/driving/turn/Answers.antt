@@ -60,8 +60,8 @@ returns-in_err-question g c =
       };
       well = λ good. record {
         good = subst (λ s. IsGood s link) (sym same) good;
-        onward = went_nowhere c.laws_below.ensures client.keys link.past;
-        further = further_nowhere c.laws_below.ensures.itself c.laws_below.ensures.nothing client.keys link _;
+        onward = went_nowhere c.the_laws_below_hold.ensures client.keys link.past;
+        further = further_nowhere c.the_laws_below_hold.ensures.client.itself c.the_laws_below_hold.ensures.amid.nothing client.keys link _;
       };
       honestly = λ honest. record {
         stays_honest = honest;
@@ -95,8 +95,8 @@ returns-in_default g c =
       };
       well = λ good. record {
         good = subst (λ s. IsGood s link) (sym turn) (record { amid_for = good.amid_for; sound = good.sound; held = good.held });
-        onward = went_nowhere c.laws_below.ensures client.keys link.past;
-        further = further_nowhere c.laws_below.ensures.itself c.laws_below.ensures.nothing client.keys link _;
+        onward = went_nowhere c.the_laws_below_hold.ensures client.keys link.past;
+        further = further_nowhere c.the_laws_below_hold.ensures.client.itself c.the_laws_below_hold.ensures.amid.nothing client.keys link _;
       };
       honestly = λ honest. record {
         stays_honest = honest;

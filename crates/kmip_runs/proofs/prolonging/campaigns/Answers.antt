@@ -12,7 +12,7 @@ use Rattle.kmip_runs.proofs.prolonging.campaigns.Goals as goal
 
 pub returns : goal.returns
 returns g c =
-    let r = c.laws_below.ensures.runs in
+    let r = c.the_laws_below_hold.ensures in
     let plans = c.args.plans.now in
     let keys = last_plan plans in
     let all = c.run_plans.ensures.ran in
@@ -23,12 +23,12 @@ returns g c =
       well = λ begun. record {
         safe =
             let noted = (all.good begun).noted in
-            r.safe keys new (reported keys end.runs.items end.saved.items) (all.good begun).good.sound
+            r.exchanges.safe keys new (reported keys end.runs.items end.saved.items) (all.good begun).good.sound
             (All-append (IsReached keys new) (flat_map (λ ended. reported_by keys ended.counts.items) end.runs.items)
             (flat_map (λ progress. reported_by keys (map (λ known. known.done) progress)) end.saved.items) noted.ends_reached noted.saved_reached);
         machine =
             let went = (all.good begun).went in
-            (λ opening. went.mirrored (r.opening keys old opening), went.mirrored);
+            (λ opening. went.mirrored (r.exchanges.opening keys old opening), went.mirrored);
         no_conflict = (all.good begun).noted.no_conflict;
         sound = (all.good begun).good;
         honest = (all.good begun).honest;

@@ -26,17 +26,17 @@ returns-clause-simulated c =
     (subst (λ rs. IsCarriedOut keys rs end link after) runs c.campaign_over-end.ensures) in
     record {
       opening = opening;
-      mirrored = carried.machine (c.opening_is_mirrored.ensures keys (past_in (first_scene words)) opening);
+      mirrored = carried.machine (c.the_laws_of_exchanges_hold.ensures.opening keys (past_in (first_scene words)) opening);
       calm = λ none. record {
         calm_for = ap next_words none;
-        sound = c.nothing_done_is_sound.ensures keys (past_in (first_scene words)) opening;
-        roomy = has_room keys (past_in (first_scene words)) c.keys.ensures.lawful refl refl;
+        sound = c.the_laws_of_exchanges_hold.ensures.begins keys (past_in (first_scene words)) opening;
+        roomy = has_room keys (past_in (first_scene words)) c.a_plan_is_lawful.ensures refl refl;
       };
       carried = carried;
     }
 
 pub campaign_over-end-requires : goal.campaign_over-end-requires
 campaign_over-end-requires c = record {
-  sound = c.nothing_done_is_sound.ensures c.args.plan.now (past_in c.new_link-link.result) (c.new_link-link.ensures.opening c.args.plan.now);
+  sound = c.the_laws_of_exchanges_hold.ensures.begins c.args.plan.now (past_in c.new_link-link.result) (c.new_link-link.ensures.opening c.args.plan.now);
   batches = subst MayBatch (sym c.as_slice-2.ensures.value) c.in_ok-runs-2.ensures.may;
 }

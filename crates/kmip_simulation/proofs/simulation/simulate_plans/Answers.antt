@@ -27,7 +27,7 @@ returns-clause-simulated c =
     let opening : (keys : _) → Opening keys (past_in link) = c.new_link-link.ensures.opening in
     let good : GoodStart plans (seen_in link) = record {
       honest_for = tt;
-      sound = c.nothing_done_is_sound.ensures (first_plan plans) (past_in link) (opening (first_plan plans));
+      sound = c.the_laws_of_exchanges_hold.ensures.begins (first_plan plans) (past_in link) (opening (first_plan plans));
       none_further = λ key planned none. (opening (last_plan plans)).no_object key planned;
     } in
     let second = second_is plans c.index-plans-1.result c.requires.two c.index-plans-1.is in

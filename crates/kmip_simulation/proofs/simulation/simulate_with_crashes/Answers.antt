@@ -27,7 +27,7 @@ returns-clause-simulated c =
     subst (λ s. MakesCrashes (seen_in s) keys all crashes (seen_in after) (Follows s after)) first
     (subst (λ rs. MakesCrashes (seen_in link) keys rs crashes (seen_in after) (Follows link after)) runs c.campaign_with_crashes-crashes.ensures) in
     let good : GoodLink keys (seen_in (first_scene words)) =
-    record { amid_for = tt; sound = c.nothing_done_is_sound.ensures keys (past_in (first_scene words)) opening } in
+    record { amid_for = tt; sound = c.the_laws_of_exchanges_hold.ensures.begins keys (past_in (first_scene words)) opening } in
     record {
       opening = opening;
       mirrored = (made.well good).machine.0 opening;

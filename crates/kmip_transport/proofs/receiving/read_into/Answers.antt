@@ -6,7 +6,7 @@ use Rattle.kmip_transport.proofs.receiving.read_into.Goals as goal
 
 pub returns-in-Ok : goal.returns-in-Ok
 returns-in-Ok g c =
-    let laws = c.sizes.ensures in
+    let laws = c.the_laws_of_sizes_hold.ensures in
     let bound = c.in-Ok.ensures.bound in
     let piece = take c.in-Ok.count c.read_once.new.room in
     let fits : length piece ≤ wants c.args.framer.now = omega (arith, c.read_once.auto.room, c.requires.fits, bound.0, bound.1) in

@@ -44,4 +44,4 @@ returns-in-Ok-None-hand_over-clause-received g c =
 
 pub returns-in-Ok-None-hand_over-clause-sure : goal.returns-in-Ok-None-hand_over-clause-sure
 returns-in-Ok-None-hand_over-clause-sure g c = λ sure io.
-    omega (arith, c.loop-turn.invariant.1 sure, c.pending-held.ensures.at_most, c.pending-held.ensures.value, c.loop-turn-test.false, c.loop-turn.auto._turn-end)
+    omega (arith, c.loop-turn.invariant.1 sure, c.a_framer_holds_one_message.ensures.at_most, c.loop-turn-test.false, c.loop-turn.auto._turn-end)

@@ -27,7 +27,7 @@ returns-in-Err-clause-lost g c =
 
 pub returns-clause-served : goal.returns-clause-served
 returns-clause-served g c =
-    serves_at _ _ _ _ _ _ _ _ _ (to_z-of_z c.ranges.now) (too_many _ _ _ _ _ _ _ _ c.sizes.ensures.short c.loop-turn.invariant.1)
+    serves_at _ _ _ _ _ _ _ _ _ (to_z-of_z c.ranges.now) (too_many _ _ _ _ _ _ _ _ c.the_laws_of_sizes_hold.ensures.short c.loop-turn.invariant.1)
 
 pub returns-clause-sure : goal.returns-clause-sure
 returns-clause-sure g c = λ sure io.

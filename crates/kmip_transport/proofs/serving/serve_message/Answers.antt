@@ -13,7 +13,7 @@ pub end_by-requires : goal.end_by-requires
 end_by-requires g c = frame_has_fault _ _ _ _ _ _ c.in-Err.ensures.received
 
 pub returns-in-Err-clause-ended : goal.returns-in-Err-clause-ended
-returns-in-Err-clause-ended g c = stream_failed _ _ _ _ _ _ _ _ _ _ c.sizes.ensures.fault c.requires c.in-Err.ensures.received c.end_by.ensures
+returns-in-Err-clause-ended g c = stream_failed _ _ _ _ _ _ _ _ _ _ c.the_laws_of_sizes_hold.ensures.fault c.requires c.in-Err.ensures.received c.end_by.ensures
 
 pub returns-in_default-clause-ended : goal.returns-in_default-clause-ended
 returns-in_default-clause-ended g c =

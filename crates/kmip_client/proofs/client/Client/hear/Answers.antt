@@ -11,7 +11,7 @@ use Rattle.kmip_client.proofs.client.Client.hear.Goals as goal
 kept_here : (g : _) (c : goal.After-hear_message g) → Kept c.self.inside.plan.now c.self.inside.knowns.items c.hear_message.new.knowns.items c.self.inside.next
 kept_here g c =
     kept_by_message c.self.inside.plan.now c.keys-keys.result.now c.args.bytes.now c.self.inside.knowns.items c.hear_message.new.knowns.items c.self.inside.next
-    c.self.inside.working c.hear_message.result c.steps_have_places.ensures.within c.states_have_places.ensures.within c.keys-keys.ensures.value
+    c.self.inside.working c.hear_message.result c.the_laws_of_plans_hold.ensures.steps_within c.the_laws_of_plans_hold.ensures.places_within c.keys-keys.ensures.value
     c.hear_message.ensures.known c.hear_message.ensures.fits c.hear_message.ensures.same c.self.invariant.0
 
 pub invariant_of-self : goal.invariant_of-self
@@ -37,6 +37,6 @@ returns-clause-settled g c =
 pub returns-clause-held : goal.returns-clause-held
 returns-clause-held g c = λ objects held so.
     held_by_message objects c.self.inside.plan.now c.keys-keys.result.now c.args.bytes.now c.self.inside.knowns.items c.hear_message.new.knowns.items
-    c.hear_message.result c.states_have_places.ensures.within c.keys-keys.ensures.value c.hear_message.ensures.known c.hear_message.ensures.same
+    c.hear_message.result c.the_laws_of_plans_hold.ensures.places_within c.keys-keys.ensures.value c.hear_message.ensures.known c.hear_message.ensures.same
     (subst (λ (s : ClientState). Held objects s.keys s.knowns) (sym c.self.view_is) held)
     (subst (λ (s : ClientState). TrueMessage s.keys objects c.args.bytes.now) (sym c.self.view_is) so)

@@ -31,7 +31,7 @@ returns-clause-passed g c = λ keys.
     (λ together sound.
     let good = other_good keys other c.self.inside.link sent handed together sound in
     subst (λ ks. PassedAmid ks (past_of before) (past_of after)) together.keys_are
-    (c.what_passes_passes_for_others.ensures.blind other.keys sent handed (seen_by_others (past_in c.self.inside.link)) (seen_by_others (past_in c.drive-driven.new.link))
+    (c.the_laws_amid_others_hold.ensures.blind other.keys sent handed (seen_by_others (past_in c.self.inside.link)) (seen_by_others (past_in c.drive-driven.new.link))
     (c.drive-driven.ensures.well good).onward.passed))
 
 pub returns-clause-turn : goal.returns-clause-turn

@@ -20,8 +20,8 @@ returns-in-Err-clause-followed g c = λ memory. absurd (memory refl)
 
 pub returns-in-Ok-clause-amid : goal.returns-in-Ok-clause-amid
 returns-in-Ok-clause-amid g c = λ keys.
-    c.what_is_honest_is_amid.ensures.deliveries keys (past_in c.args.self.now) (past_in c.finish_run.new.self) (c.finish_run.ensures.delivered (is_planned keys))
+    c.the_laws_amid_others_hold.ensures.deliveries_amid keys (past_in c.args.self.now) (past_in c.finish_run.new.self) (c.finish_run.ensures.delivered (is_planned keys))
 
 pub returns-in-Err-clause-amid : goal.returns-in-Err-clause-amid
 returns-in-Err-clause-amid g c = λ keys.
-    c.what_is_honest_is_amid.ensures.deliveries keys (past_in c.args.self.now) (past_in c.finish_run.new.self) (c.finish_run.ensures.delivered (is_planned keys))
+    c.the_laws_amid_others_hold.ensures.deliveries_amid keys (past_in c.args.self.now) (past_in c.finish_run.new.self) (c.finish_run.ensures.delivered (is_planned keys))

@@ -32,10 +32,10 @@ returns-in-Err-clause-followed g c = λ memory. absurd (memory refl)
 
 pub returns-in-Ok-clause-amid : goal.returns-in-Ok-clause-amid
 returns-in-Ok-clause-amid g c = λ keys.
-    c.what_is_honest_is_amid.ensures.exchanges keys (past_in c.args.self.now) (past_in c.follow.new.self) c.args.request.now
+    c.the_laws_amid_others_hold.ensures.exchanges_amid keys (past_in c.args.self.now) (past_in c.follow.new.self) c.args.request.now
     (Ok (option_map (λ v. v.items) c.in-Ok.answer)) (c.in-Ok.ensures.hands (is_planned keys))
 
 pub returns-in-Err-clause-amid : goal.returns-in-Err-clause-amid
 returns-in-Err-clause-amid g c = λ keys.
-    c.what_is_honest_is_amid.ensures.exchanges keys (past_in c.args.self.now) (past_in c.follow.new.self) c.args.request.now (Err NoMemory)
+    c.the_laws_amid_others_hold.ensures.exchanges_amid keys (past_in c.args.self.now) (past_in c.follow.new.self) c.args.request.now (Err NoMemory)
     (c.in-Err.ensures.want (is_planned keys))

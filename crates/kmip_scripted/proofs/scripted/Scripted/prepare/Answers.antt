@@ -13,7 +13,7 @@ returns-in_err-do_words-clause-want g c = on_err c.from_residual-in_err-do_words
 
 pub returns-clause-asked : goal.returns-clause-asked
 returns-clause-asked g c = still_asked c.args.request.now c.args.self.now c.ask.new.self c.do_words.new.self c.in_ok-ask.ensures.ok
-    (c.deliveries_keep_the_requests.ensures (λ name. true) (past_in c.ask.new.self) (past_in c.do_words.new.self) (c.do_words.ensures.words.delivered (λ name. true))).requests
+    (c.the_laws_of_exchanges_hold.ensures.requests_stay (λ name. true) (past_in c.ask.new.self) (past_in c.do_words.new.self) (c.do_words.ensures.words.delivered (λ name. true))).requests
 
 pub returns-clause-joined : goal.returns-clause-joined
 returns-clause-joined g c = λ names.
@@ -25,4 +25,4 @@ returns-clause-early g c = λ names unrepeated. prepared_early names c.args.requ
 
 pub returns-clause-joins : goal.returns-clause-joins
 returns-clause-joins g c = request_joins c.args.request.now c.args.self.now c.ask.new.self c.do_words.new.self c.in_ok-ask.ensures.ok
-    (c.deliveries_keep_the_requests.ensures (λ name. true) (past_in c.ask.new.self) (past_in c.do_words.new.self) (c.do_words.ensures.words.delivered (λ name. true))).requests
+    (c.the_laws_of_exchanges_hold.ensures.requests_stay (λ name. true) (past_in c.ask.new.self) (past_in c.do_words.new.self) (c.do_words.ensures.words.delivered (λ name. true))).requests

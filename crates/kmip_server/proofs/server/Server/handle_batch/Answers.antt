@@ -20,24 +20,24 @@ returns-clause-handled g c =
     let reply = c.handle_parts-reply.result in
     let told = c.handle_parts-reply.ensures in
     let after = c.handle_parts-reply.new.self in
-    let kept = subst (λ s. IsKept s.rows s.room) c.self.view_is c.count-before.ensures.kept in
+    let kept = subst (λ s. IsKept s.rows s.room) c.self.view_is c.the_records_are_kept.ensures in
     record {
       reply = told_bytes reply (λ v. v.items) _ c.args.now _ (to_z-of_z c.ranges.now) told.tells;
       after = search rules;
       begun = noted reply _ _ _
           (batch_begun c.serving_is_a_step.ensures c.serving_keeps_the_records.ensures reply c.args.self.now after
-          c.args.effects.now.items c.handle_parts-reply.new.effects.items _ _ (c.question_laws.ensures.fit c.args.message.now) kept told.begun);
+          c.args.effects.now.items c.handle_parts-reply.new.effects.items _ _ (c.the_laws_of_messages_hold.ensures.questions_fit c.args.message.now) kept told.begun);
       room = batch_room reply c.args.self.now after c.args.effects.now.items c.handle_parts-reply.new.effects.items _ _ told.after told.begun;
       kept_before = kept;
-      kept = subst (λ s. IsKept s.rows s.room) c.self-2.view_is c.count-after.ensures.kept;
-      objects_before = subst HasLawfulObjects c.self.view_is (kept_objects _ c.count-before.ensures.kept);
-      objects = subst HasLawfulObjects c.self-2.view_is (kept_objects _ c.count-after.ensures.kept);
+      kept = subst (λ s. IsKept s.rows s.room) c.self-2.view_is c.the_records_are_kept-2.ensures;
+      objects_before = subst HasLawfulObjects c.self.view_is (kept_objects _ c.the_records_are_kept.ensures);
+      objects = subst HasLawfulObjects c.self-2.view_is (kept_objects _ c.the_records_are_kept-2.ensures);
       served = batch_served c.serving_is_a_step.ensures c.serving_keeps_the_records.ensures reply (λ v. v.items) c.args.self.now after
-          _ _ _ _ (c.question_laws.ensures.fit c.args.message.now) kept told.tells told.after refl;
+          _ _ _ _ (c.the_laws_of_messages_hold.ensures.questions_fit c.args.message.now) kept told.tells told.after refl;
     }
 
 pub returns-clause-begun : goal.returns-clause-begun
 returns-clause-begun g c =
     batch_begun c.serving_is_a_step.ensures c.serving_keeps_the_records.ensures c.handle_parts-reply.result c.args.self.now c.handle_parts-reply.new.self
-    c.args.effects.now.items c.handle_parts-reply.new.effects.items _ _ (c.question_laws.ensures.fit c.args.message.now)
-    (subst (λ s. IsKept s.rows s.room) c.self.view_is c.count-before.ensures.kept) c.handle_parts-reply.ensures.begun
+    c.args.effects.now.items c.handle_parts-reply.new.effects.items _ _ (c.the_laws_of_messages_hold.ensures.questions_fit c.args.message.now)
+    (subst (λ s. IsKept s.rows s.room) c.self.view_is c.the_records_are_kept.ensures) c.handle_parts-reply.ensures.begun
