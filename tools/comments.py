@@ -3,7 +3,7 @@ import re
 
 from items import says_of
 from prose import MOST_WORDS, sentences
-from sources import CRATES, roots_of
+from sources import CRATES, Definition, atoms_of, roots_of
 from traits import traits_of
 
 MOST_WORDS_OF_A_CRATE = 15
@@ -32,8 +32,17 @@ def bare_clauses(repository):
             if not comment and not is_only:
                 yield f'{function.file}:{function.line}: no sentence above {kind} {name}'.rstrip() + f' of {function.path}'
         for field in function.promises:
-            if field not in function.clauses and not field[3]:
+            if field not in function.clauses and not field[3] and not is_law(repository, function, field):
                 yield f'{field.file.path}: no sentence above the field {field[1]} of what {function.path} promises'
+
+
+def is_law(repository, function, field):
+    """Whether the field is a law by the name of its statement, which has a sentence of its own."""
+    name = atoms_of(field[2])[0]
+    if '_laws_' not in function.path or name not in field.imports and name not in field.file.by_name:
+        return False
+    said = repository.meaning(name, field.imports, field.file.by_name)
+    return isinstance(said, Definition) and bool(said.comment)
 
 
 def bare_ghosts(repository):

@@ -9,6 +9,7 @@ from comments import check_comments
 from counts import check_counts
 from document_table import check_document_table
 from headline import check_headline
+from laws import check_laws
 from layers import check_layers
 from links import check_links
 from man_pages import check_man_pages
@@ -30,7 +31,7 @@ NAME = re.compile(r'`((?:\w+::)*[A-Za-z]+(?:_\w+|[a-z0-9][A-Z]\w*))`')
 
 def check(repository):
     """Prints what does not fit, and returns the exit status: 1 where there is something."""
-    faults = check_comments(repository) + check_headline(repository) + check_own_numbers() + check_layers()
+    faults = check_comments(repository) + check_headline(repository) + check_own_numbers() + check_layers() + check_laws()
     faults += check_links() + check_names() + check_messages() + check_rows() + check_mistakes(repository) + check_ways() + check_prose()
     faults += check_uses(repository) + check_plan_schema() + check_man_pages() + check_versions()
     faults += check_calls(repository) + check_trusted() + check_big_crates()

@@ -56,7 +56,7 @@ pub(crate) fn tell<L: Link, O: ExchangeObserver, P: Printer>(
         × Appends (P.contents printer.old) (P.contents printer.new)
         (making_text form prefix.now ++ kept_lines form)) }
 {
-    the_profile_keeps_all();
+    the_profile_keeps_all(); // proof
     let mut answers = Vec::new(alloc);
     ask_on(alloc, prefix, link, LOOKS, observer, &mut answers)?;
     match unbegun_text(alloc, prefix, form, answers.as_slice())? {

@@ -54,7 +54,9 @@ pub fn the_laws_of_servers_hold()
 
 /// The records of a server are kept, and its objects are lawful. It does nothing.
 pub fn a_server_is_lawful<S: Records>(server: &Server<S>)
+    // The records are kept (`IsKept`).
     ensures kept { IsKept server.now.rows server.now.room }
+    // Names and identifiers are distinct, and each object is in its ranges.
     ensures objects { HasLawfulObjects server.now }
 {
     server.records(); // proof

@@ -100,6 +100,9 @@ most_room = 10000
 pub record IsKept (rows : List Row) (room : ℕ) : Type 0 where
   pub within : length rows ≤ room
   pub small : room ≤ most_room
+  -- Identifiers are numbered by place.
   pub numbered : AreNumbered 0 rows
+  -- Names are distinct.
   pub named : HaveOwnNames rows
+  -- Attributes are in their ranges.
   pub fit : list_all (λ r. attrs_fit r.attrs) rows ≡ true
