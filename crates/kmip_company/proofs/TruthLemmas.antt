@@ -1,5 +1,6 @@
 -- What is known and saved is true, and stays so; and what is counted was reached.
-use Rattle.std.proofs.Common.{◌≡◌, ◌<◌, ◌≤◌, List, None, Option, Some, [], ◌∷◌, arith, map, refl, slice_get, subst, suc, take, zero, ℕ}
+use Rattle.std.proofs.Common.{◌≡◌, ◌<◌, ◌≤◌, List, None, Option, Some, [], ◌∷◌, arith, map, refl, slice_get, subst, suc}
+use Rattle.std.proofs.Common.{take, zero, ℕ}
 use Rattle.std.specs.List.{All, AllZip}
 use Rattle.std.proofs.lemmas.List.Elements.{All-append, All-cons, All-head, All-nil, All-tail}
 use Rattle.kmip_client.specs.Asking.{at_place, requests_at}
@@ -32,7 +33,12 @@ pub held_fresh : (objects : List Object) (keys : List Key) → Held objects keys
 held_fresh objects [] = tt
 held_fresh objects (key ∷ keys) = (
   record {
-    holds = record { uid_true = λ uid is. absurd cc; done_true = omega arith; has_identifier = λ some. absurd (omega (arith, some)) };
+    holds = record {
+      uid_true = λ uid is. absurd cc;
+      done_true = omega arith;
+      has_identifier = λ some.
+          absurd (omega (arith, some));
+    };
     no_clash = refl;
     suits = refl;
   },
@@ -44,14 +50,19 @@ pub suits_again : (identifier : Option (List ℕ)) (done : ℕ) → PhaseSuits (
 suits_again None done = refl
 suits_again (Some uid) done = λ is. absurd cc
 
-pub held_again : (objects : List Object) (keys : List Key) (saved : List Known) → TrueProgress objects keys saved → Held objects keys (map knowledge_from saved)
+pub held_again : (objects : List Object) (keys : List Key) (saved : List Known) → TrueProgress objects keys saved
+    → Held objects keys (map knowledge_from saved)
 held_again objects [] [] holds = tt
 held_again objects [] (known ∷ saved) holds = absurd holds
 held_again objects (key ∷ keys) [] holds = absurd holds
-held_again objects (key ∷ keys) (known ∷ saved) holds =
-    (record { holds = holds.0; no_clash = refl; suits = suits_again known.identifier known.done }, held_again objects keys saved holds.1)
+held_again objects (key ∷ keys) (known ∷ saved) holds = (
+  record { holds = holds.0; no_clash = refl; suits = suits_again known.identifier known.done },
+  held_again objects
+      keys saved holds.1,
+)
 
-pub true_of_held : (objects : List Object) (keys : List Key) (knowns : List Knowledge) → Held objects keys knowns → TrueProgress objects keys (map known_of knowns)
+pub true_of_held : (objects : List Object) (keys : List Key) (knowns : List Knowledge) → Held objects keys knowns
+    → TrueProgress objects keys (map known_of knowns)
 true_of_held objects [] [] held = tt
 true_of_held objects [] (known ∷ knowns) held = absurd held
 true_of_held objects (key ∷ keys) [] held = absurd held
@@ -62,11 +73,13 @@ saved_again [] = refl
 saved_again (known ∷ saved) = rw (saved_again saved) refl
 
 -- what was saved stays true
-pub true_still : Lawbook → (keys : List Key) (saved : List Known) (old new : List Object) → IsLawful keys → Onward keys old new → TrueProgress old keys saved
+pub true_still : Lawbook → (keys : List Key) (saved : List Known) (old new : List Object) → IsLawful keys
+    → Onward keys old new → TrueProgress old keys saved
     → TrueProgress new keys saved
 true_still l keys saved old new lawful on was =
     subst (TrueProgress new keys) (saved_again saved)
-    (true_of_held new keys (map knowledge_from saved) (l.client.known_for_good keys (map knowledge_from saved) old new lawful on (held_again old keys saved was)))
+    (true_of_held new keys (map knowledge_from saved)
+    (l.client.known_for_good keys (map knowledge_from saved) old new lawful on (held_again old keys saved was)))
 
 -- ---- what is counted
 
@@ -81,14 +94,17 @@ saved_reached objects [] (known ∷ saved) holds = absurd holds
 saved_reached objects (key ∷ keys) [] holds = absurd holds
 saved_reached objects (key ∷ keys) (known ∷ saved) holds = (holds.0.done_true, saved_reached objects keys saved holds.1)
 
-pub counts_reached : (objects : List Object) (keys : List Key) (knowns : List Knowledge) → Held objects keys knowns → AreReached objects keys (counts_of knowns)
+pub counts_reached : (objects : List Object) (keys : List Key) (knowns : List Knowledge) → Held objects keys knowns
+    → AreReached objects keys (counts_of knowns)
 counts_reached objects [] [] held = tt
 counts_reached objects [] (known ∷ knowns) held = absurd held
 counts_reached objects (key ∷ keys) [] held = absurd held
-counts_reached objects (key ∷ keys) (known ∷ knowns) held = (held.0.holds.done_true, counts_reached objects keys knowns held.1)
+counts_reached objects (key ∷ keys) (known ∷ knowns) held =
+    (held.0.holds.done_true, counts_reached objects keys knowns held.1)
 
 -- a fact of each of the first of a list, by its place
-pub first_are : {X Y : Type 0} (P : Y → Type 0) (f : X → Y) (xs : List X) (count : ℕ) → ((place : ℕ) (x : X) → slice_get xs place ≡ Some x → place < count → P (f x))
+pub first_are : {X Y : Type 0} (P : Y → Type 0) (f : X → Y) (xs : List X) (count : ℕ)
+    → ((place : ℕ) (x : X) → slice_get xs place ≡ Some x → place < count → P (f x))
     → All P (map f (take count xs))
 first_are P f xs zero each = All-nil P
 first_are P f [] (suc count) each = All-nil P
@@ -96,33 +112,40 @@ first_are P f (x ∷ xs) (suc count) each =
     All-cons P (f x) (map f (take count xs)) (each zero x refl (omega arith))
     (first_are P f xs count (λ place y is below. each (suc place) y is (omega (arith, below))))
 
-steps_reached : Lawbook → (plan : List Key) (p : Past) (key : Key) (count : ℕ) → IsPlanned plan key → count ≤ position key p.objects
+steps_reached : Lawbook → (plan : List Key) (p : Past) (key : Key) (count : ℕ) → IsPlanned plan key
+    → count ≤ position key p.objects
     → All (IsReached plan p) (steps_counted key count)
 steps_reached l plan p key count planned reached =
     first_are (IsReached plan p) (λ step. record { name = key.attrs.name; step = step }) (chain key.target) count
     (λ place step is below.
-    let at : step_place key.target step ≡ suc place = (l.plan.places key.target (suc place) step (omega arith)).0 (stands key.target place step is) in
+    let at : step_place key.target step ≡ suc place = (l.plan.places key.target (suc place) step (omega arith)).0
+    (stands key.target place step is) in
     (key, planned, refl, omega (arith, at), omega (arith, at, below, reached)))
   where
-    stands : (target : Target) (place : ℕ) (step : Step) → slice_get (chain target) place ≡ Some step → step_at target (suc place) ≡ Some step
+    stands : (target : Target) (place : ℕ) (step : Step) → slice_get (chain target) place ≡ Some step
+        → step_at target (suc place) ≡ Some step
     stands target place step is = is
 
 -- each of these keys is one of the plan's
 abbrev AreOf : List Key → List Key → Type 0
 AreOf plan keys = (place : ℕ) (key : Key) → slice_get keys place ≡ Some key → IsPlanned plan key
 
-reached_of : Lawbook → (plan : List Key) (p : Past) (keys : List Key) (counts : List ℕ) → AreOf plan keys → AreReached p.objects keys counts
+reached_of : Lawbook → (plan : List Key) (p : Past) (keys : List Key) (counts : List ℕ) → AreOf plan keys
+    → AreReached p.objects keys counts
     → All (IsReached plan p) (reported_by keys counts)
 reached_of l plan p [] [] of reached = All-nil (IsReached plan p)
 reached_of l plan p [] (count ∷ counts) of reached = absurd reached
 reached_of l plan p (key ∷ keys) [] of reached = absurd reached
 reached_of l plan p (key ∷ keys) (count ∷ counts) of reached =
-    All-append (IsReached plan p) (steps_counted key count) (reported_by keys counts) (steps_reached l plan p key count (of zero key refl) reached.0)
+    All-append (IsReached plan p) (steps_counted key count) (reported_by keys counts)
+    (steps_reached l plan p key count (of zero key refl) reached.0)
     (reached_of l plan p keys counts (λ place k is. of (suc place) k is) reached.1)
 
-pub all_reached : Lawbook → (keys : List Key) (p : Past) (counts : List ℕ) → IsLawful keys → AreReached p.objects keys counts
+pub all_reached : Lawbook → (keys : List Key) (p : Past) (counts : List ℕ) → IsLawful keys
+    → AreReached p.objects keys counts
     → All (IsReached keys p) (reported_by keys counts)
-all_reached l keys p counts lawful reached = reached_of l keys p keys counts (λ place key is. l.plan.found keys place key lawful is) reached
+all_reached l keys p counts lawful reached =
+    reached_of l keys p keys counts (λ place key is. l.plan.found keys place key lawful is) reached
 
 -- ---- what is asked
 
@@ -138,19 +161,24 @@ some_known a = Some a
 same_known : (a b : Knowledge) → some_known a ≡ some_known b → a ≡ b
 same_known a b e = cc
 
-held_at : (objects : List Object) (keys : List Key) (knowns : List Knowledge) (place : ℕ) (key : Key) (known : Knowledge) → Held objects keys knowns
+held_at : (objects : List Object) (keys : List Key) (knowns : List Knowledge) (place : ℕ) (key : Key)
+    (known : Knowledge) → Held objects keys knowns
     → slice_get keys place ≡ Some key → slice_get knowns place ≡ Some known → IsHeld objects key known
 held_at objects [] knowns place key known held here there = absurd cc
 held_at objects (k ∷ keys) [] place key known held here there = absurd held
-held_at objects (k ∷ keys) (x ∷ knowns) zero key known held here there = subst (λ y. IsHeld objects key y) (same_known x known there) (subst (λ j. IsHeld objects j x) (same_key k key here) held.0)
-held_at objects (k ∷ keys) (x ∷ knowns) (suc place) key known held here there = held_at objects keys knowns place key known held.1 here there
+held_at objects (k ∷ keys) (x ∷ knowns) zero key known held here there =
+    subst (λ y. IsHeld objects key y) (same_known x known there)
+    (subst (λ j. IsHeld objects j x) (same_key k key here) held.0)
+held_at objects (k ∷ keys) (x ∷ knowns) (suc place) key known held here there =
+    held_at objects keys knowns place key known held.1 here there
 
 pub asked_there : (keys : List Key) (knowns : List Knowledge) (place : ℕ) (w : WorksAt keys knowns place)
     → at_place (λ place key known. request_about key known) keys knowns place ≡ Some (request_about w.key w.known)
 asked_there keys knowns place w = rw (w.key_is, w.known_is) refl
 
 -- what a client that knows the truth asks may be asked
-pub all_justified : Lawbook → (keys : List Key) (objects : List Object) (knowns : List Knowledge) (places : List ℕ) → IsLawful keys → Held objects keys knowns
+pub all_justified : Lawbook → (keys : List Key) (objects : List Object) (knowns : List Knowledge) (places : List ℕ)
+    → IsLawful keys → Held objects keys knowns
     → All (WorksAt keys knowns) places → All (Justified keys objects) (requests_at keys knowns places)
 all_justified l keys objects knowns [] lawful held works = All-nil (Justified keys objects)
 all_justified l keys objects knowns (place ∷ places) lawful held works =
@@ -161,6 +189,7 @@ all_justified l keys objects knowns (place ∷ places) lawful held works =
       key = w.key;
       is_planned = l.plan.found keys place w.key lawful w.key_is;
       id_is = refl;
-      may = l.client.asks objects w.key w.known (held_at objects keys knowns place w.key w.known held w.key_is w.known_is) w.works;
+      may = l.client.asks objects w.key w.known
+          (held_at objects keys knowns place w.key w.known held w.key_is w.known_is) w.works;
     })
     (all_justified l keys objects knowns places lawful held (All-tail (WorksAt keys knowns) place places works)))

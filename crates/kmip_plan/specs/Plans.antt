@@ -76,9 +76,13 @@ key_fits key = attrs_fit key.attrs && reason_fits key.target key.reason
 -- What holds of the keys of every plan: there are 1 to 1,000, names are distinct, and all values are in their
 -- ranges. Own (limit, choice).
 pub record IsLawful (keys : List Key) : Type 0 where
+  -- There is at least one key.
   pub some : 1 ≤ length keys
+  -- There are at most 1,000.
   pub few : length keys ≤ most_keys
+  -- Names are distinct.
   pub distinct : HaveNewNames [] keys
+  -- Each key has its values in their ranges.
   pub fit : list_all key_fits keys ≡ true
 
 -- The key at each place has its values in their ranges.

@@ -16,13 +16,16 @@ use Rattle.kmip_protocol.proofs.LeftLemmas.{is_there, late_left, left_by, left_i
 use Rattle.kmip_protocol.proofs.LeftSumLemmas.{all_left, numbers}
 use Rattle.kmip_protocol.proofs.SumLemmas.{held_at}
 
-pub key_late : (l : Lawbook) (keys : List Key) (old new : Past) (key : Key) (known : Knowledge) → Sound keys old → Sound keys new → IsPlanned keys key
-    → IsHeld old.objects key known → IsHeld new.objects key known → Arrives key old new → left_of key known new ≤ left_of key known old
+pub key_late : (l : Lawbook) (keys : List Key) (old new : Past) (key : Key) (known : Knowledge) → Sound keys old
+    → Sound keys new → IsPlanned keys key
+    → IsHeld old.objects key known → IsHeld new.objects key known → Arrives key old new
+    → left_of key known new ≤ left_of key known old
 key_late l keys old new key known sound after planned held still (as_it_was here way) =
     let n : ℕ = chain_length key in
     let before = numbers l keys old key known sound planned held in
     let now = numbers l keys new key known after planned still in
-    let there = same_there (position key new.objects) (position key old.objects) (is_there key new) (is_there key old) here now.from now.none before.from before.none in
+    let there = same_there (position key new.objects) (position key old.objects) (is_there key new) (is_there key old)
+    here now.from now.none before.from before.none in
     let same : left_of key known new ≡ left_of key known old =
     left_is key known new
     ∙ ap (λ t. left_by known.phase n known.done t (position key new.objects) (is_under_way key new)) there
@@ -34,20 +37,26 @@ key_late l keys old new key known sound after planned held still (took_effect fu
     let n : ℕ = chain_length key in
     let before = numbers l keys old key known sound planned held in
     let now = numbers l keys new key known after planned still in
-    let one : left_of key known new ≡ left_by known.phase n known.done (is_there key new) (position key new.objects) false =
+    let one : left_of key known new ≡ left_by known.phase n known.done (is_there key new) (position key new.objects)
+    false =
     left_is key known new ∙ ap (left_by known.phase n known.done (is_there key new) (position key new.objects)) none in
-    let two : left_of key known old ≡ left_by known.phase n known.done (is_there key old) (position key old.objects) true =
+    let two : left_of key known old ≡ left_by known.phase n known.done (is_there key old) (position key old.objects)
+    true =
     left_is key known old ∙ ap (left_by known.phase n known.done (is_there key old) (position key old.objects)) way in
-    let late = late_left known.phase n known.done (position key old.objects) (position key new.objects) (is_there key old) (is_there key new) known.identifier before now further in
+    let late = late_left known.phase n known.done (position key old.objects) (position key new.objects)
+    (is_there key old) (is_there key new) known.identifier before now further in
     omega (arith, one, two, late)
 
 -- what is known is true still
-pub held_late : (l : Lawbook) (keys : List Key) (old new : Past) (knowns : List Knowledge) → IsLawful keys → Sound keys old → Held old.objects keys knowns
+pub held_late : (l : Lawbook) (keys : List Key) (old new : Past) (knowns : List Knowledge) → IsLawful keys
+    → Sound keys old → Held old.objects keys knowns
     → Delivered (is_planned keys) old new → Held new.objects keys knowns
 held_late l keys old new knowns lawful sound held delivered =
-    l.client.known_for_good keys knowns old.objects new.objects lawful (l.exchanges.onward keys old new sound delivered) held
+    l.client.known_for_good keys knowns old.objects new.objects lawful
+    (l.exchanges.onward keys old new sound delivered) held
 
-pub all_late : (l : Lawbook) (keys : List Key) (old new : Past) (knowns : List Knowledge) → IsLawful keys → Sound keys old → Held old.objects keys knowns
+pub all_late : (l : Lawbook) (keys : List Key) (old new : Past) (knowns : List Knowledge) → IsLawful keys
+    → Sound keys old → Held old.objects keys knowns
     → Delivered (is_planned keys) old new → left_all keys knowns new ≤ left_all keys knowns old
 all_late l keys old new knowns lawful sound held delivered =
     let after = l.exchanges.deliveries keys old new sound delivered in
@@ -55,4 +64,5 @@ all_late l keys old new knowns lawful sound held delivered =
     all_left keys knowns old new (λ j key known here there.
     let planned = l.plan.found keys j key lawful here in
     key_late l keys old new key known sound after planned (held_at keys knowns j key known old.objects held here there)
-    (held_at keys knowns j key known new.objects still here there) (delivered_arrives l keys old new key sound planned delivered))
+    (held_at keys knowns j key known new.objects still here there)
+    (delivered_arrives l keys old new key sound planned delivered))

@@ -11,7 +11,8 @@ use Rattle.kmip_protocol.specs.Ready.{AreHere}
 pub sound_here : (l : Lawbook) (keys : List Key) (p : Past) → Sound keys p → AreHere keys p.objects
 sound_here l keys p sound = λ key o planned is. record {
   one_named = l.objects.all_named key.attrs.name p.objects sound.names ∙ ap option_to_list is;
-  one_identified = l.objects.all_identified o.uid p.objects sound.uids ∙ ap option_to_list (l.objects.by_identifier key.attrs.name p.objects o sound.uids is);
+  one_identified = l.objects.all_identified o.uid p.objects sound.uids
+      ∙ ap option_to_list (l.objects.by_identifier key.attrs.name p.objects o sound.uids is);
   own = sound.objects key o planned is;
 }
 

@@ -1,5 +1,6 @@
 -- The reply to a request that may be asked is true.
-use Rattle.std.proofs.Common.{◌≡◌, ◌≤◌, ◌<◌, ℕ, ℤ, List, [], ◌∷◌, ◌++◌, option_to_list, Option, Some, None, refl, sym, ap, subst, ◌∙◌, inl, inr, arith}
+use Rattle.std.proofs.Common.{◌≡◌, ◌≤◌, ◌<◌, ℕ, ℤ, List, [], ◌∷◌, ◌++◌, option_to_list, Option, Some, None, refl, sym}
+use Rattle.std.proofs.Common.{ap, subst, ◌∙◌, inl, inr, arith}
 use Rattle.std.proofs.lemmas.Option.{same_Some}
 use Rattle.kmip_objects.specs.Lifecycle.{after}
 use Rattle.kmip_objects.specs.Objects.{Object, object_named, object_with, all_restated, DistinctNames, DistinctUids}
@@ -37,19 +38,23 @@ own_found : (own : Option (List ℕ)) → AreFound own (option_to_list own)
 own_found None = tt
 own_found (Some uid) = refl
 
-found_true : (l : Lawbook) (key : Key) (room : ℕ) (objects : List Object) (mask : Option ℤ) (given : Attrs) (outcome : Outcome) → DistinctNames objects
-    → MayAsk objects key (asks.Locate mask given) → ServerStep room objects (asks.Locate mask given) outcome objects → TrueOutcome objects key outcome
+found_true : (l : Lawbook) (key : Key) (room : ℕ) (objects : List Object) (mask : Option ℤ) (given : Attrs)
+    (outcome : Outcome) → DistinctNames objects
+    → MayAsk objects key (asks.Locate mask given) → ServerStep room objects (asks.Locate mask given) outcome objects
+    → TrueOutcome objects key outcome
 found_true l key room objects mask given outcome names may step =
     let own : ServerStep room objects (asks.Locate (Some every_state) (by_name key.attrs.name)) outcome objects =
     subst (λ m. ServerStep room objects (asks.Locate m (by_name key.attrs.name)) outcome objects) may.0
     (subst (λ g. ServerStep room objects (asks.Locate mask g) outcome objects) may.1 step) in
-    subst (TrueOutcome objects key) (sym (l.server.located room objects objects key.attrs.name outcome names own).1) (own_found (uid_of key objects))
+    subst (TrueOutcome objects key) (sym (l.server.located room objects objects key.attrs.name outcome names own).1)
+    (own_found (uid_of key objects))
 
 pub some_place : (found : Option ℕ) → 1 ≤ or_zero found → found ≡ Some (or_zero found)
 some_place None is = absurd (omega (arith, is))
 some_place (Some n) is = refl
 
-told_true : (l : Lawbook) (keys : List Key) (key : Key) (objects : List Object) (uid : List ℕ) (o : Object) → IsPlanned keys key → HasItsObjects keys objects
+told_true : (l : Lawbook) (keys : List Key) (key : Key) (objects : List Object) (uid : List ℕ) (o : Object)
+    → IsPlanned keys key → HasItsObjects keys objects
     → DistinctUids objects → uid_of key objects ≡ Some uid → object_with uid objects ≡ Some o
     → TrueOutcome objects key (outcomes.Attributes uid (attributes_of o))
 told_true l keys key objects uid o planned its uids own with_uid =
@@ -71,8 +76,10 @@ told_true l keys key objects uid o planned its uids own with_uid =
       },
     )
 
-created_true : (l : Lawbook) (key : Key) (objects : List Object) (uid : List ℕ) → object_named key.attrs.name objects ≡ None
-    → TrueOutcome (objects ++ record { uid = uid; attrs = key.attrs; state = states.PreActive } ∷ []) key (outcomes.Created uid)
+created_true : (l : Lawbook) (key : Key) (objects : List Object) (uid : List ℕ)
+    → object_named key.attrs.name objects ≡ None
+    → TrueOutcome (objects ++ record { uid = uid; attrs = key.attrs; state = states.PreActive } ∷ []) key
+    (outcomes.Created uid)
 created_true l key objects uid free =
     let o : Object = record { uid = uid; attrs = key.attrs; state = states.PreActive } in
     let now : object_named key.attrs.name (objects ++ o ∷ []) ≡ Some o = own_named l objects o free in
@@ -84,49 +91,61 @@ created_true l key objects uid free =
     }
 
 -- the success of a step that is done is true
-success_true : (key : Key) (objects : List Object) (step : Step) (uid : List ℕ) → 1 < step_place key.target step → StepIsDone objects key step uid
+success_true : (key : Key) (objects : List Object) (step : Step) (uid : List ℕ) → 1 < step_place key.target step
+    → StepIsDone objects key step uid
     → TrueOutcome objects key (success_of step uid)
 success_true key objects Create uid behind done = done
 success_true key objects Activate uid behind done = done
 success_true key objects Revoke uid behind done = done
 success_true key objects Destroy uid behind done = done
 
-done_true : (l : Lawbook) (keys : List Key) (key : Key) (objects : List Object) (step : Step) (uid : List ℕ) (o : Object) (state : KeyState)
+done_true : (l : Lawbook) (keys : List Key) (key : Key) (objects : List Object) (step : Step) (uid : List ℕ)
+    (o : Object) (state : KeyState)
     → IsPlanned keys key → HasItsObjects keys objects → DistinctUids objects → StepIsDue objects key step uid
     → object_with uid objects ≡ Some o → after o.state step ≡ Some state
     → TrueOutcome (all_restated uid state objects) key (success_of step uid)
 done_true l keys key objects step uid o state planned its uids due with_uid row =
     let t = takes l keys key objects step uid o state planned its uids due with_uid row in
-    let here : position key (all_restated uid state objects) ≡ place_reached key.target state = ap (place_in key) t.now in
+    let here : position key (all_restated uid state objects) ≡ place_reached key.target state = ap (place_in key)
+    t.now in
     success_true key (all_restated uid state objects) step uid due.in_chain (record {
       uid_is = ap uid_in t.now ∙ ap (λ u. Some u) t.uid_is;
       in_chain = omega (arith, due.in_chain);
       done = omega (arith, here, t.place, t.further);
     })
 
-pub outcome_true : (l : Lawbook) (keys : List Key) (key : Key) (room : ℕ) (old new : List Object) (ask : Ask) (outcome : Outcome)
+pub outcome_true : (l : Lawbook) (keys : List Key) (key : Key) (room : ℕ) (old new : List Object) (ask : Ask)
+    (outcome : Outcome)
     → IsPlanned keys key → HasItsObjects keys old → DistinctNames old → DistinctUids old → MayAsk old key ask
     → ServerStep room old ask outcome new → TrueOutcome new key outcome
 outcome_true l keys key room old new ask outcome planned its names uids may (rows.name_taken h) = tt
 outcome_true l keys key room old new ask outcome planned its names uids may (rows.full h i) = tt
-outcome_true l keys key room old new ask outcome planned its names uids may (rows.created {attrs} {uid} free roomy uid_free fits) =
-    subst (λ a. object_named a.name old ≡ None → TrueOutcome (old ++ record { uid = uid; attrs = a; state = states.PreActive } ∷ []) key (outcomes.Created uid))
+outcome_true l keys key room old new ask outcome planned its names uids may
+    (rows.created {attrs} {uid} free roomy uid_free fits) =
+    subst (λ a. object_named a.name old ≡ None
+    → TrueOutcome (old ++ record { uid = uid; attrs = a; state = states.PreActive } ∷ []) key
+    (outcomes.Created uid))
     (sym may) (λ none. created_true l key old uid none) free
-outcome_true l keys key room old new ask outcome planned its names uids may (rows.searched {mask} {given}) = found_true l key room old mask given _ names may rows.searched
-outcome_true l keys key room old new ask outcome planned its names uids may (rows.told {uid} {o} h) = told_true l keys key old uid o planned its uids may h
+outcome_true l keys key room old new ask outcome planned its names uids may (rows.searched {mask} {given}) =
+    found_true l key room old mask given _ names may rows.searched
+outcome_true l keys key room old new ask outcome planned its names uids may (rows.told {uid} {o} h) =
+    told_true l keys key old uid o planned its uids may h
 outcome_true l keys key room old new ask outcome planned its names uids may (rows.unknown h) = tt
 outcome_true l keys key room old new ask outcome planned its names uids may (rows.compromised h) = tt
 outcome_true l keys key room old new ask outcome planned its names uids may (rows.not_found h i) = tt
 outcome_true l keys key room old new ask outcome planned its names uids may (rows.wrong_state h i j) = tt
-outcome_true l keys key room old new ask outcome planned its names uids may (rows.done {step = step} {uid = uid} {o = o} {state = state} asked with_uid row) =
+outcome_true l keys key room old new ask outcome planned its names uids may
+    (rows.done {step = step} {uid = uid} {o = o} {state = state} asked with_uid row) =
     done_true l keys key old step uid o state planned its uids (due_of old key ask step uid may asked) with_uid row
 
 -- ---- the reply
 
-pub failed_true : (objects : List Object) (key : Key) (outcome : Outcome) → HasFailed outcome → TrueOutcome objects key outcome
+pub failed_true : (objects : List Object) (key : Key) (outcome : Outcome) → HasFailed outcome
+    → TrueOutcome objects key outcome
 failed_true objects key outcome (reason, is) = subst (TrueOutcome objects key) (sym is) tt
 
-pub failed_answer : (keys : List Key) (objects : List Object) (requests : List Request) (reply : Reply) → HasFailed reply.outcome → TrueAnswer keys objects requests reply
+pub failed_answer : (keys : List Key) (objects : List Object) (requests : List Request) (reply : Reply)
+    → HasFailed reply.outcome → TrueAnswer keys objects requests reply
 failed_answer keys objects requests reply failed = record {
   holds = λ operation name key id named. failed_true objects key reply.outcome failed;
   echoes = inl failed;
@@ -135,18 +154,23 @@ failed_answer keys objects requests reply failed = record {
 pub same_name : (operation other : ℕ) (name own : List ℕ) → Some (operation ∷ name) ≡ Some (other ∷ own) → name ≡ own
 same_name operation other name own is = cc
 
-named_one : (l : Lawbook) (keys : List Key) (key other : Key) (name : List ℕ) → IsPlanned keys key → key_named name keys ≡ Some other → name ≡ key.attrs.name → key ≡ other
-named_one l keys key other name planned named same = same_Some _ _ (sym planned ∙ ap (λ n. key_named n keys) (sym same) ∙ named)
+named_one : (l : Lawbook) (keys : List Key) (key other : Key) (name : List ℕ) → IsPlanned keys key
+    → key_named name keys ≡ Some other → name ≡ key.attrs.name → key ≡ other
+named_one l keys key other name planned named same =
+    same_Some _ _ (sym planned ∙ ap (λ n. key_named n keys) (sym same) ∙ named)
 
-pub served_answer : (l : Lawbook) (keys : List Key) (p : Past) (request : Request) (reply : Reply) (objects : List Object) (joined : Option Effect)
+pub served_answer : (l : Lawbook) (keys : List Key) (p : Past) (request : Request) (reply : Reply)
+    (objects : List Object) (joined : Option Effect)
     → HasItsObjects keys p.objects → DistinctNames p.objects → DistinctUids p.objects → Justified keys p.objects request
     → Serves p request reply objects joined → TrueAnswer keys objects p.requests reply
 served_answer l keys p request reply objects joined its names uids just serves = record {
   holds = λ operation name other id named. elim (serves.id_is) [
     | inl same ↦
-        let one : just.key ≡ other = named_one l keys just.key other name just.is_planned named (same_name _ _ _ _ (sym id ∙ same ∙ just.id_is)) in
+        let one : just.key ≡ other = named_one l keys just.key other name just.is_planned named
+        (same_name _ _ _ _ (sym id ∙ same ∙ just.id_is)) in
         subst (λ k. TrueOutcome objects k reply.outcome) one
-        (outcome_true l keys just.key p.room p.objects objects request.ask reply.outcome just.is_planned its names uids just.may serves.step)
+        (outcome_true l keys just.key p.room p.objects objects request.ask reply.outcome just.is_planned its names
+        uids just.may serves.step)
     | inr bare ↦ failed_true objects other reply.outcome bare.1
   ];
   echoes = elim (serves.id_is) [

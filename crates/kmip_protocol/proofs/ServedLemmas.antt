@@ -1,5 +1,6 @@
 -- What serving a request that may be asked does: nothing, or the next step of its key.
-use Rattle.std.proofs.Common.{◌≡◌, ◌≢◌, ◌+◌, ℕ, List, [], ◌∷◌, ◌++◌, Option, Some, None, refl, sym, ap, subst, ◌∙◌, inl, inr, ◌⊎◌, arith}
+use Rattle.std.proofs.Common.{◌≡◌, ◌≢◌, ◌+◌, ℕ, List, [], ◌∷◌, ◌++◌, Option, Some, None, refl, sym, ap, subst, ◌∙◌, inl}
+use Rattle.std.proofs.Common.{inr, ◌⊎◌, arith}
 use Rattle.std.proofs.lemmas.Bool.{cases_Bool}
 use Rattle.std.proofs.lemmas.Option.{some_pair_parts}
 use Rattle.kmip_objects.specs.Lifecycle.{after}
@@ -48,7 +49,8 @@ step_agrees (asks.Revoke own code) step uid asked = elim (cases_Bool (is_comprom
 ]
 step_agrees (asks.Destroy own) step uid asked = ap (λ s. Some s) (some_pair_parts Destroy step own uid asked).0
 
-created_steps : (l : Lawbook) (key : Key) (objects : List Object) (uid : List ℕ) (ask : Ask) → step_of_ask ask ≡ Some Create
+created_steps : (l : Lawbook) (key : Key) (objects : List Object) (uid : List ℕ) (ask : Ask)
+    → step_of_ask ask ≡ Some Create
     → object_named key.attrs.name objects ≡ None
     → Steps key objects (objects ++ record { uid = uid; attrs = key.attrs; state = states.PreActive } ∷ []) ask
 created_steps l key objects uid ask asked free =
@@ -62,17 +64,23 @@ created_steps l key objects uid ask asked free =
       is_asked = asked;
       place = omega (arith, before);
       now = omega (arith, before, here, first);
-      others = λ name apart. other_named l name objects o (object_named name objects) refl (apart_from name key.attrs.name apart);
-      changes = ap (λ found. change found (object_named key.attrs.name (objects ++ o ∷ []))) free ∙ ap (λ found. change None found) now;
+      others = λ name apart. other_named l name objects o (object_named name objects) refl
+          (apart_from name key.attrs.name apart);
+      changes = ap (λ found. change found (object_named key.attrs.name (objects ++ o ∷ []))) free
+          ∙ ap (λ found. change None found) now;
     }
 
-done_steps : (l : Lawbook) (keys : List Key) (key : Key) (objects : List Object) (ask : Ask) (step : Step) (uid : List ℕ) (o : Object) (state : KeyState)
-    → IsPlanned keys key → HasItsObjects keys objects → DistinctUids objects → StepIsDue objects key step uid → step_of_ask ask ≡ Some step
-    → object_with uid objects ≡ Some o → after o.state step ≡ Some state → Steps key objects (all_restated uid state objects) ask
+done_steps : (l : Lawbook) (keys : List Key) (key : Key) (objects : List Object) (ask : Ask) (step : Step)
+    (uid : List ℕ) (o : Object) (state : KeyState)
+    → IsPlanned keys key → HasItsObjects keys objects → DistinctUids objects → StepIsDue objects key step uid
+    → step_of_ask ask ≡ Some step
+    → object_with uid objects ≡ Some o → after o.state step ≡ Some state
+    → Steps key objects (all_restated uid state objects) ask
 done_steps l keys key objects ask step uid o state planned its uids due asked with_uid row =
     let t = takes l keys key objects step uid o state planned its uids due with_uid row in
     let before : position key objects ≡ place_reached key.target o.state = ap (place_in key) t.was in
-    let here : position key (all_restated uid state objects) ≡ place_reached key.target state = ap (place_in key) t.now in
+    let here : position key (all_restated uid state objects) ≡ place_reached key.target state = ap (place_in key)
+    t.now in
     record {
       step = step;
       is_asked = asked;
@@ -84,13 +92,16 @@ done_steps l keys key objects ask step uid o state planned its uids due asked wi
           ∙ step_is_between o.state state step row;
     }
 
-pub serve_does : (l : Lawbook) (keys : List Key) (key : Key) (room : ℕ) (old new : List Object) (ask : Ask) (outcome : Outcome)
+pub serve_does : (l : Lawbook) (keys : List Key) (key : Key) (room : ℕ) (old new : List Object) (ask : Ask)
+    (outcome : Outcome)
     → IsPlanned keys key → HasItsObjects keys old → DistinctNames old → DistinctUids old → MayAsk old key ask
     → ServerStep room old ask outcome new → (new ≡ old) ⊎ Steps key old new ask
 serve_does l keys key room old new ask outcome planned its names uids may (rows.name_taken h) = inl refl
 serve_does l keys key room old new ask outcome planned its names uids may (rows.full h i) = inl refl
-serve_does l keys key room old new ask outcome planned its names uids may (rows.created {attrs} {uid} free roomy uid_free fits) =
-    inr (subst (λ a. object_named a.name old ≡ None → Steps key old (old ++ record { uid = uid; attrs = a; state = states.PreActive } ∷ []) (asks.Create attrs))
+serve_does l keys key room old new ask outcome planned its names uids may
+    (rows.created {attrs} {uid} free roomy uid_free fits) =
+    inr (subst (λ a. object_named a.name old ≡ None
+    → Steps key old (old ++ record { uid = uid; attrs = a; state = states.PreActive } ∷ []) (asks.Create attrs))
     (sym may) (λ none. created_steps l key old uid (asks.Create attrs) refl none) free)
 serve_does l keys key room old new ask outcome planned its names uids may rows.searched = inl refl
 serve_does l keys key room old new ask outcome planned its names uids may (rows.told h) = inl refl
@@ -98,5 +109,7 @@ serve_does l keys key room old new ask outcome planned its names uids may (rows.
 serve_does l keys key room old new ask outcome planned its names uids may (rows.compromised h) = inl refl
 serve_does l keys key room old new ask outcome planned its names uids may (rows.not_found h i) = inl refl
 serve_does l keys key room old new ask outcome planned its names uids may (rows.wrong_state h i j) = inl refl
-serve_does l keys key room old new ask outcome planned its names uids may (rows.done {step = step} {uid = uid} {o = o} {state = state} asked with_uid row) =
-    inr (done_steps l keys key old ask step uid o state planned its uids (due_of old key ask step uid may asked) (step_agrees ask step uid asked) with_uid row)
+serve_does l keys key room old new ask outcome planned its names uids may
+    (rows.done {step = step} {uid = uid} {o = o} {state = state} asked with_uid row) =
+    inr (done_steps l keys key old ask step uid o state planned its uids (due_of old key ask step uid may asked)
+    (step_agrees ask step uid asked) with_uid row)

@@ -1,6 +1,9 @@
--- A message over a calm link: each of its questions is served once, each reply teaches of its key alone, and each of the keys is one
+-- A message over a calm link: each of its questions is served once, each reply teaches of its key alone, and each of
+-- the keys is one
 -- exchange nearer to its end.
-use Rattle.std.proofs.Common.{◌≡◌, ◌≢◌, ◌≤◌, ◌<◌, ℕ, ◌+◌, Bool, true, false, not, nat_lt, nat_le, List, [], ◌∷◌, length, map, is_some, Option, Some, None, Result, Ok, slice_set, subst, refl, sym, ap, ◌∙◌, ◌⊎◌, inl, inr, arith}
+use Rattle.std.proofs.Common.{◌≡◌, ◌≢◌, ◌≤◌, ◌<◌, ℕ, ◌+◌, Bool, true, false, not, nat_lt, nat_le, List, [], ◌∷◌, length}
+use Rattle.std.proofs.Common.{map, is_some, Option, Some, None, Result, Ok, slice_set, subst, refl, sym, ap, ◌∙◌, ◌⊎◌}
+use Rattle.std.proofs.Common.{inl, inr, arith}
 use Rattle.std.specs.List.{slice_get, All}
 use Rattle.std.specs.Option.{unwrap_or}
 use Rattle.std.proofs.lemmas.Bool.{and_parts, ltb-true, cases_Bool, leb-false}
@@ -45,7 +48,8 @@ use Rattle.kmip_protocol.proofs.PhaseLemmas.{IsWorked, IsNearer, look_nearer, ma
 use Rattle.kmip_protocol.proofs.ReadyLemmas.{sound_here}
 use Rattle.kmip_protocol.proofs.StepLemmas.{step_nearer, next_asked}
 use Rattle.kmip_protocol.proofs.SumLemmas.{held_at, one_held, one_missing, one_nearer}
-use Rattle.kmip_protocol.proofs.TaughtLemmas.{AreTold, Tells, Turn, parts_of, places_of, replies_of, set_each, taught_all, told_before}
+use Rattle.kmip_protocol.proofs.TaughtLemmas.{AreTold, Tells, Turn, parts_of, places_of, replies_of, set_each}
+use Rattle.kmip_protocol.proofs.TaughtLemmas.{taught_all, told_before}
 
 -- ---- one key, in whichever phase
 
@@ -53,9 +57,11 @@ some_of : (identifier : Option (List ℕ)) → identifier ≢ None → identifie
 some_of None some = absurd (some refl)
 some_of (Some uid) some = refl
 
-go_nearer : (l : Lawbook) (room : ℕ) (old new : List Object) (key : Key) (known : Knowledge) (uid : List ℕ) (outcome : Outcome) → known.phase ≡ phases.Go
+go_nearer : (l : Lawbook) (room : ℕ) (old new : List Object) (key : Key) (known : Knowledge) (uid : List ℕ)
+    (outcome : Outcome) → known.phase ≡ phases.Go
     → IsWorked room old key known → known.identifier ≡ Some uid → 1 ≤ known.done
-    → ServerStep room old (next_ask key uid (step_at key.target (known.done + 1))) outcome new → IsNearer key known outcome old new
+    → ServerStep room old (next_ask key uid (step_at key.target (known.done + 1))) outcome new
+    → IsNearer key known outcome old new
 go_nearer l room old new key known uid outcome phase_is worked known_is from step =
     let (o, named, same) = own_uid old key known uid worked.held known_is in
     let (next, stands, place) = l.plan.next_step key.target known.done worked.more in
@@ -69,41 +75,56 @@ go_nearer l room old new key known uid outcome phase_is worked known_is from ste
       place = place;
       later = later;
     })
-    (subst (λ u. step_asked (step_ask key uid next) ≡ Some (next, u)) (sym same) (next_asked key uid next later (l.plan.reasons key worked.fits)))
+    (subst (λ u. step_asked (step_ask key uid next) ≡ Some (next, u)) (sym same)
+    (next_asked key uid next later (l.plan.reasons key worked.fits)))
     (subst (λ s. ServerStep room old (next_ask key uid s) outcome new) stands step)
 
-pub phase_nearer : (l : Lawbook) (room : ℕ) (old new : List Object) (key : Key) (known : Knowledge) (phase : Phase) (outcome : Outcome) → known.phase ≡ phase
-    → IsWorked room old key known → ServerStep room old (phase_ask key phase (unwrap_or known.identifier []) known.done) outcome new
+pub phase_nearer : (l : Lawbook) (room : ℕ) (old new : List Object) (key : Key) (known : Knowledge) (phase : Phase)
+    (outcome : Outcome) → known.phase ≡ phase
+    → IsWorked room old key known → ServerStep room old
+    (phase_ask key phase (unwrap_or known.identifier []) known.done) outcome new
     → IsNearer key known outcome old new
-phase_nearer l room old new key known phases.Look outcome is worked step = look_nearer l room old new key known outcome is worked step
-phase_nearer l room old new key known phases.Make outcome is worked step = make_nearer l room old new key known outcome is worked step
+phase_nearer l room old new key known phases.Look outcome is worked step =
+    look_nearer l room old new key known outcome is worked step
+phase_nearer l room old new key known phases.Make outcome is worked step =
+    make_nearer l room old new key known outcome is worked step
 phase_nearer l room old new key known phases.Check outcome is worked step =
     let suits = subst (λ phase. PhaseSuits phase known.identifier known.done) is worked.held.suits in
-    check_nearer l room old new key known (unwrap_or known.identifier []) outcome is worked (some_of known.identifier suits) step
+    check_nearer l room old new key known (unwrap_or known.identifier []) outcome is worked
+    (some_of known.identifier suits) step
 phase_nearer l room old new key known phases.Go outcome is worked step =
     let suits = subst (λ phase. PhaseSuits phase known.identifier known.done) is worked.held.suits in
-    go_nearer l room old new key known (unwrap_or known.identifier []) outcome is worked (some_of known.identifier suits.0) suits.1 step
+    go_nearer l room old new key known (unwrap_or known.identifier []) outcome is worked
+    (some_of known.identifier suits.0) suits.1 step
 
 -- ---- one key of many
 
-is_worked : (l : Lawbook) (keys : List Key) (place room : ℕ) (objects : List Object) (knowns : List Knowledge) (key : Key) (known : Knowledge) → IsLawful keys
-    → IsReady room keys objects knowns → slice_get keys place ≡ Some key → slice_get knowns place ≡ Some known → is_working key known ≡ true
+is_worked : (l : Lawbook) (keys : List Key) (place room : ℕ) (objects : List Object) (knowns : List Knowledge)
+    (key : Key) (known : Knowledge) → IsLawful keys
+    → IsReady room keys objects knowns → slice_get keys place ≡ Some key → slice_get knowns place ≡ Some known
+    → is_working key known ≡ true
     → IsWorked room objects key known
 is_worked l keys place room objects knowns key known lawful ready here there works = record {
   here = λ o is. ready.here key o (l.plan.found keys place key lawful here) is;
   held = held_at keys knowns place key known objects ready.held here there;
-  more = ltb-true known.done (chain_length key) (and_parts (nat_lt known.done (chain_length key)) (not (is_some known.clash)) works).0;
+  more = ltb-true known.done (chain_length key)
+      (and_parts (nat_lt known.done (chain_length key)) (not (is_some known.clash)) works).0;
   fits = l.plan.fit keys lawful place key here;
-  roomy = λ none. let one = one_missing keys place key objects here none in let roomy = ready.roomy in omega (arith, one, roomy);
+  roomy = λ none. let one = one_missing keys place key objects here none in let roomy = ready.roomy in omega
+      (arith, one, roomy);
 }
 
 -- the client is ready still, and needs one exchange less
 abbrev GoesNearer : ℕ → List Key → List Object → List Object → List Knowledge → List Knowledge → Type 0
-GoesNearer room keys old new knowns nexts = IsReady room keys new nexts × (need_all keys nexts new + 1 ≡ need_all keys knowns old)
+GoesNearer room keys old new knowns nexts =
+    IsReady room keys new nexts × (need_all keys nexts new + 1 ≡ need_all keys knowns old)
 
-all_nearer : (l : Lawbook) (keys : List Key) (place room : ℕ) (old new : List Object) (knowns : List Knowledge) (key : Key) (known : Knowledge) (outcome : Outcome)
-    → IsLawful keys → IsReady room keys old knowns → slice_get keys place ≡ Some key → slice_get knowns place ≡ Some known
-    → (nearer : IsNearer key known outcome old new) → GoesNearer room keys old new knowns (slice_set knowns place nearer.next)
+all_nearer : (l : Lawbook) (keys : List Key) (place room : ℕ) (old new : List Object) (knowns : List Knowledge)
+    (key : Key) (known : Knowledge) (outcome : Outcome)
+    → IsLawful keys → IsReady room keys old knowns → slice_get keys place ≡ Some key
+    → slice_get knowns place ≡ Some known
+    → (nearer : IsNearer key known outcome old new)
+    → GoesNearer room keys old new knowns (slice_set knowns place nearer.next)
 all_nearer l keys place room old new knowns key known outcome lawful ready here there nearer =
     let same = places_same l keys place key old new lawful here ready.here nearer.change in (
       record {
@@ -116,8 +137,10 @@ all_nearer l keys place room old new knowns key known outcome lawful ready here 
 
 -- ---- the other keys are asked the same
 
-pub at_beside : {A : Type 0} (f : ℕ → Key → Knowledge → A) (keys : List Key) (knowns : List Knowledge) (place : ℕ) (next : Knowledge) (places : List ℕ)
-    → All (λ other. other ≢ place) places → at_places f keys (slice_set knowns place next) places ≡ at_places f keys knowns places
+pub at_beside : {A : Type 0} (f : ℕ → Key → Knowledge → A) (keys : List Key) (knowns : List Knowledge) (place : ℕ)
+    (next : Knowledge) (places : List ℕ)
+    → All (λ other. other ≢ place) places → at_places f keys (slice_set knowns place next) places ≡ at_places f keys
+    knowns places
 at_beside f keys knowns place next [] apart = refl
 at_beside f keys knowns place next (other ∷ places) apart =
     let differ : place ≢ other = λ e. All-head (λ o. o ≢ place) other places apart (sym e) in
@@ -125,7 +148,8 @@ at_beside f keys knowns place next (other ∷ places) apart =
     let rest = at_beside f keys knowns place next places (All-tail (λ o. o ≢ place) other places apart) in
     rw (same, rest) refl
 
-pub works_beside : (keys : List Key) (knowns : List Knowledge) (place : ℕ) (next : Knowledge) (places : List ℕ) → All (λ other. other ≢ place) places
+pub works_beside : (keys : List Key) (knowns : List Knowledge) (place : ℕ) (next : Knowledge) (places : List ℕ)
+    → All (λ other. other ≢ place) places
     → All (WorksAt keys knowns) places → All (WorksAt keys (slice_set knowns place next)) places
 works_beside keys knowns place next [] apart works = All-nil (WorksAt keys (slice_set knowns place next))
 works_beside keys knowns place next (other ∷ places) apart works =
@@ -139,28 +163,44 @@ works_beside keys knowns place next (other ∷ places) apart works =
       known_is = set_elsewhere knowns place other next differ ∙ w.known_is;
       works = w.works;
     })
-    (works_beside keys knowns place next places (All-tail (λ o. o ≢ place) other places apart) (All-tail (WorksAt keys knowns) other places works))
+    (works_beside keys knowns place next places (All-tail (λ o. o ≢ place) other places apart)
+    (All-tail (WorksAt keys knowns) other places works))
 
 -- ---- one question and its reply
 
 -- it tells what its outcome teaches, of its key alone
-pub turn_told : (l : Lawbook) (keys : List Key) (knowns : List Knowledge) (place : ℕ) (w : WorksAt keys knowns place) (reply : Reply) (objects news : List Object)
+pub turn_told : (l : Lawbook) (keys : List Key) (knowns : List Knowledge) (place : ℕ) (w : WorksAt keys knowns place)
+    (reply : Reply) (objects news : List Object)
     (old new : Past) → IsLawful keys → Held objects keys knowns → IsServed (request_about w.key w.known) reply old new
     → (n : IsNearer w.key w.known reply.outcome objects news) → (t : Turn) × (t.place ≡ place) × (t.reply ≡ reply)
-    × (t.operation ≡ operation_of (ask_about w.key w.known)) × (t.known ≡ w.known) × (t.next ≡ n.next) × Tells keys t t.heard
+    × (t.operation ≡ operation_of (ask_about w.key w.known)) × (t.known ≡ w.known) × (t.next ≡ n.next)
+    × Tells keys t t.heard
 turn_told l keys knowns place w reply objects news old new lawful held served n =
     let operation = operation_of (ask_about w.key w.known) in
     let its = held_at keys knowns place w.key w.known objects held w.key_is w.known_is in
     let asked = asked_of objects w.key (ask_about w.key w.known) (l.client.asks objects w.key w.known its w.works) in
     elim (served.serves.id_is) [
       | inl same ↦ (
-        record { place = place; operation = operation; reply = reply; known = w.known; next = n.next; heard = Some (heard_from place operation reply.outcome w.known n.next) },
+        record {
+          place = place;
+          operation = operation;
+          reply = reply;
+          known = w.known;
+          next = n.next;
+          heard = Some
+              (heard_from place operation reply.outcome w.known n.next);
+        },
         refl,
         refl,
         refl,
         refl,
         refl,
-        (refl, refl, λ ks there. heard_is keys ks place operation w.key w.known n.next reply l.plan.distinct lawful w.key_is there w.works asked same (told served.serves.operation_is) n.learnt),
+        (
+          refl,
+          refl,
+          λ ks there. heard_is keys ks place operation w.key w.known n.next reply l.plan.distinct lawful
+              w.key_is there w.works asked same (told served.serves.operation_is) n.learnt,
+        ),
       )
       | inr bare ↦ (
         record { place = place; operation = operation; reply = reply; known = w.known; next = n.next; heard = None },
@@ -184,7 +224,8 @@ turn_told l keys knowns place w reply objects news old new lawful held served n 
 -- ---- all of them in turn
 
 -- What the questions of a message did: a turn each, and the client is as many exchanges nearer to its end.
-record AllTurned (keys : List Key) (knowns : List Knowledge) (places : List ℕ) (replies : List Reply) (old new : Past) : Type 0 where
+record AllTurned (keys : List Key) (knowns : List Knowledge) (places : List ℕ) (replies : List Reply)
+    (old new : Past) : Type 0 where
   pub turns : List Turn
   pub places_are : places_of turns ≡ places
   pub replies_are : replies_of turns ≡ replies
@@ -208,34 +249,43 @@ abbrev pub MayGoOn : Bool → List ℕ → Type 0
 MayGoOn stops places = (stops ≡ false) ⊎ (length places ≤ 1)
 
 -- the first question is served, and then the others are taken
-pub first_taken : (stops : Bool) (request : Request) (parts : List (Result Request Refusal)) (replies : List Reply) (old new : Past)
+pub first_taken : (stops : Bool) (request : Request) (parts : List (Result Request Refusal)) (replies : List Reply)
+    (old new : Past)
     → (stops ≡ false) ⊎ (parts ≡ []) → AreTaken stops (Ok request ∷ parts) replies old new
-    → (reply : Reply) × (others : List Reply) × (between : Past) × (replies ≡ reply ∷ others) × IsServed request reply old between
+    → (reply : Reply) × (others : List Reply) × (between : Past) × (replies ≡ reply ∷ others)
+    × IsServed request reply old between
     × AreTaken stops parts others between new
 first_taken stops request parts [] old new on taken = absurd taken
-first_taken stops request parts (reply ∷ others) old new on (between, served, inr (goes, rest)) = (reply, others, between, refl, served, rest)
-first_taken stops request [] (reply ∷ []) old new on (between, served, inl (stop, none, same)) = (reply, [], between, refl, served, same)
+first_taken stops request parts (reply ∷ others) old new on (between, served, inr (goes, rest)) =
+    (reply, others, between, refl, served, rest)
+first_taken stops request [] (reply ∷ []) old new on (between, served, inl (stop, none, same)) =
+    (reply, [], between, refl, served, same)
 first_taken stops request [] (reply ∷ other ∷ others) old new on (between, served, inl (stop, none, same)) = absurd cc
 first_taken stops request (part ∷ parts) (reply ∷ others) old new (inl goes) (between, served, inl (stop, none, same)) =
     let t : true ≡ false = sym stop ∙ rw goes refl in absurd cc
-first_taken stops request (part ∷ parts) (reply ∷ others) old new (inr end) (between, served, inl (stop, none, same)) = absurd cc
+first_taken stops request (part ∷ parts) (reply ∷ others) old new (inr end)
+    (between, served, inl (stop, none, same)) = absurd cc
 
-none_behind : (keys : List Key) (knowns : List Knowledge) (places : List ℕ) → length places ≤ 0 → asked_at keys knowns places ≡ []
+none_behind : (keys : List Key) (knowns : List Knowledge) (places : List ℕ) → length places ≤ 0
+    → asked_at keys knowns places ≡ []
 none_behind keys knowns [] few = refl
 none_behind keys knowns (place ∷ places) few = absurd (omega (arith, few))
 
 abbrev pub part : ℕ → ℕ → Part
 part place operation = record { key = place; operation = operation }
 
-pub asked_first : (keys : List Key) (knowns : List Knowledge) (place : ℕ) (places : List ℕ) (w : WorksAt keys knowns place)
+pub asked_first : (keys : List Key) (knowns : List Knowledge) (place : ℕ) (places : List ℕ)
+    (w : WorksAt keys knowns place)
     → (requests_at keys knowns (place ∷ places) ≡ request_about w.key w.known ∷ requests_at keys knowns places)
-    × (at_places part_about keys knowns (place ∷ places) ≡ part_about place w.key w.known ∷ at_places part_about keys knowns places)
+    × (at_places part_about keys knowns (place ∷ places) ≡ part_about place w.key w.known ∷ at_places part_about keys
+    knowns places)
 asked_first keys knowns place places w = (rw (w.key_is, w.known_is) refl, rw (w.key_is, w.known_is) refl)
 
 pub same_part : (p o q r : ℕ) → p ≡ q → o ≡ r → part p o ≡ part q r
 same_part p o q r one two = rw (one, two) refl
 
-pub may_go : (keys : List Key) (knowns : List Knowledge) (stops : Bool) (place : ℕ) (places : List ℕ) → MayGoOn stops (place ∷ places)
+pub may_go : (keys : List Key) (knowns : List Knowledge) (stops : Bool) (place : ℕ) (places : List ℕ)
+    → MayGoOn stops (place ∷ places)
     → (stops ≡ false) ⊎ (asked_at keys knowns places ≡ [])
 may_go keys knowns stops place places (inl goes) = inl goes
 may_go keys knowns stops place places (inr few) = inr (none_behind keys knowns places (omega (arith, few)))
@@ -244,8 +294,10 @@ pub fewer_go : (stops : Bool) (place : ℕ) (places : List ℕ) → MayGoOn stop
 fewer_go stops place places (inl goes) = inl goes
 fewer_go stops place places (inr few) = inr (omega (arith, few))
 
-all_turned : (l : Lawbook) (keys : List Key) (stops : Bool) (places : List ℕ) (knowns : List Knowledge) (replies : List Reply) (old new : Past) → IsLawful keys
-    → IsReady old.room keys old.objects knowns → All (WorksAt keys knowns) places → AreApart places → MayGoOn stops places
+all_turned : (l : Lawbook) (keys : List Key) (stops : Bool) (places : List ℕ) (knowns : List Knowledge)
+    (replies : List Reply) (old new : Past) → IsLawful keys
+    → IsReady old.room keys old.objects knowns → All (WorksAt keys knowns) places → AreApart places
+    → MayGoOn stops places
     → AreTaken stops (asked_at keys knowns places) replies old new → AllTurned keys knowns places replies old new
 all_turned l keys stops [] knowns [] old new lawful ready works apart on taken = record {
   turns = [];
@@ -256,7 +308,8 @@ all_turned l keys stops [] knowns [] old new lawful ready works apart on taken =
   ready = subst (λ p. IsReady p.room keys p.objects knowns) (sym taken) ready;
   nearer = subst (λ p. need_all keys knowns p.objects + 0 ≡ need_all keys knowns old.objects) (sym taken) (omega arith);
   leaves_room = λ further lawful_too on its roomy.
-      subst (λ p. AreHere further p.objects × (length p.objects + missing further p.objects ≤ p.room)) (sym taken) (its, roomy);
+      subst (λ p. AreHere further p.objects × (length p.objects + missing further p.objects ≤ p.room)) (sym taken)
+      (its, roomy);
 }
 all_turned l keys stops [] knowns (reply ∷ replies) old new lawful ready works apart on taken = absurd taken
 all_turned l keys stops (place ∷ places) knowns replies old new lawful ready works apart on taken =
@@ -266,26 +319,35 @@ all_turned l keys stops (place ∷ places) knowns replies old new lawful ready w
     let (reply, others, between, replies_are, served, rest) =
     first_taken stops (request_about w.key w.known) (asked_at keys knowns places) replies old new behind
     (subst (λ rs. AreTaken stops (asks rs) replies old new) first.0 taken) in
-    let worked = is_worked l keys place old.room old.objects knowns w.key w.known lawful ready w.key_is w.known_is w.works in
+    let worked = is_worked l keys place old.room old.objects knowns w.key w.known lawful ready w.key_is w.known_is
+    w.works in
     let objects_are : between.objects ≡ served.objects = ap (λ (p : Past). p.objects) served.is in
     let room_is : between.room ≡ old.room = ap (λ (p : Past). p.room) served.is in
     let n = subst (IsNearer w.key w.known reply.outcome old.objects) (sym objects_are)
-    (phase_nearer l old.room old.objects served.objects w.key w.known w.known.phase reply.outcome refl worked served.serves.step) in
-    let goes = all_nearer l keys place old.room old.objects between.objects knowns w.key w.known reply.outcome lawful ready w.key_is w.known_is n in
+    (phase_nearer l old.room old.objects served.objects w.key w.known w.known.phase reply.outcome refl worked
+    served.serves.step) in
+    let goes = all_nearer l keys place old.room old.objects between.objects knowns w.key w.known reply.outcome lawful
+    ready w.key_is w.known_is n in
     let nexts = slice_set knowns place n.next in
     let more = all_turned l keys stops places nexts others between new lawful
     (subst (λ room. IsReady room keys between.objects nexts) (sym room_is) goes.0)
-    (works_beside keys knowns place n.next places apart.0 (All-tail (WorksAt keys knowns) place places works)) apart.1 (fewer_go stops place places on)
+    (works_beside keys knowns place n.next places apart.0 (All-tail (WorksAt keys knowns) place places works)) apart.1
+    (fewer_go stops place places on)
     (subst (λ rs. AreTaken stops (asks rs) others between new)
     (sym (at_beside (λ place key known. request_about key known) keys knowns place n.next places apart.0)) rest) in
-    let (t, at, replied, asked, was, becomes, tells) = turn_told l keys knowns place w reply old.objects between.objects old between lawful ready.held served n in
-    let set_is : slice_set knowns t.place t.next ≡ nexts = ap (λ p. slice_set knowns p t.next) at ∙ ap (slice_set knowns place) becomes in
-    let beside : All (λ other. other ≢ place) (places_of more.turns) = subst (All (λ other. other ≢ place)) (sym more.places_are) apart.0 in
+    let (t, at, replied, asked, was, becomes, tells) = turn_told l keys knowns place w reply old.objects
+    between.objects old between lawful ready.held served n in
+    let set_is : slice_set knowns t.place t.next ≡ nexts = ap (λ p. slice_set knowns p t.next) at
+    ∙ ap (slice_set knowns place) becomes in
+    let beside : All (λ other. other ≢ place) (places_of more.turns) = subst (All (λ other. other ≢ place))
+    (sym more.places_are) apart.0 in
     record {
       turns = t ∷ more.turns;
       places_are = ap (λ p. p ∷ places_of more.turns) at ∙ ap (λ ps. place ∷ ps) more.places_are;
-      replies_are = ap (λ r. r ∷ replies_of more.turns) replied ∙ ap (λ rs. reply ∷ rs) more.replies_are ∙ sym replies_are;
-      parts_are = ap (λ (p : Part). p ∷ parts_of more.turns) (same_part t.place t.operation place (operation_of (ask_about w.key w.known)) at asked)
+      replies_are = ap (λ r. r ∷ replies_of more.turns) replied ∙ ap (λ rs. reply ∷ rs) more.replies_are
+          ∙ sym replies_are;
+      parts_are = ap (λ (p : Part). p ∷ parts_of more.turns)
+          (same_part t.place t.operation place (operation_of (ask_about w.key w.known)) at asked)
           ∙ ap (λ ps. part_about place w.key w.known ∷ ps)
           (more.parts_are ∙ at_beside part_about keys knowns place n.next places apart.0) ∙ sym first.1;
       told = (
@@ -297,13 +359,16 @@ all_turned l keys stops (place ∷ places) knowns replies old new lawful ready w
       nearer =
           let one = goes.1 in
           let rest_nearer = more.nearer in
-          let is : need_all keys (set_each more.turns (slice_set knowns t.place t.next)) new.objects ≡ need_all keys (set_each more.turns nexts) new.objects =
+          let is : need_all keys (set_each more.turns (slice_set knowns t.place t.next)) new.objects ≡ need_all keys
+          (set_each more.turns nexts) new.objects =
           ap (λ ks. need_all keys (set_each more.turns ks) new.objects) set_is in
           omega (arith, one, rest_nearer, is);
       leaves_room = λ further lawful_too on its roomy.
-          let first_leaves = one_leaves l further keys place w.key old.room old.objects between.objects lawful_too on w.key_is its n.change roomy in
+          let first_leaves = one_leaves l further keys place w.key old.room old.objects between.objects lawful_too on
+          w.key_is its n.change roomy in
           more.leaves_room further lawful_too on first_leaves.0
-          (subst (λ room. length between.objects + missing further between.objects ≤ room) (sym room_is) first_leaves.1);
+          (subst (λ room. length between.objects + missing further between.objects ≤ room) (sym room_is)
+          first_leaves.1);
     }
 
 -- ---- the whole message
@@ -316,10 +381,13 @@ may_all_go stops places is = elim (cases_Bool (nat_le 2 (length places))) [
 ]
 
 -- what is known where each of its questions has a reply
-pub then_known : (l : Lawbook) (keys : List Key) (knowns : List Knowledge) (places : List ℕ) (question : Question) (given : List ℕ) (turns : List Turn)
-    → replies_of turns ≡ replies_in given → parts_of turns ≡ question.parts → places_of turns ≡ places → 1 ≤ length places → AreApart places
+pub then_known : (l : Lawbook) (keys : List Key) (knowns : List Knowledge) (places : List ℕ) (question : Question)
+    (given : List ℕ) (turns : List Turn)
+    → replies_of turns ≡ replies_in given → parts_of turns ≡ question.parts → places_of turns ≡ places
+    → 1 ≤ length places → AreApart places
     → AreTold keys knowns turns → known_then keys question (Some given) knowns ≡ set_each turns knowns
-then_known l keys knowns places question given [] replies parts at some apart told = absurd (omega (arith, some, ap length at))
+then_known l keys knowns places question given [] replies parts at some apart told =
+    absurd (omega (arith, some, ap length at))
 then_known l keys knowns places question given (t ∷ ts) replies parts at some apart told =
     let read = l.messages.read given t.reply (replies_of ts) (sym replies) in
     ap (λ r. taught_by keys question.parts knowns (hear_all keys knowns r)) read
@@ -327,18 +395,25 @@ then_known l keys knowns places question given (t ∷ ts) replies parts at some 
     ∙ taught_all keys (t ∷ ts) knowns (subst AreApart (sym at) apart) told
 
 -- what the questions of a message did, over a calm link
-turned_by : (l : Lawbook) (keys : List Key) (old new : Past) (knowns : List Knowledge) (places : List ℕ) (question : Question) (answer : Option (List ℕ))
-    → IsLawful keys → IsReady old.room keys old.objects knowns → IsAbout keys knowns places question → (calmly : Calmly old question.bytes answer new)
+turned_by : (l : Lawbook) (keys : List Key) (old new : Past) (knowns : List Knowledge) (places : List ℕ)
+    (question : Question) (answer : Option (List ℕ))
+    → IsLawful keys → IsReady old.room keys old.objects knowns → IsAbout keys knowns places question
+    → (calmly : Calmly old question.bytes answer new)
     → AllTurned keys knowns places (replies_in calmly.given) (with_asked question.bytes old) calmly.between
 turned_by l keys old new knowns places question answer lawful ready about calmly =
-    all_turned l keys (stops_in question.bytes) places knowns (replies_in calmly.given) (with_asked question.bytes old) calmly.between lawful ready about.works about.apart
+    all_turned l keys (stops_in question.bytes) places knowns (replies_in calmly.given)
+    (with_asked question.bytes old) calmly.between lawful ready about.works about.apart
     (may_all_go (stops_in question.bytes) places about.goes_on)
-    (subst (λ parts. AreTaken (stops_in question.bytes) parts (replies_in calmly.given) (with_asked question.bytes old) calmly.between) about.asks_alone calmly.taken)
+    (subst (λ parts. AreTaken (stops_in question.bytes) parts (replies_in calmly.given)
+    (with_asked question.bytes old) calmly.between) about.asks_alone calmly.taken)
 
 -- there is room still for what a plan misses that prolongs the client's
-pub room_is_left : (l : Lawbook) (further keys : List Key) (old new : Past) (knowns : List Knowledge) (places : List ℕ) (question : Question)
-    (answer : Option (List ℕ)) → IsLawful keys → IsLawful further → Prolongs further keys → Sound further old → IsReady old.room keys old.objects knowns
-    → IsAbout keys knowns places question → Calmly old question.bytes answer new → length old.objects + missing further old.objects ≤ old.room
+pub room_is_left : (l : Lawbook) (further keys : List Key) (old new : Past) (knowns : List Knowledge)
+    (places : List ℕ) (question : Question)
+    (answer : Option (List ℕ)) → IsLawful keys → IsLawful further → Prolongs further keys → Sound further old
+    → IsReady old.room keys old.objects knowns
+    → IsAbout keys knowns places question → Calmly old question.bytes answer new
+    → length old.objects + missing further old.objects ≤ old.room
     → length new.objects + missing further new.objects ≤ new.room
 room_is_left l further keys old new knowns places question answer lawful lawful_too on sound ready about calmly roomy =
     let turned = turned_by l keys old new knowns places question answer lawful ready about calmly in
@@ -346,20 +421,26 @@ room_is_left l further keys old new knowns places question answer lawful lawful_
     (turned.leaves_room further lawful_too on (sound_here l further old sound) roomy).1
 
 -- the client is ready still, and as many exchanges nearer to its end as keys are asked about
-pub turn_nearer : (l : Lawbook) (keys : List Key) (old new : Past) (knowns : List Knowledge) (places : List ℕ) (question : Question) (answer : Option (List ℕ))
-    → IsLawful keys → IsReady old.room keys old.objects knowns → IsAbout keys knowns places question → Calmly old question.bytes answer new
+pub turn_nearer : (l : Lawbook) (keys : List Key) (old new : Past) (knowns : List Knowledge) (places : List ℕ)
+    (question : Question) (answer : Option (List ℕ))
+    → IsLawful keys → IsReady old.room keys old.objects knowns → IsAbout keys knowns places question
+    → Calmly old question.bytes answer new
     → IsReady new.room keys new.objects (known_then keys question answer knowns)
-    × (need_all keys (known_then keys question answer knowns) new.objects + length places ≡ need_all keys knowns old.objects)
+    × (need_all keys (known_then keys question answer knowns) new.objects + length places ≡ need_all keys knowns
+    old.objects)
 turn_nearer l keys old new knowns places question answer lawful ready about calmly =
     let turned = turned_by l keys old new knowns places question answer lawful ready about calmly in
     let objects_are : new.objects ≡ calmly.between.objects = ap (λ (p : Past). p.objects) calmly.is in
     let room_is : new.room ≡ calmly.between.room = ap (λ (p : Past). p.room) calmly.is in
     let known_now = ap (λ a. known_then keys question a knowns) calmly.answer_is
-    ∙ then_known l keys knowns places question calmly.given turned.turns turned.replies_are (turned.parts_are ∙ sym about.parts_are) turned.places_are
+    ∙ then_known l keys knowns places question calmly.given turned.turns turned.replies_are
+    (turned.parts_are ∙ sym about.parts_are) turned.places_are
     about.some about.apart turned.told in (
       subst (λ ks. IsReady new.room keys new.objects ks) (sym known_now)
           (subst (λ room. IsReady room keys new.objects (set_each turned.turns knowns)) (sym room_is)
-          (subst (λ objects. IsReady calmly.between.room keys objects (set_each turned.turns knowns)) (sym objects_are) turned.ready)),
+          (subst (λ objects. IsReady calmly.between.room keys objects (set_each turned.turns knowns))
+          (sym objects_are) turned.ready)),
       ap (λ ks. need_all keys ks new.objects + length places) known_now
-          ∙ ap (λ objects. need_all keys (set_each turned.turns knowns) objects + length places) objects_are ∙ turned.nearer,
+          ∙ ap (λ objects. need_all keys (set_each turned.turns knowns) objects + length places) objects_are
+          ∙ turned.nearer,
     )

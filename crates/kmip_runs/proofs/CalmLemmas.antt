@@ -24,26 +24,34 @@ use Rattle.kmip_runs.proofs.KnownLemmas.{on_ok}
 
 module _ (keys : List Key) where
   -- a client that knows the truth is ready over a calm link
-  settling_from : Lawbook → (b : ClientState) (x : Seen) → b.keys ≡ keys → CalmLink keys x → Held x.past.objects b.keys b.knowns
+  settling_from : Lawbook → (b : ClientState) (x : Seen) → b.keys ≡ keys → CalmLink keys x
+      → Held x.past.objects b.keys b.knowns
       → IsSettling b x
   settling_from l b x b_keys calmly held = record {
     calm_for = subst (λ ks. x.calm (is_planned ks)) (sym b_keys) calmly.calm_for;
     ready = subst (λ ks. IsReady x.past.room ks x.past.objects b.knowns) (sym b_keys)
-        (l.ready keys x.past b.knowns calmly.sound (subst (λ ks. Held x.past.objects ks b.knowns) b_keys held) calmly.roomy);
+        (l.ready keys x.past b.knowns calmly.sound (subst (λ ks. Held x.past.objects ks b.knowns) b_keys held)
+        calmly.roomy);
   }
 
   -- begun, driven, noted and closed
-  pub settled_run : {A E : Type 0} → Lawbook → (run : Run) (a b c : ClientState) (x y z : Seen) (driven : Stop × ℕ) (ends nexts : List RunEnd) (saved : List (List Known)) (closed : Result A E)
+  pub settled_run : {A E : Type 0} → Lawbook
+      → (run : Run) (a b c : ClientState) (x y z : Seen) (driven : Stop × ℕ) (ends nexts : List RunEnd)
+      (saved : List (List Known)) (closed : Result A E)
       → a.keys ≡ keys → b.keys ≡ keys → c.keys ≡ keys
-      → (All (TrueProgress x.past.objects keys) saved → Held x.past.objects a.keys a.knowns → Held x.past.objects b.keys b.knowns)
+      → (All (TrueProgress x.past.objects keys) saved → Held x.past.objects a.keys a.knowns
+      → Held x.past.objects b.keys b.knowns)
       → (IsGood b x → IsGood c y)
       → (IsSettling b x → bound b.keys ≤ run.limit → driven.0 ≢ stops.NoMemory
-      → (driven.0 ≡ stops.AllFinished) × (driven.1 ≤ need b x.past) × (AsksOne b → driven.1 ≡ need b x.past) × (driven.1 ≤ bound b.keys))
+      → (driven.0 ≡ stops.AllFinished) × (driven.1 ≤ need b x.past) × (AsksOne b → driven.1 ≡ need b x.past)
+      × (driven.1 ≤ bound b.keys))
       → (IsSettling b x → driven.0 ≢ stops.NoMemory → Nearer b c x y driven.1)
       → driven.0 ≢ stops.NoMemory → IsNoted c.keys run c.knowns driven ends nexts
-      → ((names : Names) → y.calm names → z.calm names × OnOk closed (z.past ≡ y.past)) → Standing keys a x ends saved → CalmLink keys x
+      → ((names : Names) → y.calm names → z.calm names × OnOk closed (z.past ≡ y.past)) → Standing keys a x ends saved
+      → CalmLink keys x
       → OnOk closed (HasSettled keys run ends nexts × CalmLink keys z)
-  settled_run l run a b c x y z driven ends nexts saved closed a_keys b_keys c_keys begun good settles calms memory noted closes standing calmly =
+  settled_run l run a b c x y z driven ends nexts saved closed a_keys b_keys c_keys begun good settles calms memory
+      noted closes standing calmly =
       let held = begun standing.noted.true_saved standing.good.held in
       let after = good (good_with a b x (b_keys ∙ sym a_keys) standing.good held) in
       let settling = settling_from l b x b_keys calmly held in
@@ -57,7 +65,8 @@ module _ (keys : List Key) where
           settles = λ enough.
               let settled = settles settling (subst (λ ks. bound ks ≤ run.limit) (sym b_keys) enough) memory in (
                 noted.stop_is ∙ settled.0,
-                subst (λ n. n ≤ bound keys) (sym noted.exchanges_is) (subst (λ ks. driven.1 ≤ bound ks) b_keys settled.3),
+                subst (λ n. n ≤ bound keys) (sym noted.exchanges_is)
+                    (subst (λ ks. driven.1 ≤ bound ks) b_keys settled.3),
               );
         },
         record {

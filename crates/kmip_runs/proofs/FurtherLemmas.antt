@@ -27,21 +27,24 @@ use Rattle.kmip_runs.proofs.OnLemmas.{on_nowhere, on_then}
 use Rattle.kmip_runs.proofs.SettleLemmas.{calmly}
 
 -- where nothing is done
-pub further_nowhere : OnwardToItself → NothingPasses → (keys : List Key) (link : Seen) (whole : Type 0) → KeepsFurther keys whole link link
+pub further_nowhere : OnwardToItself → NothingPasses → (keys : List Key) (link : Seen) (whole : Type 0)
+    → KeepsFurther keys whole link link
 further_nowhere itself nothing keys link whole = record {
   good = λ further lawful prolongs good. (good, on_nowhere itself nothing further link.past);
   calmly = λ is further lawful prolongs calmly. calmly;
 }
 
 -- one after the other
-pub further_then : OnwardTwice → PassingJoins → (keys : List Key) (x y z : Seen) (first second : Type 0) → (second → first) → KeepsFurther keys first x y
+pub further_then : OnwardTwice → PassingJoins → (keys : List Key) (x y z : Seen) (first second : Type 0)
+    → (second → first) → KeepsFurther keys first x y
     → KeepsFurther keys second y z → KeepsFurther keys second x z
 further_then twice joins keys x y z first second also a b = record {
   good = λ further lawful prolongs good.
       let before = a.good further lawful prolongs good in
       let after = b.good further lawful prolongs before.0 in
       (after.0, on_then twice joins further x.past y.past z.past before.1 after.1);
-  calmly = λ is further lawful prolongs calmly. b.calmly is further lawful prolongs (a.calmly (also is) further lawful prolongs calmly);
+  calmly = λ is further lawful prolongs calmly.
+      b.calmly is further lawful prolongs (a.calmly (also is) further lawful prolongs calmly);
 }
 
 -- a link that is calm for the plan's names is honest among others of it
@@ -52,7 +55,8 @@ calm_good keys x calmly = record {
 }
 
 -- a question is asked
-asked_further : Lawbook → (keys further : List Key) (x y : Seen) (sent : List ℕ) (answered : Result (Option (List ℕ)) LinkFault) → IsLawful further
+asked_further : Lawbook → (keys further : List Key) (x y : Seen) (sent : List ℕ)
+    (answered : Result (Option (List ℕ)) LinkFault) → IsLawful further
     → Prolongs further keys → JustifiedMessage keys x.past.objects sent
     → ((keys : List Key) → x.amid keys → Sound keys x.past → JustifiedMessage keys x.past.objects sent
     → y.amid keys × ExchangedAmid keys x.past sent answered y.past)
@@ -60,7 +64,8 @@ asked_further : Lawbook → (keys further : List Key) (x y : Seen) (sent : List 
 asked_further l keys further x y sent answered lawful prolongs just goes good =
     let asked =
     All-weaker (Justified keys x.past.objects) (Justified further x.past.objects)
-    (λ request may. l.client.asked_of_prolonged x.past.objects further keys request lawful prolongs may) (requests_in sent) just in
+    (λ request may. l.client.asked_of_prolonged x.past.objects further keys request lawful prolongs may)
+    (requests_in sent) just in
     let step = goes further good.amid_for good.sound asked in
     let kept = l.amid.exchanges further x.past y.past sent answered good.sound asked step.1 in (
       record { amid_for = step.0; sound = kept.0 },
@@ -72,38 +77,45 @@ asked_further l keys further x y sent answered lawful prolongs just goes good =
     )
 
 -- and answered
-pub further_asked : Lawbook → (c : ClientState) (x y : Seen) (sent : List ℕ) (answered : Result (Option (List ℕ)) LinkFault) (places : List ℕ) (question : Question)
+pub further_asked : Lawbook → (c : ClientState) (x y : Seen) (sent : List ℕ)
+    (answered : Result (Option (List ℕ)) LinkFault) (places : List ℕ) (question : Question)
     (whole : Type 0) → IsLawful c.keys → IsAbout c.keys c.knowns places question → sent ≡ question.bytes
     → ((keys : List Key) → x.amid keys → Sound keys x.past → JustifiedMessage keys x.past.objects sent
     → y.amid keys × ExchangedAmid keys x.past sent answered y.past)
     → ((names : Names) → x.calm names → y.calm names × CalmlyExchanged names x.past sent answered y.past)
     → (whole → (answer : Option (List ℕ)) × (or_loss answered ≡ Some answer))
     → JustifiedMessage c.keys x.past.objects sent → IsGood c x → KeepsFurther c.keys whole x y
-further_asked l c x y sent answered places question whole lawful_keys about bytes goes goes_calmly answers just good = record {
-  good = λ further lawful prolongs far. asked_further l c.keys further x y sent answered lawful prolongs just goes far;
-  calmly = λ is further lawful prolongs far.
-      let far_good : GoodLink further x = calm_good further x far in
-      let after = (asked_further l c.keys further x y sent answered lawful prolongs just goes far_good).0 in
-      let step = goes_calmly (is_planned further) far.calm_for in
-      let own = goes_calmly (is_planned c.keys) ((x.fewer (is_planned further) (is_planned c.keys) (l.exchanges.names_of_prolonged further c.keys lawful prolongs)).1 far.calm_for) in
-      let answer = answers is in
-      let done =
-      subst (λ b. CalmlyExchanged (is_planned c.keys) x.past b (Ok answer.0) y.past) bytes
-      (calmly (is_planned c.keys) x.past y.past sent answered answer.0 answer.1 own.1) in
-      let roomy = far.roomy in
-      let less = l.settling.less further c.keys x.past.objects prolongs in
-      let ready = l.settling.ready c.keys x.past c.knowns good.sound good.held (omega (arith, roomy, less)) in
-      record {
-        calm_for = step.0;
-        sound = after.sound;
-        roomy = l.settling.room further c.keys (is_planned c.keys) x.past y.past c.knowns places question answer.0 lawful_keys lawful prolongs far.sound ready about done roomy;
-      };
-}
+further_asked l c x y sent answered places question whole lawful_keys about bytes goes goes_calmly answers just good =
+    record {
+      good = λ further lawful prolongs far. asked_further l c.keys further x y sent answered lawful prolongs just goes
+          far;
+      calmly = λ is further lawful prolongs far.
+          let far_good : GoodLink further x = calm_good further x far in
+          let after = (asked_further l c.keys further x y sent answered lawful prolongs just goes far_good).0 in
+          let step = goes_calmly (is_planned further) far.calm_for in
+          let own = goes_calmly (is_planned c.keys)
+          ((x.fewer (is_planned further) (is_planned c.keys)
+          (l.exchanges.names_of_prolonged further c.keys lawful prolongs)).1 far.calm_for) in
+          let answer = answers is in
+          let done =
+          subst (λ b. CalmlyExchanged (is_planned c.keys) x.past b (Ok answer.0) y.past) bytes
+          (calmly (is_planned c.keys) x.past y.past sent answered answer.0 answer.1 own.1) in
+          let roomy = far.roomy in
+          let less = l.settling.less further c.keys x.past.objects prolongs in
+          let ready = l.settling.ready c.keys x.past c.knowns good.sound good.held (omega (arith, roomy, less)) in
+          record {
+            calm_for = step.0;
+            sound = after.sound;
+            roomy = l.settling.room further c.keys (is_planned c.keys) x.past y.past c.knowns places question answer.0
+                lawful_keys lawful prolongs far.sound ready about done roomy;
+          };
+    }
 
 -- a run is closed: something is delivered, and nothing over a calm link
 pub further_closed : {E : Type 0} → Lawbook → (keys : List Key) (y z : Seen) (closed : Result (Unit {0}) E)
     → ((keys : List Key) → y.amid keys → Sound keys y.past → z.amid keys × PassedAmid keys y.past z.past)
-    → ((names : Names) → y.calm names → z.calm names × OnOk closed (z.past ≡ y.past)) → KeepsFurther keys (closed ≡ Ok tt) y z
+    → ((names : Names) → y.calm names → z.calm names × OnOk closed (z.past ≡ y.past))
+    → KeepsFurther keys (closed ≡ Ok tt) y z
 further_closed l keys y z closed ended ended_calmly = record {
   good = λ further lawful prolongs good.
       let step = ended further good.amid_for good.sound in

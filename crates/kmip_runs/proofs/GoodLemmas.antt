@@ -1,5 +1,6 @@
 -- What is good stays so over an exchange.
-use Rattle.std.proofs.Common.{◌≡◌, ℕ, List, [], ◌∷◌, Option, Some, None, Result, Ok, Err, IfSome, option_map, sym, subst, refl, ◌∙◌, arith}
+use Rattle.std.proofs.Common.{◌≡◌, ℕ, List, [], ◌∷◌, Option, Some, None, Result, Ok, Err, IfSome, option_map, sym}
+use Rattle.std.proofs.Common.{subst, refl, ◌∙◌, arith}
 use Rattle.std.specs.List.{AllZip}
 use Rattle.kmip_objects.specs.Objects.{Object}
 use Rattle.kmip_plan.specs.Plans.{IsLawful}
@@ -49,27 +50,37 @@ keeps_itself c = record { keys_stay = refl; batch_stays = refl; kept = kept_itse
 
 pub keeps_then : (a b c : ClientState) → Keeps a b → Keeps b c → Keeps a c
 keeps_then a b c first second =
-    record { keys_stay = second.keys_stay ∙ first.keys_stay; batch_stays = second.batch_stays ∙ first.batch_stays; kept = kept_then a.knowns b.knowns c.knowns first.kept second.kept }
+    record {
+      keys_stay = second.keys_stay ∙ first.keys_stay;
+      batch_stays = second.batch_stays
+          ∙ first.batch_stays;
+      kept = kept_then a.knowns b.knowns c.knowns first.kept second.kept;
+    }
 
 pub keeps_asked : (c next : ClientState) → next ≡ after_ask c → Keeps c next
-keeps_asked c next is = subst (λ n. Keeps c n) (sym is) (record { keys_stay = refl; batch_stays = refl; kept = kept_itself c.knowns })
+keeps_asked c next is =
+    subst (λ n. Keeps c n) (sym is) (record { keys_stay = refl; batch_stays = refl; kept = kept_itself c.knowns })
 
 -- ---- what goes on
 
 pub went_nowhere : (l : Lawbook) (keys : List Key) (p : Past) → WentOn keys p p
 went_nowhere l keys p = on_nowhere l.client.itself l.amid.nothing keys p
 
-pub went_then : (l : Lawbook) (keys : List Key) (old between new : Past) → WentOn keys old between → WentOn keys between new → WentOn keys old new
+pub went_then : (l : Lawbook) (keys : List Key) (old between new : Past) → WentOn keys old between
+    → WentOn keys between new → WentOn keys old new
 went_then l keys old between new first second = on_then l.client.twice l.amid.joins keys old between new first second
 
 -- what holds of the bytes that were handed over
-pub if_handed : {X : Type 0} (P : List ℕ → Type 0) (answer : Option X) (bytes : X → List ℕ) → IfSome (option_map bytes answer) P → IfSome answer (λ x. P (bytes x))
+pub if_handed : {X : Type 0} (P : List ℕ → Type 0) (answer : Option X) (bytes : X → List ℕ)
+    → IfSome (option_map bytes answer) P → IfSome answer (λ x. P (bytes x))
 if_handed P None bytes so = tt
 if_handed P (Some x) bytes so = so
 
 -- what is good is good once the question is asked, and the question may be
-pub good_asked : (c next : ClientState) (link : Seen) (asked : Option Question) (question : Question) → next ≡ after_ask c → asked ≡ Some question
-    → ((objects : List Object) → Held objects c.keys c.knowns → IfSome asked (λ q. JustifiedMessage c.keys objects q.bytes)) → IsGood c link
+pub good_asked : (c next : ClientState) (link : Seen) (asked : Option Question) (question : Question)
+    → next ≡ after_ask c → asked ≡ Some question
+    → ((objects : List Object) → Held objects c.keys c.knowns
+    → IfSome asked (λ q. JustifiedMessage c.keys objects q.bytes)) → IsGood c link
     → IsGood next link × JustifiedMessage next.keys link.past.objects question.bytes
 good_asked c next link asked question is some may good =
     let objects = link.past.objects in
@@ -87,7 +98,8 @@ pub record Left (c : ClientState) (old new : Seen) : Type 0 where
   pub held : Held new.past.objects c.keys c.knowns
   pub on : WentOn c.keys old.past new.past
 
-pub left : (l : Lawbook) (c : ClientState) (old new : Seen) (sent : List ℕ) (answered : Result (Option (List ℕ)) LinkFault) → IsLawful c.keys
+pub left : (l : Lawbook) (c : ClientState) (old new : Seen) (sent : List ℕ)
+    (answered : Result (Option (List ℕ)) LinkFault) → IsLawful c.keys
     → IsGood c old → JustifiedMessage c.keys old.past.objects sent
     → ((keys : List Key) → old.amid keys → Sound keys old.past → JustifiedMessage keys old.past.objects sent
     → new.amid keys × ExchangedAmid keys old.past sent answered new.past) → Left c old new
@@ -106,22 +118,29 @@ left l c old new sent answered lawful good just goes =
     }
 
 -- what was handed over among others, where memory did not run out
-handed_amid : (keys : List Key) (old new : Past) (sent : List ℕ) (answered : Result (Option (List ℕ)) LinkFault) (answer : Option (List ℕ))
+handed_amid : (keys : List Key) (old new : Past) (sent : List ℕ) (answered : Result (Option (List ℕ)) LinkFault)
+    (answer : Option (List ℕ))
     → or_loss answered ≡ Some answer → ExchangedAmid keys old sent answered new → HandsOverAmid keys old sent answer new
-handed_amid keys old new sent (Ok own) answer is done = subst (λ a. HandsOverAmid keys old sent a new) (answer_is own answer is) done
-handed_amid keys old new sent (Err Io) answer is done = subst (λ a. HandsOverAmid keys old sent a new) (answer_is None answer is) done
-handed_amid keys old new sent (Err Frame) answer is done = subst (λ a. HandsOverAmid keys old sent a new) (answer_is None answer is) done
+handed_amid keys old new sent (Ok own) answer is done =
+    subst (λ a. HandsOverAmid keys old sent a new) (answer_is own answer is) done
+handed_amid keys old new sent (Err Io) answer is done =
+    subst (λ a. HandsOverAmid keys old sent a new) (answer_is None answer is) done
+handed_amid keys old new sent (Err Frame) answer is done =
+    subst (λ a. HandsOverAmid keys old sent a new) (answer_is None answer is) done
 handed_amid keys old new sent (Err NoMemory) answer is done = absurd cc
 
 -- what was handed over is true
-pub told : (l : Lawbook) (keys : List Key) (old new : Past) (sent : List ℕ) (answered : Result (Option (List ℕ)) LinkFault) (answer : Option (List ℕ)) → Sound keys new
-    → or_loss answered ≡ Some answer → ExchangedAmid keys old sent answered new → IfSome answer (TrueMessage keys new.objects)
+pub told : (l : Lawbook) (keys : List Key) (old new : Past) (sent : List ℕ)
+    (answered : Result (Option (List ℕ)) LinkFault) (answer : Option (List ℕ)) → Sound keys new
+    → or_loss answered ≡ Some answer → ExchangedAmid keys old sent answered new
+    → IfSome answer (TrueMessage keys new.objects)
 told l keys old new sent answered None sound is done = tt
 told l keys old new sent answered (Some given) sound is done =
     let hands = handed_amid keys old new sent answered (Some given) is done in
     l.exchanges.answers keys new given sound (subst (λ (p : Past). AreGiven p given) (sym hands.is) hands.given)
 
-pub good_left : (c next : ClientState) (old new : Seen) → Left c old new → next.keys ≡ c.keys → Held new.past.objects next.keys next.knowns
+pub good_left : (c next : ClientState) (old new : Seen) → Left c old new → next.keys ≡ c.keys
+    → Held new.past.objects next.keys next.knowns
     → IsGood next new × WentOn c.keys old.past new.past
 good_left c next old new l keys held = (
   record {

@@ -1,5 +1,6 @@
 -- Private: what holds between two runs of a campaign.
-use Rattle.std.proofs.Common.{◌≡◌, ◌≢◌, ℕ, suc, Option, None, Result, Ok, Err, OnErr, OnOk, ◌+◌, List, [], ◌∷◌, ◌++◌, length, filter, take, slice_get, Some, sym, ap, subst, refl, ◌∙◌, arith}
+use Rattle.std.proofs.Common.{◌≡◌, ◌≢◌, ℕ, suc, Option, None, Result, Ok, Err, OnErr, OnOk, ◌+◌, List, [], ◌∷◌, ◌++◌}
+use Rattle.std.proofs.Common.{length, filter, take, slice_get, Some, sym, ap, subst, refl, ◌∙◌, arith}
 use Rattle.std.specs.Prelude.{⊤}
 use Rattle.std.proofs.lemmas.List.{length-append}
 use Rattle.std.proofs.lemmas.List.Elements.{All-nil}
@@ -32,7 +33,8 @@ use Rattle.kmip_runs.proofs.OrderLemmas.{ends_more, saved_long, saves_more, zip_
 use Rattle.kmip_runs.proofs.RememberLemmas.{Recalled, recalled_more, recalled_none}
 
 -- the first runs were made, and all is as it is to be before the next
-pub record Running (keys : List Key) (carried : List (List Known)) (c : ClientState) (start link : Seen) (runs : List Run) (notes : Notes) (at : ℕ) : Type 0 where
+pub record Running (keys : List Key) (carried : List (List Known)) (c : ClientState) (start link : Seen)
+    (runs : List Run) (notes : Notes) (at : ℕ) : Type 0 where
   pub keys_are : c.keys ≡ keys
   pub suits : All (Suits keys) notes.saved
   pub stands : GoodLink keys start → All (TrueProgress start.past.objects keys) carried
@@ -41,12 +43,14 @@ pub record Running (keys : List Key) (carried : List (List Known)) (c : ClientSt
   pub further : GoodLink keys start → All (TrueProgress start.past.objects keys) carried
       → KeepsFurther keys ⊤ start link
   pub each : AllZip (IsEnd keys) (take at runs) notes.ends
-  pub settled : CalmLink keys start → All (TrueProgress start.past.objects keys) carried → AllZip (Settles keys) (take at runs) notes.ends × CalmLink keys link
+  pub settled : CalmLink keys start → All (TrueProgress start.past.objects keys) carried
+      → AllZip (Settles keys) (take at runs) notes.ends × CalmLink keys link
   pub as_many_ends : length notes.ends ≡ at
   pub recalled : Recalled keys carried runs c start link notes.ends notes.saved
   pub as_many : length notes.saved ≡ length (filter saves (take at runs))
 
-one_longer : (old new : List RunEnd) (end : RunEnd) (at : ℕ) → length old ≡ at → new ≡ old ++ end ∷ [] → length new ≡ suc at
+one_longer : (old new : List RunEnd) (end : RunEnd) (at : ℕ) → length old ≡ at → new ≡ old ++ end ∷ []
+    → length new ≡ suc at
 one_longer old new end at is joined = ap length joined ∙ length-append old (end ∷ []) ∙ omega (arith, is)
 
 take-none : (runs : List Run) → take 0 runs ≡ []
@@ -58,12 +62,15 @@ none_each R runs = subst (λ rs. AllZip R rs []) (sym (take-none runs)) tt
 
 module _ (keys : List Key) (carried : List (List Known)) where
   -- what was carried over is true still
-  pub carried_on : Lawbook → (start link : Seen) → IsLawful keys → WentOn keys start.past link.past → All (TrueProgress start.past.objects keys) carried
+  pub carried_on : Lawbook → (start link : Seen) → IsLawful keys → WentOn keys start.past link.past
+      → All (TrueProgress start.past.objects keys) carried
       → All (TrueProgress link.past.objects keys) carried
-  carried_on l start link lawful went holds = true_onward l keys start.past.objects link.past.objects carried lawful went.onward holds
+  carried_on l start link lawful went holds = true_onward l keys start.past.objects link.past.objects carried lawful
+      went.onward holds
 
   -- what stands after one more run, whether it was broken off or not
-  pub ran_on : Lawbook → (a b : ClientState) (start x y : Seen) (runs : List Run) (at : ℕ) (whole : Type 0) (ends nexts : List RunEnd) (saved kept : List (List Known))
+  pub ran_on : Lawbook → (a b : ClientState) (start x y : Seen) (runs : List Run) (at : ℕ) (whole : Type 0)
+      (ends nexts : List RunEnd) (saved kept : List (List Known))
       → IsLawful keys → Running keys carried a start x runs (record { ends = ends; saved = saved }) at
       → (Standing keys a x ends saved → All (TrueProgress x.past.objects keys) carried
       → Standing keys b y nexts kept × WentOn keys x.past y.past)
@@ -76,10 +83,12 @@ module _ (keys : List Key) (carried : List (List Known)) where
       let (then, on) = stands standing now in (
         then,
         on_then l.twice l.joins keys start.past x.past y.past went on,
-        further_then l.twice l.joins keys start x y ⊤ whole (λ is. tt) (before.further good holds) (further standing now),
+        further_then l.twice l.joins keys start x y ⊤ whole (λ is. tt) (before.further good holds)
+            (further standing now),
       )
 
-  pub ran_off : Lawbook → (a b : ClientState) (start x y : Seen) (runs : List Run) (at : ℕ) (whole : Type 0) (ends nexts : List RunEnd) (saved kept : List (List Known))
+  pub ran_off : Lawbook → (a b : ClientState) (start x y : Seen) (runs : List Run) (at : ℕ) (whole : Type 0)
+      (ends nexts : List RunEnd) (saved kept : List (List Known))
       → IsLawful keys → b.keys ≡ keys → Running keys carried a start x runs (record { ends = ends; saved = saved }) at
       → (Standing keys a x ends saved → All (TrueProgress x.past.objects keys) carried
       → Standing keys b y nexts kept × WentOn keys x.past y.past)
@@ -87,19 +96,26 @@ module _ (keys : List Key) (carried : List (List Known)) where
       → GoodLink keys start → All (TrueProgress start.past.objects keys) carried
       → Campaigned keys start y nexts kept × KeepsFurther keys whole start y
   ran_off l a b start x y runs at whole ends nexts saved kept lawful b_keys before stands further good holds =
-      let (standing, went, kept_further) = ran_on l a b start x y runs at whole ends nexts saved kept lawful before stands further good holds in
+      let (standing, went, kept_further) = ran_on l a b start x y runs at whole ends nexts saved kept lawful before
+      stands further good holds in
       (campaigned keys b start y nexts kept b_keys (standing, went), kept_further)
 
   -- and one more run
-  pub running_more : Lawbook → (a b : ClientState) (start x y : Seen) (runs : List Run) (at : ℕ) (run : Run) (old new : CampaignEnd) → IsLawful keys
-      → slice_get runs at ≡ Some run → Running keys carried a start x runs (notes_of old) at → b.keys ≡ keys → All (Suits keys) new.saved.items
+  pub running_more : Lawbook → (a b : ClientState) (start x y : Seen) (runs : List Run) (at : ℕ) (run : Run)
+      (old new : CampaignEnd) → IsLawful keys
+      → slice_get runs at ≡ Some run → Running keys carried a start x runs (notes_of old) at → b.keys ≡ keys
+      → All (Suits keys) new.saved.items
       → (Standing keys a x old.runs.items old.saved.items → All (TrueProgress x.past.objects keys) carried
       → Standing keys b y new.runs.items new.saved.items × WentOn keys x.past y.past)
       → ((names : Names) → x.honest names → y.honest names)
-      → (Standing keys a x old.runs.items old.saved.items → All (TrueProgress x.past.objects keys) carried → KeepsFurther keys ⊤ x y)
-      → HasRun keys carried run (record { client = a; link = x; end = old }) (record { client = b; link = y; end = new })
-      → (Standing keys a x old.runs.items old.saved.items → All (TrueProgress x.past.objects keys) carried → CalmLink keys x
-      → HasSettled keys run old.runs.items new.runs.items × CalmLink keys y) → Running keys carried b start y runs (notes_of new) (at + 1)
+      → (Standing keys a x old.runs.items old.saved.items → All (TrueProgress x.past.objects keys) carried
+      → KeepsFurther keys ⊤ x y)
+      → HasRun keys carried run (record { client = a; link = x; end = old })
+      (record { client = b; link = y; end = new })
+      → (Standing keys a x old.runs.items old.saved.items → All (TrueProgress x.past.objects keys) carried
+      → CalmLink keys x
+      → HasSettled keys run old.runs.items new.runs.items × CalmLink keys y)
+      → Running keys carried b start y runs (notes_of new) (at + 1)
   running_more l a b start x y runs at run old new lawful is before b_keys suits stands still further ran settles =
       let e : at + 1 ≡ suc at = omega arith in
       subst (λ n. Running keys carried b start y runs (notes_of new) n) (sym e)
@@ -107,29 +123,37 @@ module _ (keys : List Key) (carried : List (List Known)) where
         keys_are = b_keys;
         suits = suits;
         stands = λ good holds.
-            let on = ran_on l a b start x y runs at ⊤ old.runs.items new.runs.items old.saved.items new.saved.items lawful before stands further good holds in
+            let on = ran_on l a b start x y runs at ⊤ old.runs.items new.runs.items old.saved.items new.saved.items
+            lawful before stands further good holds in
             (on.0, on.1);
         honest_still = λ names honestly. still names (before.honest_still names honestly);
         further = λ good holds.
-            (ran_on l a b start x y runs at ⊤ old.runs.items new.runs.items old.saved.items new.saved.items lawful before stands further good holds).2;
-        each = ends_more keys runs at run old.runs.items new.runs.items is before.each b.knowns ran.driven ran.ended.noted;
+            (ran_on l a b start x y runs at ⊤ old.runs.items new.runs.items old.saved.items new.saved.items lawful
+            before stands further good holds).2;
+        each = ends_more keys runs at run old.runs.items new.runs.items is before.each b.knowns ran.driven
+            ran.ended.noted;
         settled = λ calmly holds.
             let first = before.settled calmly holds in
             let good = calm_good keys start calmly in
             let (standing, went) = before.stands good holds in
             let second = settles standing (carried_on l start x lawful went holds) first.1 in (
-              zip_more (Settles keys) runs at run old.runs.items new.runs.items second.0.end is first.0 second.0.joined second.0.settles,
+              zip_more (Settles keys) runs at run old.runs.items new.runs.items second.0.end is first.0
+                  second.0.joined second.0.settles,
               second.1,
             );
-        as_many_ends = one_longer old.runs.items new.runs.items ran.ended.noted.end at before.as_many_ends ran.ended.noted.joined;
-        recalled = recalled_more keys carried runs a b start x y run old new at is before.as_many_ends before.recalled ran;
+        as_many_ends = one_longer old.runs.items new.runs.items ran.ended.noted.end at before.as_many_ends
+            ran.ended.noted.joined;
+        recalled = recalled_more keys carried runs a b start x y run old new at is before.as_many_ends before.recalled
+            ran;
         as_many = saves_more runs at run (length old.saved.items) (length new.saved.items) is before.as_many
             (saved_long run b.knowns old.saved.items new.saved.items ran.ended.saved_are);
       })
 
   -- before the first
-  pub running_none : Lawbook → (c : ClientState) (x : Seen) (runs : List Run) (ends : List RunEnd) (saved : List (List Known)) → c ≡ fresh keys
-      → ((objects : List Object) → Held objects c.keys c.knowns) → ends ≡ [] → saved ≡ [] → Running keys carried c x x runs (record { ends = ends; saved = saved }) 0
+  pub running_none : Lawbook → (c : ClientState) (x : Seen) (runs : List Run) (ends : List RunEnd)
+      (saved : List (List Known)) → c ≡ fresh keys
+      → ((objects : List Object) → Held objects c.keys c.knowns) → ends ≡ [] → saved ≡ []
+      → Running keys carried c x x runs (record { ends = ends; saved = saved }) 0
   running_none l c x runs ends saved is held no_end none_saved =
       let c_keys = ap (λ (s : ClientState). s.keys) is in
       record {
@@ -141,12 +165,14 @@ module _ (keys : List Key) (carried : List (List Known)) where
         each = rw no_end (none_each (IsEnd keys) runs);
         settled = λ calmly holds. (rw no_end (none_each (Settles keys) runs), calmly);
         as_many_ends = ap length no_end;
-        recalled = recalled_none keys carried runs c x ends saved (ap (λ (s : ClientState). s.knowns) is) no_end none_saved;
+        recalled = recalled_none keys carried runs c x ends saved (ap (λ (s : ClientState). s.knowns) is) no_end
+            none_saved;
         as_many = ap length none_saved ∙ sym (ap (λ rs. length (filter saves rs)) (take-none runs));
       }
 
   -- no client was there to begin with
-  pub ran_nothing : Lawbook → (x : Seen) (whole : Type 0) (ends : List RunEnd) (saved : List (List Known)) → ends ≡ [] → saved ≡ [] → GoodLink keys x
+  pub ran_nothing : Lawbook → (x : Seen) (whole : Type 0) (ends : List RunEnd) (saved : List (List Known)) → ends ≡ []
+      → saved ≡ [] → GoodLink keys x
       → Campaigned keys x x ends saved × KeepsFurther keys whole x x
   ran_nothing l x whole ends saved no_end none_saved good = (
     record {
@@ -158,13 +184,16 @@ module _ (keys : List Key) (carried : List (List Known)) where
   )
 
   -- a run is begun and driven
-  pub driven_further : (a b : ClientState) (x y : Seen) (stop : Stop) (ends : List RunEnd) (saved : List (List Known)) → a.keys ≡ keys → b.keys ≡ keys
-      → (All (TrueProgress x.past.objects keys) saved → Held x.past.objects a.keys a.knowns → Held x.past.objects b.keys b.knowns)
+  pub driven_further : (a b : ClientState) (x y : Seen) (stop : Stop) (ends : List RunEnd) (saved : List (List Known))
+      → a.keys ≡ keys → b.keys ≡ keys
+      → (All (TrueProgress x.past.objects keys) saved → Held x.past.objects a.keys a.knowns
+      → Held x.past.objects b.keys b.knowns)
       → (IsGood b x → KeepsFurther b.keys (stop ≢ stops.NoMemory) x y) → Standing keys a x ends saved
       → KeepsFurther keys (stop ≢ stops.NoMemory) x y
   driven_further a b x y stop ends saved a_keys b_keys begun further standing =
       subst (λ ks. KeepsFurther ks (stop ≢ stops.NoMemory) x y) b_keys
-      (further (good_with a b x (b_keys ∙ sym a_keys) standing.good (begun standing.noted.true_saved standing.good.held)))
+      (further (good_with a b x (b_keys ∙ sym a_keys) standing.good
+      (begun standing.noted.true_saved standing.good.held)))
 
 -- ---- all runs
 
@@ -184,12 +213,15 @@ pub of_ok : {E : Type 0} (r : Result (Unit {0}) E) (fault : Option E) → fault 
 of_ok (Ok tt) fault is ok = is
 of_ok (Err e) fault is ok = absurd cc
 
-pub if_fault : {E P : Type 0} (r : Result (Unit {0}) E) (fault : Option E) → fault ≡ result_err r → fault ≢ None → OnErr r P → P
+pub if_fault : {E P : Type 0} (r : Result (Unit {0}) E) (fault : Option E) → fault ≡ result_err r → fault ≢ None
+    → OnErr r P → P
 if_fault (Ok tt) fault is some holds = absurd (some is)
 if_fault (Err e) fault is some holds = holds
 
-pub known_if : (keys : List Key) (carried : List (List Known)) (runs : List Run) (notes : Notes) (honest whole other : Type 0) (old new : Past)
-    → (other → whole) → AreKnownFrom keys carried runs notes honest whole old new → AreKnownFrom keys carried runs notes honest other old new
+pub known_if : (keys : List Key) (carried : List (List Known)) (runs : List Run) (notes : Notes)
+    (honest whole other : Type 0) (old new : Past)
+    → (other → whole) → AreKnownFrom keys carried runs notes honest whole old new
+    → AreKnownFrom keys carried runs notes honest other old new
 known_if keys carried runs notes honest whole other old new to known = record {
   known = known.known;
   shown = known.shown;

@@ -1,5 +1,6 @@
 -- What exchanges keep and teach, one after the other.
-use Rattle.std.proofs.Common.{◌≡◌, ◌≢◌, ℕ, ◌+◌, List, [], ◌∷◌, ◌++◌, length, flat_map, Option, Result, Ok, OnOk, sym, ap, subst, refl, inl, inr, ◌⊎◌, ◌≤◌, ◌∙◌, append_assoc, append-nil, arith}
+use Rattle.std.proofs.Common.{◌≡◌, ◌≢◌, ℕ, ◌+◌, List, [], ◌∷◌, ◌++◌, length, flat_map, Option, Result, Ok, OnOk, sym}
+use Rattle.std.proofs.Common.{ap, subst, refl, inl, inr, ◌⊎◌, ◌≤◌, ◌∙◌, append_assoc, append-nil, arith}
 use Rattle.std.proofs.lemmas.List.{length-append}
 use Rattle.std.proofs.lemmas.List.Concat.{flat_map-append}
 use Rattle.std.proofs.lemmas.List.Elements.{All-append, All-nil}
@@ -20,7 +21,8 @@ use Rattle.kmip_protocol.specs.Seen.{Seen}
 use Rattle.kmip_protocol.specs.Sound.{Sound}
 use Rattle.kmip_protocol.specs.Ready.{IsReady}
 use Rattle.kmip_runs.specs.PrivateLawbook.{Lawbook}
-use Rattle.kmip_runs.specs.Driving.{AsksOne, IsGood, IsQuestion, Keeps, Learnt, LearntUntil, TakesNothingBack, WentOn, need}
+use Rattle.kmip_runs.specs.Driving.{AsksOne, IsGood, IsQuestion, Keeps, Learnt, LearntUntil, TakesNothingBack, WentOn}
+use Rattle.kmip_runs.specs.Driving.{need}
 use Rattle.kmip_runs.specs.declared.stop.Stop.{Stop}
 use Rattle.kmip_runs.specs.declared.stop.Stop.TheVariants as stops
 use Rattle.kmip_runs.specs.PrivateCarried.{Went}
@@ -56,7 +58,12 @@ keeps_itself c = record { keys_stay = refl; batch_stays = refl; kept = kept_itse
 
 keeps_then : (a b c : ClientState) → Keeps a b → Keeps b c → Keeps a c
 keeps_then a b c first second =
-    record { keys_stay = second.keys_stay ∙ first.keys_stay; batch_stays = second.batch_stays ∙ first.batch_stays; kept = kept_then a.knowns b.knowns c.knowns first.kept second.kept }
+    record {
+      keys_stay = second.keys_stay ∙ first.keys_stay;
+      batch_stays = second.batch_stays
+          ∙ first.batch_stays;
+      kept = kept_then a.knowns b.knowns c.knowns first.kept second.kept;
+    }
 
 -- ---- what exchanges teach
 
@@ -65,19 +72,22 @@ known_append : (keys : List Key) (knowns : List Knowledge) (xs ys : List (Option
 known_append keys knowns [] ys = refl
 known_append keys knowns (x ∷ xs) ys = known_append keys (heard keys knowns x) xs ys
 
-known_blind : HearingIsBlind → (keys : List Key) (xs ys : List Knowledge) (answers : List (Option (List ℕ))) → facts xs ≡ facts ys
+known_blind : HearingIsBlind → (keys : List Key) (xs ys : List Knowledge) (answers : List (Option (List ℕ)))
+    → facts xs ≡ facts ys
     → facts (known_after keys xs answers) ≡ facts (known_after keys ys answers)
 known_blind blind keys xs ys [] same = same
 known_blind blind keys xs ys (answer ∷ answers) same =
     known_blind blind keys (heard keys xs answer) (heard keys ys answer) answers (blind keys xs ys answer same)
 
-pub joined : {A : Type 0} (old between new xs ys : List A) → between ≡ old ++ xs → new ≡ between ++ ys → new ≡ old ++ (xs ++ ys)
+pub joined : {A : Type 0} (old between new xs ys : List A) → between ≡ old ++ xs → new ≡ between ++ ys
+    → new ≡ old ++ (xs ++ ys)
 joined old between new xs ys first second = second ∙ ap (λ zs. zs ++ ys) first ∙ append_assoc old xs ys
 
 as_many : {A : Type 0} (xs ys : List A) (m n : ℕ) → length xs ≡ m → length ys ≡ n → length (xs ++ ys) ≡ m + n
 as_many xs ys m n first second = length-append xs ys ∙ ap (λ k. k + length ys) first ∙ ap (λ k. m + k) second
 
-pub learnt_nothing : (keys : List Key) (most : ℕ) (p : Past) (knowns : List Knowledge) → Learnt keys most p p knowns knowns 0
+pub learnt_nothing : (keys : List Key) (most : ℕ) (p : Past) (knowns : List Knowledge)
+    → Learnt keys most p p knowns knowns 0
 learnt_nothing keys most p knowns = record {
   questions = [];
   answers = [];
@@ -90,7 +100,8 @@ learnt_nothing keys most p knowns = record {
   known_is = refl;
 }
 
-pub learnt_then : HearingIsBlind → (keys : List Key) (most : ℕ) (old between new : Past) (knowns known nexts : List Knowledge) (m n : ℕ) → Learnt keys most old between knowns known m
+pub learnt_then : HearingIsBlind → (keys : List Key) (most : ℕ) (old between new : Past)
+    (knowns known nexts : List Knowledge) (m n : ℕ) → Learnt keys most old between knowns known m
     → Learnt keys most between new known nexts n → Learnt keys most old new knowns nexts (m + n)
 learnt_then blind keys most old between new knowns known nexts m n a b = record {
   questions = a.questions ++ b.questions;
@@ -98,7 +109,8 @@ learnt_then blind keys most old between new knowns known nexts m n a b = record 
   sent_are = joined old.sent between.sent new.sent a.questions b.questions a.sent_are b.sent_are;
   handed_are = joined old.handed between.handed new.handed a.answers b.answers a.handed_are b.handed_are;
   requests_are =
-      joined old.requests between.requests new.requests (flat_map requests_in a.questions) (flat_map requests_in b.questions) a.requests_are b.requests_are
+      joined old.requests between.requests new.requests (flat_map requests_in a.questions)
+      (flat_map requests_in b.questions) a.requests_are b.requests_are
       ∙ ap (λ rs. old.requests ++ rs) (sym (flat_map-append requests_in a.questions b.questions));
   as_many_questions = as_many a.questions b.questions m n a.as_many_questions b.as_many_questions;
   as_many_answers = as_many a.answers b.answers m n a.as_many_answers b.as_many_answers;
@@ -109,7 +121,8 @@ learnt_then blind keys most old between new knowns known nexts m n a b = record 
 }
 
 -- whatever happens between exchanges teaches nothing
-pub learnt_delivered : DeliveriesKeepTheRequests → (keys : List Key) (most : ℕ) (names : Names) (old new : Past) (knowns : List Knowledge) → Delivered names old new
+pub learnt_delivered : DeliveriesKeepTheRequests
+    → (keys : List Key) (most : ℕ) (names : Names) (old new : Past) (knowns : List Knowledge) → Delivered names old new
     → Learnt keys most old new knowns knowns 0
 learnt_delivered requests keys most names old new knowns done =
     let grows = requests names old new done in
@@ -128,7 +141,8 @@ learnt_delivered requests keys most names old new knowns done =
 -- ---- until memory ran out
 
 -- exchanges, and then those until memory ran out
-pub until_then : HearingIsBlind → (keys : List Key) (most : ℕ) (old between new : Past) (knowns known nexts : List Knowledge) (m n : ℕ) → Learnt keys most old between knowns known m
+pub until_then : HearingIsBlind → (keys : List Key) (most : ℕ) (old between new : Past)
+    (knowns known nexts : List Knowledge) (m n : ℕ) → Learnt keys most old between knowns known m
     → LearntUntil keys most between new known nexts n → LearntUntil keys most old new knowns nexts (m + n)
 until_then blind keys most old between new knowns known nexts m n a b = record {
   between = b.between;
@@ -141,7 +155,9 @@ until_then blind keys most old between new knowns known nexts m n a b = record {
 }
 
 -- and what happens behind them
-pub until_delivered : DeliveriesKeepTheRequests → (keys : List Key) (most : ℕ) (names : Names) (old mid new : Past) (knowns nexts : List Knowledge) (n : ℕ) → Delivered names mid new
+pub until_delivered : DeliveriesKeepTheRequests
+    → (keys : List Key) (most : ℕ) (names : Names) (old mid new : Past) (knowns nexts : List Knowledge) (n : ℕ)
+    → Delivered names mid new
     → LearntUntil keys most old mid knowns nexts n → LearntUntil keys most old new knowns nexts n
 until_delivered requests keys most names old mid new knowns nexts n done a =
     let grows = requests names mid new done in
@@ -156,7 +172,11 @@ until_delivered requests keys most names old mid new knowns nexts n done a =
               record {
                 asked = elim unmade.1.asked [
                   | inl none ↦ inl (grows.requests ∙ none)
-                  | inr more ↦ inr (record { question = more.question; is_question = more.is_question; requests_are = grows.requests ∙ more.requests_are })
+                  | inr more ↦ inr (record {
+                    question = more.question;
+                    is_question = more.is_question;
+                    requests_are = grows.requests ∙ more.requests_are;
+                  })
                 ];
                 sent_stays = grows.sent ∙ unmade.1.sent_stays;
                 handed_stays = grows.handed ∙ unmade.1.handed_stays;
@@ -179,7 +199,9 @@ until_delivered requests keys most names old mid new knowns nexts n done a =
     }
 
 -- memory ran out only behind them
-pub until_behind : DeliveriesKeepTheRequests → (keys : List Key) (most : ℕ) (names : Names) (old mid new : Past) (knowns nexts : List Knowledge) (n : ℕ) → Delivered names mid new
+pub until_behind : DeliveriesKeepTheRequests
+    → (keys : List Key) (most : ℕ) (names : Names) (old mid new : Past) (knowns nexts : List Knowledge) (n : ℕ)
+    → Delivered names mid new
     → Learnt keys most old mid knowns nexts n → LearntUntil keys most old new knowns nexts n
 until_behind requests keys most names old mid new knowns nexts n done a =
     let grows = requests names mid new done in
@@ -192,23 +214,32 @@ until_behind requests keys most names old mid new knowns nexts n done a =
 
 -- ---- nothing that was asked is taken back
 
-grown_by : {A : Type 0} (old between new : List A) → (xs : List A) × (between ≡ old ++ xs) → (ys : List A) × (new ≡ between ++ ys) → (zs : List A) × (new ≡ old ++ zs)
+grown_by : {A : Type 0} (old between new : List A) → (xs : List A) × (between ≡ old ++ xs) → (ys : List A)
+    × (new ≡ between ++ ys) → (zs : List A) × (new ≡ old ++ zs)
 grown_by old between new first second = (first.0 ++ second.0, joined old between new first.0 second.0 first.1 second.1)
 
 still : {A : Type 0} (old new : List A) → new ≡ old → (more : List A) × (new ≡ old ++ more)
 still old new same = ([], same ∙ sym (append-nil old))
 
 grown_itself : (p : Past) → TakesNothingBack p p
-grown_itself p = record { requests = still p.requests p.requests refl; sent = still p.sent p.sent refl; handed = still p.handed p.handed refl }
+grown_itself p =
+    record {
+      requests = still p.requests p.requests refl;
+      sent = still p.sent p.sent refl;
+      handed = still p.handed
+          p.handed refl;
+    }
 
-grown_then : (old between new : Past) → TakesNothingBack old between → TakesNothingBack between new → TakesNothingBack old new
+grown_then : (old between new : Past) → TakesNothingBack old between → TakesNothingBack between new
+    → TakesNothingBack old new
 grown_then old between new first second = record {
   requests = grown_by old.requests between.requests new.requests first.requests second.requests;
   sent = grown_by old.sent between.sent new.sent first.sent second.sent;
   handed = grown_by old.handed between.handed new.handed first.handed second.handed;
 }
 
-grown_delivered : DeliveriesKeepTheRequests → (names : Names) (old new : Past) → Delivered names old new → TakesNothingBack old new
+grown_delivered : DeliveriesKeepTheRequests → (names : Names) (old new : Past) → Delivered names old new
+    → TakesNothingBack old new
 grown_delivered requests names old new done =
     let grows = requests names old new done in
     record {
@@ -255,7 +286,8 @@ went_unbegun l a = record {
   near = λ settling whole. absurd (whole refl);
 }
 
-pub went_then : Lawbook → (a b c : Situation) (stop : Stop) (result : Result Stop SaveFault) (m n : ℕ) → stop ≢ stops.NoMemory
+pub went_then : Lawbook → (a b c : Situation) (stop : Stop) (result : Result Stop SaveFault) (m n : ℕ)
+    → stop ≢ stops.NoMemory
     → Went a b (Ok stop) m → Went b c result n → Went a c result (m + n)
 went_then l a b c stop result m n memory first second =
     let in_memory : IsInMemory (Ok stop) = λ is. memory (stop_is stop stops.NoMemory is) in
@@ -271,18 +303,24 @@ went_then l a b c stop result m n memory first second =
           let after = second.learns (subst (λ ks. b.link.honest (is_planned ks)) (sym keys) before.0) in (
             subst (λ ks. c.link.honest (is_planned ks)) keys after.0,
             λ whole.
-                learnt_then l.client.blind a.client.keys a.client.batch a.link.past b.link.past c.link.past a.client.knowns b.client.knowns c.client.knowns m n (before.1 in_memory)
+                learnt_then l.client.blind a.client.keys a.client.batch a.link.past b.link.past c.link.past
+                a.client.knowns b.client.knowns c.client.knowns m n (before.1 in_memory)
                 (subst (λ ks. Learnt ks a.client.batch b.link.past c.link.past b.client.knowns c.client.knowns n) keys
-                (subst (λ most. Learnt b.client.keys most b.link.past c.link.past b.client.knowns c.client.knowns n) first.keeps.batch_stays (after.1 whole))),
+                (subst (λ most. Learnt b.client.keys most b.link.past c.link.past b.client.knowns c.client.knowns n)
+                first.keeps.batch_stays (after.1 whole))),
           );
       broken = λ holds is.
           let before = first.learns holds in
           let after = second.broken (subst (λ ks. b.link.honest (is_planned ks)) (sym keys) before.0) is in
-          until_then l.client.blind a.client.keys a.client.batch a.link.past b.link.past c.link.past a.client.knowns b.client.knowns c.client.knowns m n (before.1 in_memory)
+          until_then l.client.blind a.client.keys a.client.batch a.link.past b.link.past c.link.past a.client.knowns
+          b.client.knowns c.client.knowns m n (before.1 in_memory)
           (subst (λ ks. LearntUntil ks a.client.batch b.link.past c.link.past b.client.knowns c.client.knowns n) keys
-          (subst (λ most. LearntUntil b.client.keys most b.link.past c.link.past b.client.knowns c.client.knowns n) first.keeps.batch_stays after));
+          (subst (λ most. LearntUntil b.client.keys most b.link.past c.link.past b.client.knowns c.client.knowns n)
+          first.keeps.batch_stays after));
       takes_nothing_back = λ holds.
-          grown_then a.link.past b.link.past c.link.past (first.takes_nothing_back holds) (second.takes_nothing_back (subst (λ ks. b.link.honest (is_planned ks)) (sym keys) (first.learns holds).0));
+          grown_then a.link.past b.link.past c.link.past (first.takes_nothing_back holds)
+          (second.takes_nothing_back (subst (λ ks. b.link.honest (is_planned ks)) (sym keys)
+          (first.learns holds).0));
       keeps = keeps_then a.client b.client c.client first.keeps second.keeps;
       near = λ settling whole.
           let before = first.near settling memory in
@@ -290,12 +328,18 @@ went_then l a b c stop result m n memory first second =
           record {
             settling = after.settling;
             nearer = omega (arith, before.nearer, after.nearer);
-            exactly = λ one. omega (arith, before.exactly one, after.exactly (asks_one a.client b.client first.keeps one));
+            exactly = λ one. omega (
+              arith,
+              before.exactly one,
+              after.exactly
+                  (asks_one a.client b.client first.keeps one),
+            );
           };
     }
 
 -- what may happen meanwhile goes onward
-pub went_passed : Lawbook → (keys : List Key) (old new : Past) → Sound keys old → PassedAmid keys old new → WentOn keys old new
+pub went_passed : Lawbook → (keys : List Key) (old new : Past) → Sound keys old → PassedAmid keys old new
+    → WentOn keys old new
 went_passed l keys old new sound passed = record {
   onward = (l.amid.passing keys old new sound passed).1;
   mirrored = λ image. l.amid.image_passing keys old new sound image passed;
@@ -303,12 +347,16 @@ went_passed l keys old new sound passed = record {
 }
 
 -- the end of the run, after these exchanges
-pub went_closed : {V E : Type 0} → Lawbook → (a b : Situation) (z : Seen) (result ended : Result Stop SaveFault) (closed : Result V E) (m : ℕ) → IsLawful a.client.keys
+pub went_closed : {V E : Type 0} → Lawbook
+    → (a b : Situation) (z : Seen) (result ended : Result Stop SaveFault) (closed : Result V E) (m : ℕ)
+    → IsLawful a.client.keys
     → ((names : Names) → b.link.honest names → z.honest names × Delivered names b.link.past z.past)
     → ((keys : List Key) → b.link.amid keys → Sound keys b.link.past → z.amid keys × PassedAmid keys b.link.past z.past)
-    → ((names : Names) → b.link.calm names → z.calm names × OnOk closed (z.past ≡ b.link.past)) → (IsInMemory ended → IsInMemory result)
+    → ((names : Names) → b.link.calm names → z.calm names × OnOk closed (z.past ≡ b.link.past))
+    → (IsInMemory ended → IsInMemory result)
     → (ended ≡ Ok stops.NoMemory → (result ≡ Ok stops.NoMemory) ⊎ IsInMemory result)
-    → (IsWhole ended → IsWhole result × (OnOk closed (z.past ≡ b.link.past) → z.past ≡ b.link.past)) → Went a b result m → Went a (record b { link = z }) ended m
+    → (IsWhole ended → IsWhole result × (OnOk closed (z.past ≡ b.link.past) → z.past ≡ b.link.past))
+    → Went a b result m → Went a (record b { link = z }) ended m
 went_closed l a b z result ended closed m lawful delivers passes calms memory cut whole first =
     let keys = first.keeps.keys_stay in
     record {
@@ -323,20 +371,28 @@ went_closed l a b z result ended closed m lawful delivers passes calms memory cu
             step.0,
             λ in_memory.
                 let none : m + 0 ≡ m = omega arith in
-                subst (λ n. Learnt a.client.keys a.client.batch a.link.past z.past a.client.knowns b.client.knowns n) none
-                (learnt_then l.client.blind a.client.keys a.client.batch a.link.past b.link.past z.past a.client.knowns b.client.knowns b.client.knowns m 0 (before.1 (memory in_memory))
-                (learnt_delivered l.exchanges.requests_stay a.client.keys a.client.batch (is_planned a.client.keys) b.link.past z.past b.client.knowns step.1)),
+                subst (λ n. Learnt a.client.keys a.client.batch a.link.past z.past a.client.knowns b.client.knowns n)
+                none
+                (learnt_then l.client.blind a.client.keys a.client.batch a.link.past b.link.past z.past
+                a.client.knowns b.client.knowns b.client.knowns m 0 (before.1 (memory in_memory))
+                (learnt_delivered l.exchanges.requests_stay a.client.keys a.client.batch (is_planned a.client.keys)
+                b.link.past z.past b.client.knowns step.1)),
           );
       broken = λ holds is.
           let before = first.learns holds in
           let step = delivers (is_planned a.client.keys) before.0 in
           elim (cut is) [
-            | inl so ↦ until_delivered l.exchanges.requests_stay a.client.keys a.client.batch (is_planned a.client.keys) a.link.past b.link.past z.past a.client.knowns b.client.knowns m step.1 (first.broken holds so)
-            | inr in_memory ↦ until_behind l.exchanges.requests_stay a.client.keys a.client.batch (is_planned a.client.keys) a.link.past b.link.past z.past a.client.knowns b.client.knowns m step.1 (before.1 in_memory)
+            | inl so ↦ until_delivered l.exchanges.requests_stay a.client.keys a.client.batch
+                (is_planned a.client.keys) a.link.past b.link.past z.past a.client.knowns b.client.knowns m step.1
+                (first.broken holds so)
+            | inr in_memory ↦ until_behind l.exchanges.requests_stay a.client.keys a.client.batch
+                (is_planned a.client.keys) a.link.past b.link.past z.past a.client.knowns b.client.knowns m step.1
+                (before.1 in_memory)
           ];
       takes_nothing_back = λ holds.
           let step = delivers (is_planned a.client.keys) (first.learns holds).0 in
-          grown_then a.link.past b.link.past z.past (first.takes_nothing_back holds) (grown_delivered l.exchanges.requests_stay (is_planned a.client.keys) b.link.past z.past step.1);
+          grown_then a.link.past b.link.past z.past (first.takes_nothing_back holds)
+          (grown_delivered l.exchanges.requests_stay (is_planned a.client.keys) b.link.past z.past step.1);
       keeps = first.keeps;
       near = λ settling done.
           let held = whole done in
@@ -346,10 +402,12 @@ went_closed l a b z result ended closed m lawful delivers passes calms memory cu
           record {
             settling = record {
               calm_for = step.0;
-              ready = subst (λ (p : Past). IsReady p.room b.client.keys p.objects b.client.knowns) (sym same) before.settling.ready;
+              ready = subst (λ (p : Past). IsReady p.room b.client.keys p.objects b.client.knowns) (sym same)
+                  before.settling.ready;
             };
             nearer = subst (λ (p : Past). m + need b.client p ≤ need a.client a.link.past) (sym same) before.nearer;
-            exactly = λ one. subst (λ (p : Past). m + need b.client p ≡ need a.client a.link.past) (sym same) (before.exactly one);
+            exactly = λ one. subst (λ (p : Past). m + need b.client p ≡ need a.client a.link.past) (sym same)
+                (before.exactly one);
           };
     }
   where
@@ -361,7 +419,8 @@ went_closed l a b z result ended closed m lawful delivers passes calms memory cu
           record {
             amid_for = step.0;
             sound = kept.0;
-            held = l.client.known_for_good b.client.keys b.client.knowns b.link.past.objects z.past.objects (subst (λ ks. IsLawful ks) (sym first.keeps.keys_stay) lawful) on good.held;
+            held = l.client.known_for_good b.client.keys b.client.knowns b.link.past.objects z.past.objects
+                (subst (λ ks. IsLawful ks) (sym first.keeps.keys_stay) lawful) on good.held;
           },
           record {
             onward = on;

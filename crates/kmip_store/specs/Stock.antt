@@ -98,7 +98,9 @@ most_room = 10000
 -- What holds of the records at all times: there are no more rows than there is room for, and room for at most
 -- 10,000. Identifiers are numbered by place, names are distinct, and attributes are in their ranges.
 pub record IsKept (rows : List Row) (room : ℕ) : Type 0 where
+  -- There are no more rows than there is room for.
   pub within : length rows ≤ room
+  -- There is room for at most 10,000.
   pub small : room ≤ most_room
   -- Identifiers are numbered by place.
   pub numbered : AreNumbered 0 rows

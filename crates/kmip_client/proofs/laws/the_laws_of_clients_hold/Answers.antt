@@ -11,7 +11,11 @@ use Rattle.kmip_client.proofs.laws.the_laws_of_clients_hold.Goals as goal
 pub returns : goal.returns
 returns c =
     let plans = c.the_laws_of_plans_hold.ensures in
-    let ways : Ways = record { reached = plans.no_less; places = plans.step_places; state_places = plans.state_places } in
+    let ways : Ways = record {
+      reached = plans.no_less;
+      places = plans.step_places;
+      state_places = plans.state_places;
+    } in
     record {
       itself = λ keys objects key planned. stays_itself key objects;
       twice = λ keys old between new first second key planned.
@@ -35,7 +39,8 @@ returns c =
       told_of_prolonged = outcome_of ways;
       blind = heard_blind;
       losses_teach_nothing = lost_facts;
-      heard = λ objects keys replies knowns held so. held_by_each objects keys replies knowns plans.places_within held so;
+      heard = λ objects keys replies knowns held so.
+          held_by_each objects keys replies knowns plans.places_within held so;
       lost = lost_held;
       settled = settled_none;
       no_conflict = held_no_conflict;

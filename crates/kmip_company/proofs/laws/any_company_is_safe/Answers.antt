@@ -8,5 +8,6 @@ returns c = λ keys p events lawful opening may.
     let l = c.the_laws_below_hold.ensures in
     let good = nobody_good keys p (l.exchanges.begins keys p opening) in
     let image = l.exchanges.opening keys p opening in
-    safe_company l keys (after_events keys events (nobody p)) lawful (good_events l keys events (nobody p) lawful good may).0
+    safe_company l keys (after_events keys events (nobody p)) lawful
+    (good_events l keys events (nobody p) lawful good may).0
     (image_events l keys events (nobody p) lawful good image may)

@@ -7,10 +7,13 @@ pub returns-clause-begin : goal.returns-clause-begin
 returns-clause-begin c = nobody_good
 
 pub returns-clause-good : goal.returns-clause-good
-returns-clause-good c = λ keys w events lawful good may. good_events c.the_laws_below_hold.ensures keys events w lawful good may
+returns-clause-good c =
+    λ keys w events lawful good may. good_events c.the_laws_below_hold.ensures keys events w lawful good may
 
 pub returns-clause-image : goal.returns-clause-image
-returns-clause-image c = λ keys w events lawful good image may. image_events c.the_laws_below_hold.ensures keys events w lawful good image may
+returns-clause-image c =
+    λ keys w events lawful good image may. image_events c.the_laws_below_hold.ensures keys events w lawful good image
+    may
 
 pub returns-clause-safe : goal.returns-clause-safe
 returns-clause-safe c = λ keys w lawful good image. safe_company c.the_laws_below_hold.ensures keys w lawful good image

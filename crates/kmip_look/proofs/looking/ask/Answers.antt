@@ -16,7 +16,8 @@ returns-in_err-heard g c =
           let all = c.put.ensures.honestly names honest in
           record {
             still = all.0;
-            few = sends_looks c.args.keys.now c.args.lookeds.now.items c.args.part c.args.mark.now c.args.requests.now (g.L.Link.seen c.args.link.now).past
+            few = sends_looks c.args.keys.now c.args.lookeds.now.items c.args.part c.args.mark.now c.args.requests.now
+                (g.L.Link.seen c.args.link.now).past
                 (g.L.Link.seen c.put.new.link).past c.requires.asks all.1;
             goes = tt;
           };
@@ -38,24 +39,28 @@ returns g c =
     let new = (g.L.Link.seen c.put.new.link).past in
     let fits = c.in_ok-heard.ensures.fits in
     record {
-      shaped = on_ok c.hear_each.result (λ is. shaped_by part mark why replies keys olds news fits is c.requires.shaped) c.hear_each.ensures;
+      shaped = on_ok c.hear_each.result (λ is.
+          shaped_by part mark why replies keys olds news fits is c.requires.shaped) c.hear_each.ensures;
       honestly = λ names honest.
           let (still, puts, has) = c.in_ok-heard.ensures.honestly names honest in
           record {
             still = still;
             few = sends_looks keys olds part mark requests old new c.requires.asks puts;
             goes = on_ok c.hear_each.result
-                (λ is. goes_by c.the_laws_below_hold.ensures names part mark why requests replies keys olds news old new c.requires.asks fits is has) c.hear_each.ensures;
+                (λ is. goes_by c.the_laws_below_hold.ensures names part mark why requests replies keys olds news old
+                new c.requires.asks fits is has) c.hear_each.ensures;
           };
       calmly = λ names calm.
           let (still, served) = c.in_ok-heard.ensures.calmly names calm in
           record {
             still = still;
             comes = when_ok c.hear_each.result
-                (λ done is. calmly_by c.the_laws_below_hold.ensures part mark why requests replies keys olds news old new c.requires.asks fits is served) c.hear_each.ensures;
+                (λ done is. calmly_by c.the_laws_below_hold.ensures part mark why requests replies keys olds news old
+                new c.requires.asks fits is served) c.hear_each.ensures;
           };
       tried = λ names honest.
           let (still, puts, has) = c.in_ok-heard.ensures.honestly names honest in
           on_ok c.hear_each.result
-          (λ is. tried_by c.the_laws_below_hold.ensures names part mark why requests replies keys olds news old new c.requires.asks fits is has) c.hear_each.ensures;
+          (λ is. tried_by c.the_laws_below_hold.ensures names part mark why requests replies keys olds news old new
+          c.requires.asks fits is has) c.hear_each.ensures;
     }

@@ -9,7 +9,8 @@ returns-in_default-clause-honestly g c = λ names honest.
     let (still, exchanged) = (c.exchange-answered.ensures.honestly names honest).honest in
     let asks = ap requests_in c.as_slice.ensures.value ∙ c.in_ok-bytes.ensures.asks in (
       still,
-      puts_by c.the_laws_of_exchanges_hold.ensures.requests_stay names (g.L.Link.seen c.args.link.now).past (g.L.Link.seen c.exchange-answered.new.self).past c.as_slice.result.now
+      puts_by c.the_laws_of_exchanges_hold.ensures.requests_stay names (g.L.Link.seen c.args.link.now).past
+          (g.L.Link.seen c.exchange-answered.new.self).past c.as_slice.result.now
           c.args.requests.now _ asks exchanged,
       tt,
     )
@@ -19,10 +20,12 @@ returns-clause-honestly g c = λ names honest.
     let (still, exchanged) = (c.exchange-answered.ensures.honestly names honest).honest in
     let asks = ap requests_in c.as_slice.ensures.value ∙ c.in_ok-bytes.ensures.asks in (
       still,
-      puts_by c.the_laws_of_exchanges_hold.ensures.requests_stay names (g.L.Link.seen c.args.link.now).past (g.L.Link.seen c.exchange-answered.new.self).past c.as_slice.result.now
+      puts_by c.the_laws_of_exchanges_hold.ensures.requests_stay names (g.L.Link.seen c.args.link.now).past
+          (g.L.Link.seen c.exchange-answered.new.self).past c.as_slice.result.now
           c.args.requests.now _ asks exchanged,
       if_ok c.heard_in.result
-          (λ heard says. put_by names (g.L.Link.seen c.args.link.now).past (g.L.Link.seen c.exchange-answered.new.self).past c.as_slice.result.now c.args.requests.now
+          (λ heard says. put_by names (g.L.Link.seen c.args.link.now).past
+          (g.L.Link.seen c.exchange-answered.new.self).past c.as_slice.result.now c.args.requests.now
           heard.replies.items _ _ asks exchanged (sym c.in-Ok.ensures) says)
           c.heard_in.ensures.said,
     )
@@ -35,7 +38,8 @@ returns-clause-calmly g c = λ names calm.
     let stops = ap stops_in c.as_slice.ensures.value ∙ c.in_ok-bytes.ensures.stops in (
       still,
       if_ok c.heard_in.result
-          (λ heard says. served_by names (g.L.Link.seen c.args.link.now).past (g.L.Link.seen c.exchange-answered.new.self).past c.as_slice.result.now c.args.requests.now
+          (λ heard says. served_by names (g.L.Link.seen c.args.link.now).past
+          (g.L.Link.seen c.exchange-answered.new.self).past c.as_slice.result.now c.args.requests.now
           heard.replies.items _ _ parts stops asks exchanged (sym c.in-Ok.ensures) says)
           c.heard_in.ensures.said,
     )

@@ -11,7 +11,8 @@ pub returns : goal.returns
 returns c = record {
   found = λ keys place key lawful is. found_at [] keys place key lawful.distinct is;
   stand = found_stands;
-  distinct = λ keys i j key other lawful here there same. distinct_at [] keys i j key other lawful.distinct here there same;
+  distinct = λ keys i j key other lawful here there same.
+      distinct_at [] keys i j key other lawful.distinct here there same;
   fit = λ keys lawful place key is. fits_at keys place key lawful.fit is;
   reasons = no_compromise;
   bounds = (refl, λ key keys. sum_by-cons (λ n. n) (key_bound key) (map key_bound keys));

@@ -16,14 +16,17 @@ returns-in-Ok-Some-clause-put g c = λ names honest.
     let (still, exchanged) = (c.exchange-answered.ensures.honestly names before).honest in
     let is = rw c.in-Ok-Some.field-0-is at c.in-Ok-Some.ensures in (
       still,
-      put_over c.the_laws_of_exchanges_hold.ensures.requests_stay names (g.L.Link.seen c.args.link.now).past (g.L.Link.seen c.loop-turn.link).past (g.L.Link.seen c.exchange-answered.new.self).past c.args.message.now
-          c.in-Ok-Some.reply.items c.loop-turn._turn c.args.most _ lost exchanged (sym is) (omega (arith, c.loop-turn-test.true)),
+      put_over c.the_laws_of_exchanges_hold.ensures.requests_stay names (g.L.Link.seen c.args.link.now).past
+          (g.L.Link.seen c.loop-turn.link).past (g.L.Link.seen c.exchange-answered.new.self).past c.args.message.now
+          c.in-Ok-Some.reply.items c.loop-turn._turn c.args.most _ lost exchanged (sym is)
+          (omega (arith, c.loop-turn-test.true)),
     )
 
 pub returns-in-Ok-Some-clause-few : goal.returns-in-Ok-Some-clause-few
 returns-in-Ok-Some-clause-few g c = λ names honest.
     let (before, lost) = c.loop-turn.invariant.honestly names honest in
-    let once = few_by c.the_laws_of_exchanges_hold.ensures.requests_stay names (g.L.Link.seen c.loop-turn.link).past (g.L.Link.seen c.exchange-answered.new.self).past c.args.message.now _
+    let once = few_by c.the_laws_of_exchanges_hold.ensures.requests_stay names (g.L.Link.seen c.loop-turn.link).past
+    (g.L.Link.seen c.exchange-answered.new.self).past c.args.message.now _
     (c.exchange-answered.ensures.honestly names before).honest.1 in
     omega (arith, once, lost_few _ _ _ _ lost, c.loop-turn-test.true)
 
@@ -35,12 +38,16 @@ loop-turn-preserved g c =
           let (before, lost) = c.loop-turn.invariant.honestly names honest in
           let (still, exchanged) = (c.exchange-answered.ensures.honestly names before).honest in (
             still,
-            lost_more c.the_laws_of_exchanges_hold.ensures.requests_stay names (g.L.Link.seen c.args.link.now).past (g.L.Link.seen c.loop-turn.link).past (g.L.Link.seen c.exchange-answered.new.self).past c.args.message.now
+            lost_more c.the_laws_of_exchanges_hold.ensures.requests_stay names (g.L.Link.seen c.args.link.now).past
+                (g.L.Link.seen c.loop-turn.link).past (g.L.Link.seen c.exchange-answered.new.self).past
+                c.args.message.now
                 c.loop-turn._turn _ lost exchanged (sym is),
           );
       calmly = λ names calm.
           let before = (c.loop-turn.invariant.calmly names calm).0 in
-          absurd (no_calm_loss names (g.L.Link.seen c.loop-turn.link).past (g.L.Link.seen c.exchange-answered.new.self).past c.args.message.now _ (c.exchange-answered.ensures.calmly names before).calm.1 (sym is));
+          absurd (no_calm_loss names (g.L.Link.seen c.loop-turn.link).past
+          (g.L.Link.seen c.exchange-answered.new.self).past c.args.message.now _
+          (c.exchange-answered.ensures.calmly names before).calm.1 (sym is));
     }
 
 pub returns-clause-put : goal.returns-clause-put
@@ -48,6 +55,8 @@ returns-clause-put g c = λ names honest.
     let (still, lost) = c.loop-turn.invariant.honestly names honest in
     let all : c.loop-turn._turn ≡ c.args.most = omega (arith, c.loop-turn-test.false, c.loop-turn.auto._turn-end) in (
       still,
-      none_put (g.L.Link.seen c.args.link.now).past (g.L.Link.seen c.loop-turn.link).past c.args.message.now c.args.most c.requires
-          (subst (λ n. HasLost c.args.message.now n (g.L.Link.seen c.args.link.now).past (g.L.Link.seen c.loop-turn.link).past) all lost),
+      none_put (g.L.Link.seen c.args.link.now).past (g.L.Link.seen c.loop-turn.link).past c.args.message.now
+          c.args.most c.requires
+          (subst (λ n. HasLost c.args.message.now n (g.L.Link.seen c.args.link.now).past
+          (g.L.Link.seen c.loop-turn.link).past) all lost),
     )

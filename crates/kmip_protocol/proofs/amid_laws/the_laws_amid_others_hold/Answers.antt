@@ -1,5 +1,7 @@
 -- By the lemmas of each.
-use Rattle.kmip_protocol.proofs.AmidLemmas.{delivered_amid, exchanged_amid, exchanged_keeps, exchanged_mirrors, exchanged_passes, passed_blind, passed_both, passed_keeps, passed_mirrors, passed_nothing}
+use Rattle.kmip_protocol.proofs.AmidLemmas.{delivered_amid, exchanged_amid, exchanged_keeps, exchanged_mirrors}
+use Rattle.kmip_protocol.proofs.AmidLemmas.{exchanged_passes, passed_blind, passed_both, passed_keeps, passed_mirrors}
+use Rattle.kmip_protocol.proofs.AmidLemmas.{passed_nothing}
 use Rattle.kmip_protocol.proofs.amid_laws.the_laws_amid_others_hold.Goals as goal
 
 pub returns : goal.returns
@@ -7,7 +9,8 @@ returns c =
     let laws = c.the_laws_below_hold.ensures in
     record {
       passing = λ keys old new sound passed. passed_keeps laws keys old new sound passed;
-      exchanges = λ keys old new sent answer sound just done. exchanged_keeps laws keys old new sent answer sound just done;
+      exchanges = λ keys old new sent answer sound just done.
+          exchanged_keeps laws keys old new sent answer sound just done;
       image_passing = λ keys old new sound image passed. passed_mirrors laws keys old new sound image passed;
       image_exchanged = λ keys old new sent answer sound image just done.
           exchanged_mirrors laws keys old new sent answer sound image just done;

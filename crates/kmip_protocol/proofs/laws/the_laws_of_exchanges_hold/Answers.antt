@@ -1,7 +1,8 @@
 -- By the lemmas of each.
 use Rattle.kmip_protocol.proofs.EffectLemmas.{served_joins}
 use Rattle.kmip_protocol.proofs.ExchangeLemmas.{asked_sound, exchanged_sound, given_true, opening_sound}
-use Rattle.kmip_protocol.proofs.JoiningLemmas.{calm_honest, delivered_grows, delivered_joins, delivered_nothing, fewer_delivered, taken_delivers}
+use Rattle.kmip_protocol.proofs.JoiningLemmas.{calm_honest, delivered_grows, delivered_joins, delivered_nothing}
+use Rattle.kmip_protocol.proofs.JoiningLemmas.{fewer_delivered, taken_delivers}
 use Rattle.kmip_protocol.proofs.KeepingLemmas.{delivered_keeps}
 use Rattle.kmip_protocol.proofs.MirrorLemmas.{mirrored_asked, mirrored_delivered, mirrored_exchange}
 use Rattle.kmip_protocol.proofs.ProlongedLemmas.{names_among, none_further, prolonged_sound}
@@ -16,13 +17,15 @@ returns c =
       onward = λ keys old new sound delivered. (delivered_keeps laws keys old new sound delivered).1;
       deliveries = λ keys old new sound delivered. (delivered_keeps laws keys old new sound delivered).0;
       asking = λ keys p requests sound just. asked_sound keys p requests sound just;
-      exchanges = λ keys old new sent answer sound just done. exchanged_sound laws keys old new sent answer sound just done;
+      exchanges = λ keys old new sent answer sound just done.
+          exchanged_sound laws keys old new sent answer sound just done;
       answers = λ keys p given sound are. given_true keys p given sound are;
       begins = λ keys p opening. opening_sound keys p opening;
       safe = λ keys p reported sound reached. sound_safe laws keys p reported sound reached;
       opening = λ keys p opening. opening_mirrored keys p opening;
       image_asked = λ keys p sent image just. mirrored_asked keys p sent image just;
-      image_delivered = λ keys old new sound image delivered. mirrored_delivered laws keys old new sound image delivered;
+      image_delivered = λ keys old new sound image delivered.
+          mirrored_delivered laws keys old new sound image delivered;
       image_exchanged = λ keys old new sent answer sound image just done.
           mirrored_exchange laws keys old new sent answer sound image just done;
       join = λ names first second third early late. delivered_joins names first second third early late;
@@ -34,7 +37,8 @@ returns c =
       sound_between = λ last next keys p first second third on onto sound whole.
           prolonged_sound laws next keys p second on (none_further laws last next keys p third onto sound whole) sound;
       calm_is_honest = λ names old new sent answer calm. calm_honest names old new sent answer calm;
-      taken = λ names stops parts replies old new taken. (taken_delivers names stops parts replies old new taken).delivered;
+      taken = λ names stops parts replies old new taken.
+          (taken_delivers names stops parts replies old new taken).delivered;
       joins = λ room old new ask outcome names uids step.
           served_joins laws laws.objects.by_name room old new ask outcome names uids step;
     }

@@ -17,7 +17,8 @@ returns g c =
     let keys = c.args.plan.now in
     let none : c.as_slice.result.now ≡ [] = c.as_slice.ensures.value ∙ c.new-carried.ensures.items in
     let all =
-    subst (λ carried. HasRunAll keys carried c.args.runs.now (notes_of c.run_all.result) (c.run_all.result.fault ≡ None) (g.L.Link.seen c.args.link.now) (g.L.Link.seen c.run_all.new.link)) none
+    subst (λ carried. HasRunAll keys carried c.args.runs.now (notes_of c.run_all.result)
+    (c.run_all.result.fault ≡ None) (g.L.Link.seen c.args.link.now) (g.L.Link.seen c.run_all.new.link)) none
     c.run_all.ensures.all in
     let nothing = All-nil (TrueProgress (g.L.Link.seen c.args.link.now).past.objects keys) in
     let ends = c.run_all.result.runs.items in
@@ -27,10 +28,13 @@ returns g c =
         safe =
             let ran = (all.well good nothing).campaigned in
             l.exchanges.safe keys (g.L.Link.seen c.run_all.new.link).past (reported keys ends saved) ran.good.sound
-            (reported_reached l keys (g.L.Link.seen c.run_all.new.link).past ends saved c.a_plan_is_lawful.ensures ran.noted);
+            (reported_reached l keys (g.L.Link.seen c.run_all.new.link).past ends saved c.a_plan_is_lawful.ensures
+            ran.noted);
         machine =
-            let on = (all.well good nothing).campaigned.on in
-            (λ opening. on.mirrored (l.exchanges.opening keys (g.L.Link.seen c.args.link.now).past opening), on.mirrored);
+            let on = (all.well good nothing).campaigned.on in (
+              λ opening. on.mirrored (l.exchanges.opening keys (g.L.Link.seen c.args.link.now).past opening),
+              on.mirrored,
+            );
         no_conflict = (all.well good nothing).campaigned.noted.no_conflict;
         sound = (all.well good nothing).campaigned.good;
         true_saved = (all.well good nothing).campaigned.noted.true_saved;
@@ -44,7 +48,9 @@ returns g c =
       known = all.known;
       turned =
           subst
-          (λ carried. AreTurnedFrom keys carried c.args.runs.now ends ((g.L.Link.seen c.args.link.now).honest (is_planned keys)) (c.run_all.result.fault ≡ None) (g.L.Link.seen c.args.link.now).past
+          (λ carried. AreTurnedFrom keys carried c.args.runs.now ends
+          ((g.L.Link.seen c.args.link.now).honest (is_planned keys)) (c.run_all.result.fault ≡ None)
+          (g.L.Link.seen c.args.link.now).past
           (g.L.Link.seen c.run_all.new.link).past) none c.run_all.ensures.turned;
       settles = λ calmly is. all.settles calmly nothing is;
       ended = λ honest. all_joined ends _ _ _ _ _ (c.run_all.ensures.ended honest);

@@ -35,7 +35,8 @@ returns-then-is_empty g c =
         stays_honest = λ names honest. honest;
         well = λ good holds.
             let nothing =
-            ran_nothing keys carried c.the_laws_below_hold.ensures old _ end.runs.items end.saved.items c.requires.no_end c.requires.none_saved good in
+            ran_nothing keys carried c.the_laws_below_hold.ensures old _ end.runs.items end.saved.items
+            c.requires.no_end c.requires.none_saved good in
             record {
               campaigned = nothing.0;
               further = nothing.1;
@@ -48,7 +49,8 @@ returns-then-is_empty g c =
         fewer = λ not. absurd (not refl);
         known =
             recalled_known keys carried runs (fresh keys) old old end.runs.items end.saved.items _
-            (recalled_none keys carried runs (fresh keys) old end.runs.items end.saved.items refl c.requires.no_end c.requires.none_saved);
+            (recalled_none keys carried runs (fresh keys) old end.runs.items end.saved.items refl c.requires.no_end
+            c.requires.none_saved);
         settles = λ calmly holds is. (rw (none, c.requires.no_end) tt, calmly);
       };
       turned = nothing_turned keys carried runs _ _ old.past end.runs.items c.requires.no_end;
@@ -71,7 +73,8 @@ returns-in_err-client g c =
         stays_honest = λ names honest. honest;
         well = λ good holds.
             let nothing =
-            ran_nothing keys carried c.the_laws_below_hold.ensures old _ end.runs.items end.saved.items c.requires.no_end c.requires.none_saved good in
+            ran_nothing keys carried c.the_laws_below_hold.ensures old _ end.runs.items end.saved.items
+            c.requires.no_end c.requires.none_saved good in
             record {
               campaigned = nothing.0;
               further = nothing.1;
@@ -82,7 +85,8 @@ returns-in_err-client g c =
         fewer = search rules;
         known =
             recalled_known keys carried runs (fresh keys) old old end.runs.items end.saved.items _
-            (recalled_none keys carried runs (fresh keys) old end.runs.items end.saved.items refl c.requires.no_end c.requires.none_saved);
+            (recalled_none keys carried runs (fresh keys) old end.runs.items end.saved.items refl c.requires.no_end
+            c.requires.none_saved);
         settles = λ calmly holds is. no_ok c.from_residual.result tt failed is;
       };
       turned = nothing_turned keys carried runs _ _ old.past end.runs.items c.requires.no_end;
@@ -93,12 +97,16 @@ returns-in_err-client g c =
 pub loop-place-init : goal.loop-place-init
 loop-place-init g c = record {
   running =
-      running_none c.args.plan.now c.args.carried.now c.the_laws_below_hold.ensures c.in_ok-client.client (g.L.Link.seen c.args.link.now) c.args.runs.now c.args.end.now.runs.items
-      c.args.end.now.saved.items c.in_ok-client.ensures.fresh c.in_ok-client.ensures.held c.requires.no_end c.requires.none_saved;
+      running_none c.args.plan.now c.args.carried.now c.the_laws_below_hold.ensures c.in_ok-client.client
+      (g.L.Link.seen c.args.link.now) c.args.runs.now c.args.end.now.runs.items
+      c.args.end.now.saved.items c.in_ok-client.ensures.fresh c.in_ok-client.ensures.held c.requires.no_end
+      c.requires.none_saved;
   ended = λ honest. join_none [] c.args.end.now.runs.items ⊤ _ _ _ _ c.requires.no_end refl (λ is. refl);
-  outlasted = λ good holds honest. outlast_none c.args.plan.now c.args.runs.now c.args.end.now.runs.items _ _ c.requires.no_end refl;
+  outlasted = λ good holds honest. outlast_none c.args.plan.now c.args.runs.now c.args.end.now.runs.items _ _
+      c.requires.no_end refl;
   followed = g.met.L.Link.itself c.args.link.now;
-  turned = none_turned c.args.plan.now c.args.carried.now c.args.runs.now c.in_ok-client.client _ (g.L.Link.seen c.args.link.now).past c.args.end.now.runs.items
+  turned = none_turned c.args.plan.now c.args.carried.now c.args.runs.now c.in_ok-client.client _
+      (g.L.Link.seen c.args.link.now).past c.args.end.now.runs.items
       c.args.end.now.saved.items c.in_ok-client.ensures.fresh c.requires.no_end c.requires.none_saved;
 }
 
@@ -124,21 +132,26 @@ returns-in_err-one_run g c =
         stays_honest = λ names honest. c.one_run.ensures.honest names (before.honest_still names honest);
         well = λ good holds.
             let off =
-            ran_off keys carried c.the_laws_below_hold.ensures c.loop-place.client c.one_run.new.client old mid new runs c.loop-place.place _ end.runs.items
-            after.runs.items end.saved.items after.saved.items c.a_plan_is_lawful.ensures c.one_run.ensures.keys_stay before
+            ran_off keys carried c.the_laws_below_hold.ensures c.loop-place.client c.one_run.new.client old mid new
+            runs c.loop-place.place _ end.runs.items
+            after.runs.items end.saved.items after.saved.items c.a_plan_is_lawful.ensures c.one_run.ensures.keys_stay
+            before
             (λ standing holds. let well = c.one_run.ensures.well standing holds in (well.standing, well.onward))
-            (λ standing holds. further_if keys mid new _ _ (λ is. no_ok result tt failed is) (c.one_run.ensures.well standing holds).further) good holds in
+            (λ standing holds. further_if keys mid new _ _ (λ is. no_ok result tt failed is)
+            (c.one_run.ensures.well standing holds).further) good holds in
             record { campaigned = off.0; further = off.1; outlasts = λ honest is. no_ok result tt failed is };
         order = ends_same keys runs c.loop-place.place end.runs.items after.runs.items same before.each;
         complete = λ is. no_ok result tt failed is;
         fewer = λ not. let long = ap length same in omega (arith, below, long, before.as_many_ends);
         known =
-            broken_known keys carried runs c.loop-place.client old mid new _ end after c.loop-place.place _ (slice_get-get_or runs c.loop-place.place _ below)
+            broken_known keys carried runs c.loop-place.client old mid new _ end after c.loop-place.place _
+            (slice_get-get_or runs c.loop-place.place _ below)
             before.as_many_ends (λ is. no_ok result tt failed is) before.recalled c.in_err-one_run.ensures.broken;
         settles = λ calmly holds is. no_ok result tt failed is;
       };
       turned =
-          all_turned keys carried runs c.loop-place.client _ _ old.past mid.past new.past end.runs.items after.runs.items end.saved.items same
+          all_turned keys carried runs c.loop-place.client _ _ old.past mid.past new.past end.runs.items
+          after.runs.items end.saved.items same
           (λ is. no_ok result tt failed is) c.loop-place.invariant.turned;
       ended = λ honest.
           join_then [] end.runs.items after.runs.items ⊤ _ _ _ _ _ _ _ tt (c.loop-place.invariant.ended honest)
@@ -152,36 +165,51 @@ loop-place-preserved g c =
     let below : c.loop-place.place < length c.args.runs.now = search rules in
     record {
       running =
-          running_more c.args.plan.now c.args.carried.now c.the_laws_below_hold.ensures c.loop-place.client c.one_run.new.client
-          (g.L.Link.seen c.args.link.now) (g.L.Link.seen c.loop-place.link) (g.L.Link.seen c.one_run.new.link) c.args.runs.now c.loop-place.place _ c.loop-place.end c.one_run.new.end c.a_plan_is_lawful.ensures
-          (slice_get-get_or c.args.runs.now c.loop-place.place _ below) c.loop-place.invariant.running c.one_run.ensures.keys_stay c.one_run.ensures.suits
+          running_more c.args.plan.now c.args.carried.now c.the_laws_below_hold.ensures c.loop-place.client
+          c.one_run.new.client
+          (g.L.Link.seen c.args.link.now) (g.L.Link.seen c.loop-place.link) (g.L.Link.seen c.one_run.new.link)
+          c.args.runs.now c.loop-place.place _ c.loop-place.end c.one_run.new.end c.a_plan_is_lawful.ensures
+          (slice_get-get_or c.args.runs.now c.loop-place.place _ below) c.loop-place.invariant.running
+          c.one_run.ensures.keys_stay c.one_run.ensures.suits
           (λ standing carried. let well = c.one_run.ensures.well standing carried in (well.standing, well.onward))
           c.one_run.ensures.honest
-          (λ standing carried. further_if c.args.plan.now (g.L.Link.seen c.loop-place.link) (g.L.Link.seen c.one_run.new.link) _ ⊤ (λ is. search rules)
+          (λ standing carried. further_if c.args.plan.now (g.L.Link.seen c.loop-place.link)
+          (g.L.Link.seen c.one_run.new.link) _ ⊤ (λ is. search rules)
           (c.one_run.ensures.well standing carried).further) c.in_ok-one_run.ensures.ran
           (λ standing carried. (c.in_ok-one_run.ensures.well standing carried).settles);
       ended = λ honest.
-          join_then [] c.loop-place.end.runs.items c.one_run.new.end.runs.items ⊤ ⊤ _ _ _ _ _ _ tt (c.loop-place.invariant.ended honest)
+          join_then [] c.loop-place.end.runs.items c.one_run.new.end.runs.items ⊤ ⊤ _ _ _ _ _ _ tt
+          (c.loop-place.invariant.ended honest)
           (join_if c.loop-place.end.runs.items c.one_run.new.end.runs.items _ ⊤ _ _ _ _ (λ is. search rules)
           (c.one_run.ensures.ended (c.loop-place.invariant.running.honest_still (is_planned c.args.plan.now) honest)));
       outlasted = λ good holds honest.
           let (standing, went) = c.loop-place.invariant.running.stands good holds in
           let now =
-          carried_on c.args.plan.now c.args.carried.now c.the_laws_below_hold.ensures (g.L.Link.seen c.args.link.now) (g.L.Link.seen c.loop-place.link)
+          carried_on c.args.plan.now c.args.carried.now c.the_laws_below_hold.ensures (g.L.Link.seen c.args.link.now)
+          (g.L.Link.seen c.loop-place.link)
           c.a_plan_is_lawful.ensures went holds in
           let e : c.loop-place.place + 1 ≡ suc c.loop-place.place = omega arith in
           subst
-          (λ n. AllOutlast c.args.plan.now (take n c.args.runs.now) c.one_run.new.end.runs.items (g.L.Link.seen c.args.link.now).disturbances (g.L.Link.seen c.one_run.new.link).disturbances)
+          (λ n. AllOutlast c.args.plan.now (take n c.args.runs.now) c.one_run.new.end.runs.items
+          (g.L.Link.seen c.args.link.now).disturbances (g.L.Link.seen c.one_run.new.link).disturbances)
           (sym e)
-          (outlast_more c.args.plan.now c.args.runs.now c.loop-place.place _ c.loop-place.end.runs.items c.one_run.new.end.runs.items _ _ _
-          (slice_get-get_or c.args.runs.now c.loop-place.place _ below) (c.loop-place.invariant.outlasted good holds honest)
-          ((c.in_ok-one_run.ensures.well standing now).outlasts (c.loop-place.invariant.running.honest_still (is_planned c.args.plan.now) honest)));
-      followed = g.met.L.Link.twice c.args.link.now c.loop-place.link c.one_run.new.link c.loop-place.invariant.followed c.in_ok-one_run.ensures.followed;
+          (outlast_more c.args.plan.now c.args.runs.now c.loop-place.place _ c.loop-place.end.runs.items
+          c.one_run.new.end.runs.items _ _ _
+          (slice_get-get_or c.args.runs.now c.loop-place.place _ below)
+          (c.loop-place.invariant.outlasted good holds honest)
+          ((c.in_ok-one_run.ensures.well standing now).outlasts
+          (c.loop-place.invariant.running.honest_still (is_planned c.args.plan.now) honest)));
+      followed = g.met.L.Link.twice c.args.link.now c.loop-place.link c.one_run.new.link
+          c.loop-place.invariant.followed c.in_ok-one_run.ensures.followed;
       turned =
-          more_turned c.args.plan.now c.args.carried.now c.args.runs.now c.loop-place.client c.one_run.new.client _ _ (g.L.Link.seen c.args.link.now).past
-          (g.L.Link.seen c.loop-place.link).past (g.L.Link.seen c.one_run.new.link).past _ c.loop-place.end.runs.items c.one_run.new.end.runs.items c.loop-place.end.saved.items
-          c.one_run.new.end.saved.items c.loop-place.place (slice_get-get_or c.args.runs.now c.loop-place.place _ below) c.loop-place.invariant.running.as_many_ends
-          (c.loop-place.invariant.running.honest_still (is_planned c.args.plan.now)) c.loop-place.invariant.turned c.in_ok-one_run.ensures.turned
+          more_turned c.args.plan.now c.args.carried.now c.args.runs.now c.loop-place.client c.one_run.new.client _ _
+          (g.L.Link.seen c.args.link.now).past
+          (g.L.Link.seen c.loop-place.link).past (g.L.Link.seen c.one_run.new.link).past _ c.loop-place.end.runs.items
+          c.one_run.new.end.runs.items c.loop-place.end.saved.items
+          c.one_run.new.end.saved.items c.loop-place.place
+          (slice_get-get_or c.args.runs.now c.loop-place.place _ below) c.loop-place.invariant.running.as_many_ends
+          (c.loop-place.invariant.running.honest_still (is_planned c.args.plan.now)) c.loop-place.invariant.turned
+          c.in_ok-one_run.ensures.turned
           c.in_ok-one_run.ensures.ran.ended.saved_are;
     }
 
@@ -201,21 +229,26 @@ returns g c =
         suits = before.suits;
         stays_honest = before.honest_still;
         well = λ good holds. record {
-          campaigned = campaigned keys c.loop-place.client old new end.runs.items end.saved.items before.keys_are (before.stands good holds);
+          campaigned = campaigned keys c.loop-place.client old new end.runs.items end.saved.items before.keys_are
+              (before.stands good holds);
           further = further_if keys old new ⊤ _ (λ is. tt) (before.further good holds);
           outlasts = λ honest is.
-              subst (λ rs. AllOutlast keys rs end.runs.items old.disturbances new.disturbances) all (c.loop-place.invariant.outlasted good holds honest);
+              subst (λ rs. AllOutlast keys rs end.runs.items old.disturbances new.disturbances) all
+              (c.loop-place.invariant.outlasted good holds honest);
         };
         order = ends_all keys runs c.loop-place.place end.runs.items before.each;
         complete = λ is.
-            subst (λ rs. AllZip (IsEnd keys) rs end.runs.items × (length end.saved.items ≡ length (filter saves rs))) all (before.each, before.as_many);
+            subst (λ rs. AllZip (IsEnd keys) rs end.runs.items × (length end.saved.items ≡ length (filter saves rs)))
+            all (before.each, before.as_many);
         fewer = λ not. absurd (not refl);
-        known = recalled_known keys carried runs c.loop-place.client old new end.runs.items end.saved.items _ before.recalled;
+        known = recalled_known keys carried runs c.loop-place.client old new end.runs.items end.saved.items _
+            before.recalled;
         settles = λ calmly holds is.
             subst (λ rs. AllZip (Settles keys) rs end.runs.items × CalmLink keys new) all (before.settled calmly holds);
       };
       turned =
-          all_turned keys carried runs c.loop-place.client _ _ old.past new.past new.past end.runs.items end.runs.items end.saved.items refl
+          all_turned keys carried runs c.loop-place.client _ _ old.past new.past new.past end.runs.items
+          end.runs.items end.saved.items refl
           (λ is. refl) c.loop-place.invariant.turned;
       ended = λ honest. join_if [] end.runs.items ⊤ _ _ _ _ _ (λ is. tt) (c.loop-place.invariant.ended honest);
       followed = λ is. c.loop-place.invariant.followed;

@@ -7,7 +7,8 @@ use Rattle.kmip_protocol.specs.Sound.{Sound}
 use Rattle.kmip_runs.specs.Losing.{ArePaid, left_for}
 use Rattle.kmip_runs.specs.Saved.{IsInMemory, Situation}
 use Rattle.kmip_runs.proofs.CampaignLemmas.{known_is_safe}
-use Rattle.kmip_runs.proofs.CarryLemmas.{carried_closed, carried_kept, good_end, left_last, limit_last, memory_before, settled_end, stands_last, told_before, unless_given_up}
+use Rattle.kmip_runs.proofs.CarryLemmas.{carried_closed, carried_kept, good_end, left_last, limit_last, memory_before}
+use Rattle.kmip_runs.proofs.CarryLemmas.{settled_end, stands_last, told_before, unless_given_up}
 use Rattle.kmip_runs.proofs.CarryEndingLemmas.{ended_once, ended_whole, one_of_both}
 use Rattle.kmip_runs.proofs.CarryLosingLemmas.{outlasted, paid_closed}
 use Rattle.kmip_runs.proofs.LastingLemmas.{file_lasts}
@@ -38,26 +39,34 @@ returns g c =
     let unshut : Situation = record between { link = new } in
     let after : Situation = record unshut { keeper = kept shut.new.self } in
     let limit = limit_last close.result done.result.0 last end.whole end.stop end.fault in
-    let stands = stands_last next close.result done.result.0 last end.whole end.stop end.fault made.stops_for_its_reason in
+    let stands = stands_last next close.result done.result.0 last end.whole end.stop end.fault
+    made.stops_for_its_reason in
     let ended =
     carried_closed laws before between new done.result.0 last close.result done.result.1 lawful
-    (λ names honest. (close.ensures.honestly names honest).honest) close.ensures.amid close.ensures.calm end.whole end.stop end.fault first in
-    let carried = carried_kept before unshut (kept shut.new.self) last shut.result done.result.1 shut.ensures.remembered shut.ensures.lasts ended in
+    (λ names honest. (close.ensures.honestly names honest).honest) close.ensures.amid close.ensures.calm end.whole
+    end.stop end.fault first in
+    let carried = carried_kept before unshut (kept shut.new.self) last shut.result done.result.1
+    shut.ensures.remembered shut.ensures.lasts ended in
     record {
       well = λ good.
-          let paid : old.honest names → IsInMemory last → ArePaid done.result.1 (left_for client old.past) (left_for next new.past) old.disturbances new.disturbances =
+          let paid : old.honest names → IsInMemory last
+          → ArePaid done.result.1 (left_for client old.past) (left_for next new.past) old.disturbances
+          new.disturbances =
           λ honest memory.
           paid_closed laws next mid new done.result.1 (left_for client old.past) old.disturbances
           (subst IsLawful (sym first.went.keeps.keys_stay) lawful) (first.went.good good)
           (subst (λ ks. mid.honest (is_planned ks)) (sym first.went.keeps.keys_stay) (first.went.learns honest).0)
-          (λ names honest. (close.ensures.honestly names honest).honest) (λ names honest. (close.ensures.honestly names honest).undisturbed)
-          (made.losing good honest (memory_before close.result done.result.0 last end.whole end.stop end.fault memory)) in
+          (λ names honest. (close.ensures.honestly names honest).honest)
+          (λ names honest. (close.ensures.honestly names honest).undisturbed)
+          (made.losing good honest (memory_before close.result done.result.0 last end.whole end.stop end.fault
+          memory)) in
           record {
             good = carried.went.good good;
             onward = carried.went.onward good;
             losing = paid;
             outlasts = λ honest patient whole enough.
-                outlasted laws client next old new last done.result.1 c.args.limit lawful good (carried.went.good good) (paid honest) stands
+                outlasted laws client next old new last done.result.1 c.args.limit lawful good
+                (carried.went.good good) (paid honest) stands
                 (λ is. unless_given_up _ _ _ _ done.ensures.made.limit patient (limit is)) whole enough;
             no_conflict = good_end laws before after last done.result.1 carried.went stands good;
             safe =
@@ -74,10 +83,13 @@ returns g c =
             broken = carried.went.broken honest;
             takes_nothing_back = carried.went.takes_nothing_back honest;
             ended =
-                ended_whole client.keys client.batch old.past mid.past client.knowns next.knowns close.result done.result.0 last done.result.1
-                old.ended mid.ended new.ended end.whole end.stop end.fault known.1 (done.ensures.made.ended honest) closed.ended;
+                ended_whole client.keys client.batch old.past mid.past client.knowns next.knowns close.result
+                done.result.0 last done.result.1
+                old.ended mid.ended new.ended end.whole end.stop end.fault known.1 (done.ensures.made.ended honest)
+                closed.ended;
             once =
-                ended_once mid.past new.past old.ended mid.ended new.ended (laws.exchanges.requests_stay names mid.past new.past closed.honest.1).sent
+                ended_once mid.past new.past old.ended mid.ended new.ended
+                (laws.exchanges.requests_stay names mid.past new.past closed.honest.1).sent
                 (done.ensures.made.ended honest) (one_of_both close.result closed.ended closed.unended);
           };
       forgets_nothing = carried.went.keeps;
@@ -85,11 +97,13 @@ returns g c =
       lasts = λ lawful written.
           let left = ended.kept.any_moment lawful in
           file_lasts between.keeper.disk after.keeper.disk shut.result (left.still written)
-          (risen_at_fault shut.result before.keeper.refusals between.keeper.refusals after.keeper.refusals made.counted shut.ensures.output)
+          (risen_at_fault shut.result before.keeper.refusals between.keeper.refusals after.keeper.refusals
+          made.counted shut.ensures.output)
           (shut.ensures.lasts left.lawful);
       counted = omega (arith, made.counted, shut.ensures.counted);
       output = λ is.
-          risen_still before.keeper.refusals between.keeper.refusals after.keeper.refusals made.counted shut.ensures.counted
+          risen_still before.keeper.refusals between.keeper.refusals after.keeper.refusals made.counted
+          shut.ensures.counted
           (made.output (output_before close.result done.result.0 last end.whole end.stop end.fault is));
       stops_for_its_reason = stands;
       limit = λ is. done.ensures.made.limit (limit is);
@@ -100,12 +114,14 @@ returns g c =
       asked = done.ensures.made.asked;
       turned = record {
         until = mid.past;
-        turned = turned_last (old.honest names) close.result done.result.0 last done.result.1 client next old.past mid.past end.whole end.stop end.fault made.turned;
+        turned = turned_last (old.honest names) close.result done.result.0 last done.result.1 client next old.past
+            mid.past end.whole end.stop end.fault made.turned;
         closed = λ honest. (close.ensures.honestly names (first.went.learns honest).0).honest.1;
       };
       followed = λ memory.
           let told = told_before close.result done.result.0 last end.whole end.stop end.fault memory in
-          g.met.L.Link.twice c.args.link.now done.new.link close.new.link (done.ensures.followed told.0) (told.1 close.ensures.followed);
+          g.met.L.Link.twice c.args.link.now done.new.link close.new.link (done.ensures.followed told.0)
+          (told.1 close.ensures.followed);
       calmly = λ settling. record {
         calm = carried.went.near settling;
         settles = λ enough patient whole.

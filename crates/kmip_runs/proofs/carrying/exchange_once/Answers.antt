@@ -23,10 +23,14 @@ returns-in-Ok-None-clause-made g c =
       exchanges = record {
         carried =
             carried_none (record { client = client; link = x; keeper = i }) next y stop
-            (subst (λ asked. Went (record { client = client; link = x; keeper = i }) (record { client = next; link = y; keeper = i }) (Ok stop) (turn_count asked)) c.in-Ok-None.field-0-is
-            (took (record { client = client; link = x; keeper = i }) (record { client = next; link = y; keeper = i }) (Ok stop) c.in-Ok-None.field-0 _
+            (subst (λ asked. Went (record { client = client; link = x; keeper = i })
+            (record { client = next; link = y; keeper = i }) (Ok stop) (turn_count asked)) c.in-Ok-None.field-0-is
+            (took (record { client = client; link = x; keeper = i }) (record { client = next; link = y; keeper = i })
+            (Ok stop) c.in-Ok-None.field-0 _
             (λ is. c.stop_of.ensures.in_memory (stop_is stop stops.NoMemory is)) e));
-        turned = one_rest _ stop client next x.past y.past c.stop_of.ensures.in_memory (subst (λ asked. TakesTurn (x.honest (is_planned client.keys)) asked client next x.past y.past) c.in-Ok-None.field-0-is e.turned);
+        turned = one_rest _ stop client next x.past y.past c.stop_of.ensures.in_memory
+            (subst (λ asked. TakesTurn (x.honest (is_planned client.keys)) asked client next x.past y.past)
+            c.in-Ok-None.field-0-is e.turned);
         counted = search rules;
         output = search rules;
         stops_for_its_reason = search rules;
@@ -50,7 +54,8 @@ returns-in-Err-clause-made g c =
       exchanges = record {
         carried =
             carried_broken (record { client = client; link = x; keeper = i }) next y fault _ (search rules)
-            (broke (record { client = client; link = x; keeper = i }) (record { client = next; link = y; keeper = i }) fault _ e);
+            (broke (record { client = client; link = x; keeper = i }) (record { client = next; link = y; keeper = i })
+            fault _ e);
         turned = one_broken _ _ client next x.past y.past fault (search rules) e.gives_up;
         counted = search rules;
         output = search rules;
@@ -75,13 +80,18 @@ returns-in-Ok-clause-made g c =
     record {
       exchanges = record {
         carried =
-            carried_one c.the_laws_below_hold.ensures (record { client = client; link = x; keeper = i }) (record { client = next; link = y; keeper = j }) stop tt c.stop_of-in-Ok.ensures.in_memory
+            carried_one c.the_laws_below_hold.ensures (record { client = client; link = x; keeper = i })
+            (record { client = next; link = y; keeper = j }) stop tt c.stop_of-in-Ok.ensures.in_memory
             (λ remembers. let so = c.in-Ok.ensures.remembered remembers in (so.0, so.1))
             c.in-Ok.ensures.whole
-            (subst (λ asked. Went (record { client = client; link = x; keeper = i }) (record { client = next; link = y; keeper = j }) (Ok stop) (turn_count asked)) c.in-Ok-Some.field-0-is
-            (took (record { client = client; link = x; keeper = i }) (record { client = next; link = y; keeper = j }) (Ok stop) c.in-Ok-Some.field-0 _
+            (subst (λ asked. Went (record { client = client; link = x; keeper = i })
+            (record { client = next; link = y; keeper = j }) (Ok stop) (turn_count asked)) c.in-Ok-Some.field-0-is
+            (took (record { client = client; link = x; keeper = i }) (record { client = next; link = y; keeper = j })
+            (Ok stop) c.in-Ok-Some.field-0 _
             (λ is. c.stop_of-in-Ok.ensures.in_memory (stop_is stop stops.NoMemory is)) e));
-        turned = one_turn _ stop client next x.past y.past c.stop_of-in-Ok.ensures.in_memory (subst (λ asked. TakesTurn (x.honest (is_planned client.keys)) asked client next x.past y.past) c.in-Ok-Some.field-0-is e.turned);
+        turned = one_turn _ stop client next x.past y.past c.stop_of-in-Ok.ensures.in_memory
+            (subst (λ asked. TakesTurn (x.honest (is_planned client.keys)) asked client next x.past y.past)
+            c.in-Ok-Some.field-0-is e.turned);
         counted = search rules;
         output = search rules;
         stops_for_its_reason = search rules;
@@ -105,12 +115,17 @@ returns-in-Err-save_progress-clause-made g c =
     record {
       exchanges = record {
         carried =
-            carried_not (record { client = client; link = x; keeper = i }) (record { client = next; link = y; keeper = j }) fault
+            carried_not (record { client = client; link = x; keeper = i })
+            (record { client = next; link = y; keeper = j }) fault
             (λ remembers. let so = c.in-Err-save_progress.ensures.remembered remembers in (so.0, so.2))
             c.in-Err-save_progress.ensures.whole
-            (subst (λ asked. Went (record { client = client; link = x; keeper = i }) (record { client = next; link = y; keeper = j }) (Err fault) (turn_count asked)) c.in-Ok-Some.field-0-is
-            (took (record { client = client; link = x; keeper = i }) (record { client = next; link = y; keeper = j }) (Err fault) c.in-Ok-Some.field-0 _ (λ is. absurd cc) e));
-        turned = one_turn _ stops.Limit client next x.past y.past (λ is. absurd cc) (subst (λ asked. TakesTurn (x.honest (is_planned client.keys)) asked client next x.past y.past) c.in-Ok-Some.field-0-is e.turned);
+            (subst (λ asked. Went (record { client = client; link = x; keeper = i })
+            (record { client = next; link = y; keeper = j }) (Err fault) (turn_count asked)) c.in-Ok-Some.field-0-is
+            (took (record { client = client; link = x; keeper = i }) (record { client = next; link = y; keeper = j })
+            (Err fault) c.in-Ok-Some.field-0 _ (λ is. absurd cc) e));
+        turned = one_turn _ stops.Limit client next x.past y.past (λ is. absurd cc)
+            (subst (λ asked. TakesTurn (x.honest (is_planned client.keys)) asked client next x.past y.past)
+            c.in-Ok-Some.field-0-is e.turned);
         counted = search rules;
         output = search rules;
         stops_for_its_reason = search rules;

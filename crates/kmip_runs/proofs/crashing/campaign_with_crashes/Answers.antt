@@ -9,7 +9,8 @@ returns-in-Ok g c =
     let new = g.L.Link.seen c.crash_each.new.link in
     let each = c.in-Ok.ensures in
     record {
-      well = λ good. crashes_well c.the_laws_below_hold.ensures c.args.plan.now old new c.crash_each.new.end _ c.a_plan_is_lawful.ensures refl refl refl (each.well good);
+      well = λ good. crashes_well c.the_laws_below_hold.ensures c.args.plan.now old new c.crash_each.new.end _
+          c.a_plan_is_lawful.ensures refl refl refl (each.well good);
       honest = each.honest;
       last = each.last;
       until = each.until;
@@ -27,7 +28,8 @@ returns-in-Err-NoMemory g c =
     let new = g.L.Link.seen c.crash_each.new.link in
     let each = c.crash_each.ensures in
     record {
-      well = λ good. crashes_well c.the_laws_below_hold.ensures c.args.plan.now old new c.crash_each.new.end _ c.a_plan_is_lawful.ensures refl refl refl (each.well good);
+      well = λ good. crashes_well c.the_laws_below_hold.ensures c.args.plan.now old new c.crash_each.new.end _
+          c.a_plan_is_lawful.ensures refl refl refl (each.well good);
       honest = each.honest;
       last = each.last;
       until = each.until;
@@ -45,7 +47,8 @@ returns-in-Err-Refused g c =
     let new = g.L.Link.seen c.crash_each.new.link in
     let each = c.crash_each.ensures in
     record {
-      well = λ good. crashes_well c.the_laws_below_hold.ensures c.args.plan.now old new c.crash_each.new.end _ c.a_plan_is_lawful.ensures refl refl refl (each.well good);
+      well = λ good. crashes_well c.the_laws_below_hold.ensures c.args.plan.now old new c.crash_each.new.end _
+          c.a_plan_is_lawful.ensures refl refl refl (each.well good);
       honest = each.honest;
       last = each.last;
       until = each.until;

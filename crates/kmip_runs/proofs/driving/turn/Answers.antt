@@ -1,5 +1,6 @@
 -- Asking changes whose turn it is, and nothing else.
-use Rattle.std.proofs.Common.{arith, ◌≡◌, ◌∙◌, List, Option, Some, option_map, length, Result, Ok, Err, IfOk, IsErr, ap, inl, refl, rules, subst, sym}
+use Rattle.std.proofs.Common.{arith, ◌≡◌, ◌∙◌, List, Option, Some, option_map, length, Result, Ok, Err, IfOk, IsErr, ap}
+use Rattle.std.proofs.Common.{inl, refl, rules, subst, sym}
 use Rattle.std.proofs.lemmas.Result.{err_from_is_err_and}
 use Rattle.std.specs.Prelude.{⊤, IfSome, IsOk}
 use Rattle.kmip_client.specs.Asking.{IsAbout, next_places}
@@ -61,12 +62,17 @@ returns-in_err-question g c =
       well = λ good. record {
         good = subst (λ s. IsGood s link) (sym same) good;
         onward = went_nowhere c.the_laws_below_hold.ensures client.keys link.past;
-        further = further_nowhere c.the_laws_below_hold.ensures.client.itself c.the_laws_below_hold.ensures.amid.nothing client.keys link _;
+        further = further_nowhere c.the_laws_below_hold.ensures.client.itself
+            c.the_laws_below_hold.ensures.amid.nothing client.keys link _;
       };
       honestly = λ honest. record {
         stays_honest = honest;
         learnt = if_err _ result failed;
-        broken = rw (fault.1, fault.2) (ap (λ (s : ClientState). facts s.knowns) same, broken_nowhere client.keys client.batch link.past);
+        broken = rw (fault.1, fault.2) (
+          ap (λ (s : ClientState). facts s.knowns) same,
+          broken_nowhere client.keys
+              client.batch link.past,
+        );
         takes_nothing_back = grown_itself link.past;
       };
       gives_up = rw (fault.1, fault.2) (inl same, λ honest. refl);
@@ -87,32 +93,38 @@ returns-in_default g c =
       tries = record {
         keeps = keeps_asked client c.ask.new.self turn;
         nearer = nearer_asked client c.ask.new.self link turn;
-        paid = λ good honest. subst (λ s. ArePaid 0 left (left_for s link.past) lost lost) (sym turn) (paid_none left lost);
+        paid = λ good honest. subst (λ s. ArePaid 0 left (left_for s link.past) lost lost) (sym turn)
+            (paid_none left lost);
         honest = λ names honest. honest;
         counts = λ names honest. (omega arith, omega arith, omega arith);
         ended = λ names honest. refl;
         followed = g.met.L.Link.itself c.args.link.now;
       };
       well = λ good. record {
-        good = subst (λ s. IsGood s link) (sym turn) (record { amid_for = good.amid_for; sound = good.sound; held = good.held });
+        good = subst (λ s. IsGood s link) (sym turn)
+            (record { amid_for = good.amid_for; sound = good.sound; held = good.held });
         onward = went_nowhere c.the_laws_below_hold.ensures client.keys link.past;
-        further = further_nowhere c.the_laws_below_hold.ensures.client.itself c.the_laws_below_hold.ensures.amid.nothing client.keys link _;
+        further = further_nowhere c.the_laws_below_hold.ensures.client.itself
+            c.the_laws_below_hold.ensures.amid.nothing client.keys link _;
       };
       honestly = λ honest. record {
         stays_honest = honest;
         learnt =
-            subst (λ (s : ClientState). Learnt client.keys client.batch link.past link.past client.knowns s.knowns 0) (sym turn)
+            subst (λ (s : ClientState). Learnt client.keys client.batch link.past link.past client.knowns s.knowns 0)
+            (sym turn)
             (learnt_nothing client.keys client.batch link.past client.knowns);
         broken = tt;
         takes_nothing_back = grown_itself link.past;
       };
       gives_up = tt;
-      asked = ap (option_map (λ (question : Question). length question.parts)) (sym c.in_default.is ∙ c.in_ok-question.ensures.question);
+      asked = ap (option_map (λ (question : Question). length question.parts))
+          (sym c.in_default.is ∙ c.in_ok-question.ensures.question);
       turned = record {
         next_is = asked_nothing client c.ask.new.self turn (sym c.in_ok-question.ensures.question ∙ c.in_default.is);
         past_stays = λ honest. refl;
       };
-      settled = λ is. subst (λ (s : ClientState). AreSettled s.keys s.knowns) (sym turn) (c.in_ok-question.ensures.none c.in_default.is);
+      settled = λ is. subst (λ (s : ClientState). AreSettled s.keys s.knowns) (sym turn)
+          (c.in_ok-question.ensures.none c.in_default.is);
     }
 
 -- memory ran out in the exchange
@@ -127,7 +139,8 @@ returns-in_err-put g c =
     let result = c.from_residual-in_err-put.result in
     let failed = c.from_residual-in_err-put.ensures.0 in
     let fault = err_from_is_err_and result c.from_residual-in_err-put.ensures.1 in
-    let still = λ (honest : link.honest (is_planned client.keys)). subst (λ (s : ClientState). link.honest (is_planned s.keys)) (sym turn) honest in
+    let still = λ (honest : link.honest (is_planned client.keys)).
+    subst (λ (s : ClientState). link.honest (is_planned s.keys)) (sym turn) honest in
     record {
       tries = record {
         keeps = keeps_then client asked next (keeps_asked client asked turn) c.put.ensures.tries.keeps;
@@ -139,7 +152,8 @@ returns-in_err-put g c =
         followed = search rules;
       };
       well = λ good.
-          let may = good_asked client asked link _ c.in-Some.question turn c.in-Some.is c.in_ok-question.ensures.justified good in
+          let may = good_asked client asked link _ c.in-Some.question turn c.in-Some.is
+          c.in_ok-question.ensures.justified good in
           let well = c.put.ensures.well may.0 may.1 in
           record {
             good = well.good;
@@ -156,14 +170,17 @@ returns-in_err-put g c =
             broken =
                 rw (fault.1, fault.2)
                 (subst
-                (λ (s : ClientState). (facts next.knowns ≡ facts s.knowns) × IsBrokenOff s.keys s.batch link.past new.past c.in_err-put.field-0.0)
+                (λ (s : ClientState). (facts next.knowns ≡ facts s.knowns)
+                × IsBrokenOff s.keys s.batch link.past new.past c.in_err-put.field-0.0)
                 turn put.broken);
             takes_nothing_back = put.takes_nothing_back;
           };
       gives_up =
           rw (fault.1, fault.2)
           (given_up _ _ client asked next link.past new.past c.in-Some.question c.in_err-put.field-0.0 still turn
-          (sym c.in_ok-question.ensures.question ∙ c.in-Some.is) (asked_about client _ c.in-Some.question c.in-Some.is c.in_ok-question.ensures.about) c.in_err-put.ensures.lost (λ honest. (c.in_err-put.ensures.honestly honest).sent));
+          (sym c.in_ok-question.ensures.question ∙ c.in-Some.is)
+          (asked_about client _ c.in-Some.question c.in-Some.is c.in_ok-question.ensures.about)
+          c.in_err-put.ensures.lost (λ honest. (c.in_err-put.ensures.honestly honest).sent));
       asked = if_err _ result failed;
       turned = if_err _ result failed;
       settled = if_err _ result failed;
@@ -185,10 +202,13 @@ returns g c =
         keeps = keeps_then client asked next (keeps_asked client asked turn) put.tries.keeps;
         nearer = λ settling.
             let first = nearer_asked client asked link turn settling in
-            nearer_then client asked next link link new 0 1 (asks_one client asked (keeps_asked client asked turn)) first (put.tries.nearer first.settling);
+            nearer_then client asked next link link new 0 1 (asks_one client asked (keeps_asked client asked turn))
+            first (put.tries.nearer first.settling);
         paid = λ good honest.
-            subst (λ s. ArePaid 1 (left_for s link.past) (left_for next new.past) link.disturbances new.disturbances) turn
-            (put.tries.paid (may good).0 (subst (λ (s : ClientState). link.honest (is_planned s.keys)) (sym turn) honest));
+            subst (λ s. ArePaid 1 (left_for s link.past) (left_for next new.past) link.disturbances new.disturbances)
+            turn
+            (put.tries.paid (may good).0 (subst (λ (s : ClientState). link.honest (is_planned s.keys)) (sym turn)
+            honest));
         honest = put.tries.honest;
         counts = put.tries.counts;
         ended = put.tries.ended;
@@ -201,26 +221,31 @@ returns g c =
             onward = subst (λ (s : ClientState). WentOn s.keys link.past new.past) turn well.onward;
             further =
                 further_if client.keys link new _ _ (λ is. tt)
-                (subst (λ (s : ClientState). KeepsFurther s.keys ⊤ link new) turn (further_if asked.keys link new _ ⊤ (λ is. search rules) well.further));
+                (subst (λ (s : ClientState). KeepsFurther s.keys ⊤ link new) turn
+                (further_if asked.keys link new _ ⊤ (λ is. search rules) well.further));
           };
       honestly = λ honest.
-          let learns = (put.honestly (subst (λ (s : ClientState). link.honest (is_planned s.keys)) (sym turn) honest)).tries in
+          let learns = (put.honestly (subst (λ (s : ClientState). link.honest (is_planned s.keys)) (sym turn)
+          honest)).tries in
           record {
             stays_honest = put.tries.honest _ honest;
-            learnt = subst (λ (s : ClientState). Learnt s.keys s.batch link.past new.past s.knowns next.knowns 1) turn learns.learnt;
+            learnt = subst (λ (s : ClientState). Learnt s.keys s.batch link.past new.past s.knowns next.knowns 1) turn
+                learns.learnt;
             broken = tt;
             takes_nothing_back = learns.takes_nothing_back;
           };
       gives_up = tt;
       asked =
           ap (λ (parts : List Part). Some (length parts)) c.as_slice.ensures
-          ∙ ap (option_map (λ (question : Question). length question.parts)) (sym c.in-Some.is ∙ c.in_ok-question.ensures.question);
+          ∙ ap (option_map (λ (question : Question). length question.parts))
+          (sym c.in-Some.is ∙ c.in_ok-question.ensures.question);
       turned = record {
         question = c.in-Some.question;
         question_is = sym c.in_ok-question.ensures.question ∙ c.in-Some.is;
         about = asked_about client _ c.in-Some.question c.in-Some.is c.in_ok-question.ensures.about;
         answered =
-            subst (λ (s : ClientState). IsAnswered (link.honest (is_planned s.keys)) c.in-Some.question s next link.past new.past) turn put.answered;
+            subst (λ (s : ClientState). IsAnswered (link.honest (is_planned s.keys)) c.in-Some.question s next
+            link.past new.past) turn put.answered;
       };
       settled = λ is. absurd cc;
     }

@@ -25,7 +25,8 @@ returns g c =
             let noted = (all.good begun).noted in
             r.exchanges.safe keys new (reported keys end.runs.items end.saved.items) (all.good begun).good.sound
             (All-append (IsReached keys new) (flat_map (λ ended. reported_by keys ended.counts.items) end.runs.items)
-            (flat_map (λ progress. reported_by keys (map (λ known. known.done) progress)) end.saved.items) noted.ends_reached noted.saved_reached);
+            (flat_map (λ progress. reported_by keys (map (λ known. known.done) progress)) end.saved.items)
+            noted.ends_reached noted.saved_reached);
         machine =
             let went = (all.good begun).went in
             (λ opening. went.mirrored (r.exchanges.opening keys old opening), went.mirrored);
@@ -36,9 +37,12 @@ returns g c =
         onward = (all.good begun).went;
       };
       in_turn = in_turn_if plans (map (λ list. list.items) c.args.runs.now) (notes_of end) _ _ _ old new
-          (ok_of c.run_plans.result c.err-fault.result c.err-fault.ensures.value) (of_ok c.run_plans.result c.err-fault.result c.err-fault.ensures.value) all.in_turn;
+          (ok_of c.run_plans.result c.err-fault.result c.err-fault.ensures.value)
+          (of_ok c.run_plans.result c.err-fault.result c.err-fault.ensures.value) all.in_turn;
       ended = λ honest.
           all_joined end.runs.items _ _ _ _ _
-          (join_if [] end.runs.items _ _ _ _ _ _ (ok_of c.run_plans.result c.err-fault.result c.err-fault.ensures.value) (c.run_plans.ensures.ended honest));
-      followed = λ is. c.run_plans.ensures.followed (ok_of c.run_plans.result c.err-fault.result c.err-fault.ensures.value is);
+          (join_if [] end.runs.items _ _ _ _ _ _ (ok_of c.run_plans.result c.err-fault.result
+          c.err-fault.ensures.value) (c.run_plans.ensures.ended honest));
+      followed = λ is. c.run_plans.ensures.followed
+          (ok_of c.run_plans.result c.err-fault.result c.err-fault.ensures.value is);
     }

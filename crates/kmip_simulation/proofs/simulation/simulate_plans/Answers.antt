@@ -27,7 +27,8 @@ returns-clause-simulated c =
     let opening : (keys : _) → Opening keys (past_in link) = c.new_link-link.ensures.opening in
     let good : GoodStart plans (seen_in link) = record {
       honest_for = tt;
-      sound = c.the_laws_of_exchanges_hold.ensures.begins (first_plan plans) (past_in link) (opening (first_plan plans));
+      sound = c.the_laws_of_exchanges_hold.ensures.begins (first_plan plans) (past_in link)
+          (opening (first_plan plans));
       none_further = λ key planned none. (opening (last_plan plans)).no_object key planned;
     } in
     let second = second_is plans c.index-plans-1.result c.requires.two c.index-plans-1.is in
@@ -46,22 +47,28 @@ returns-clause-simulated c =
       opening = λ keys. subst (λ s. Opening keys (past_in s)) first (opening keys);
       in_turn =
           subst
-          (λ s. AreInTurn plans lists (notes_of end) (record { honest = ⊤; calm = CalmStart plans (seen_in s) }) (end.fault ≡ None) (past_in s) (past_in after)) first
+          (λ s. AreInTurn plans lists (notes_of end) (record { honest = ⊤; calm = CalmStart plans (seen_in s) })
+          (end.fault ≡ None) (past_in s) (past_in after)) first
           (subst
-          (λ rs. AreInTurn plans rs (notes_of end) (record { honest = ⊤; calm = CalmStart plans (seen_in link) }) (end.fault ≡ None) (past_in link) (past_in after)) runs
+          (λ rs. AreInTurn plans rs (notes_of end) (record { honest = ⊤; calm = CalmStart plans (seen_in link) })
+          (end.fault ≡ None) (past_in link) (past_in after)) runs
           c.campaigns-end.ensures.in_turn);
-      ended = subst (λ (s : Scene). AreEnded end.runs.items (length s.sent) s.ended after.ended) first (c.campaigns-end.ensures.ended tt);
+      ended = subst (λ (s : Scene). AreEnded end.runs.items (length s.sent) s.ended after.ended) first
+          (c.campaigns-end.ensures.ended tt);
       followed = λ is. subst (λ s. Follows s after) first (c.campaigns-end.ensures.followed is);
     }
 
 pub campaigns-end-requires : goal.campaigns-end-requires
 campaigns-end-requires c =
     let two : length c.in_ok-lists.lists.items ≡ 2 =
-    sym (length-map c.in_ok-lists.lists.items (λ (list : Vec Run Global). list.items)) ∙ ap length c.in_ok-lists.ensures.lists in
+    sym (length-map c.in_ok-lists.lists.items (λ (list : Vec Run Global). list.items))
+    ∙ ap length c.in_ok-lists.ensures.lists in
     let made : c.as_slice-2.result.now ≡ c.in_ok-lists-2.lists.items = c.as_slice-2.ensures.value in
     record {
       some = omega (arith, c.requires.two);
-      as_many = ap length made ∙ c.in_ok-lists-2.ensures.as_many ∙ ap length c.as_slice.ensures.value ∙ two ∙ sym c.requires.two;
+      as_many = ap length made ∙ c.in_ok-lists-2.ensures.as_many ∙ ap length c.as_slice.ensures.value ∙ two
+          ∙ sym c.requires.two;
       prolong = c.requires.prolong;
-      batches = subst (All (λ (list : Vec Run Global). MayBatch list.items)) (sym {A = List (Vec Run Global)} made) c.in_ok-lists-2.ensures.may;
+      batches = subst (All (λ (list : Vec Run Global). MayBatch list.items)) (sym {A = List (Vec Run Global)} made)
+          c.in_ok-lists-2.ensures.may;
     }

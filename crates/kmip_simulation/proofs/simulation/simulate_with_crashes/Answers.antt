@@ -20,14 +20,22 @@ returns-clause-simulated c =
     let after = c.campaign_with_crashes-crashes.new.link in
     let crashes = c.campaign_with_crashes-crashes.result in
     let all = crashing_in_batches batch (crashing_runs_of keys words) in
-    let opening : Opening keys (past_in (first_scene words)) = subst (λ s. Opening keys (past_in s)) first (c.new_link-link.ensures.opening keys) in
+    let opening : Opening keys (past_in (first_scene words)) = subst (λ s. Opening keys (past_in s)) first
+    (c.new_link-link.ensures.opening keys) in
     let runs : c.as_slice-2.result.now ≡ all =
-    c.as_slice-2.ensures.value ∙ c.in_ok-runs-2.ensures.runs ∙ ap (crashing_in_batches batch) (c.as_slice.ensures.value ∙ c.in_ok-runs.ensures.runs) in
-    let made : MakesCrashes (seen_in (first_scene words)) keys all crashes (seen_in after) (Follows (first_scene words) after) =
+    c.as_slice-2.ensures.value ∙ c.in_ok-runs-2.ensures.runs
+    ∙ ap (crashing_in_batches batch) (c.as_slice.ensures.value ∙ c.in_ok-runs.ensures.runs) in
+    let made : MakesCrashes (seen_in (first_scene words)) keys all crashes (seen_in after)
+    (Follows (first_scene words) after) =
     subst (λ s. MakesCrashes (seen_in s) keys all crashes (seen_in after) (Follows s after)) first
-    (subst (λ rs. MakesCrashes (seen_in link) keys rs crashes (seen_in after) (Follows link after)) runs c.campaign_with_crashes-crashes.ensures) in
+    (subst (λ rs. MakesCrashes (seen_in link) keys rs crashes (seen_in after) (Follows link after)) runs
+    c.campaign_with_crashes-crashes.ensures) in
     let good : GoodLink keys (seen_in (first_scene words)) =
-    record { amid_for = tt; sound = c.the_laws_of_exchanges_hold.ensures.begins keys (past_in (first_scene words)) opening } in
+    record {
+      amid_for = tt;
+      sound = c.the_laws_of_exchanges_hold.ensures.begins keys (past_in (first_scene words))
+          opening;
+    } in
     record {
       opening = opening;
       mirrored = (made.well good).machine.0 opening;
@@ -45,7 +53,8 @@ returns-then-crashes-clause-refused c = λ number is.
     let words = c.args.script in
     let batch = c.args.batch in
     let runs : c.as_slice-2.result.now ≡ crashing_in_batches batch (crashing_runs_of keys words) =
-    c.as_slice-2.ensures.value ∙ c.in_ok-runs-2.ensures.runs ∙ ap (crashing_in_batches batch) (c.as_slice.ensures.value ∙ c.in_ok-runs.ensures.runs) in
+    c.as_slice-2.ensures.value ∙ c.in_ok-runs-2.ensures.runs
+    ∙ ap (crashing_in_batches batch) (c.as_slice.ensures.value ∙ c.in_ok-runs.ensures.runs) in
     let first = c.new_link-link.ensures.first in
     let link = c.new_link-link.result in
     let after = c.campaign_with_crashes-crashes.new.link in
@@ -53,12 +62,15 @@ returns-then-crashes-clause-refused c = λ number is.
     let all = crashing_in_batches batch (crashing_runs_of keys words) in
     let same : c.len.result + 1 ≡ number = cc in
     let count : c.len.result ≡ length crashes.campaign.runs.items = search rules in
-    let made : MakesCrashes (seen_in (first_scene words)) keys all crashes (seen_in after) (Follows (first_scene words) after) =
+    let made : MakesCrashes (seen_in (first_scene words)) keys all crashes (seen_in after)
+    (Follows (first_scene words) after) =
     subst (λ s. MakesCrashes (seen_in s) keys all crashes (seen_in after) (Follows s after)) first
-    (subst (λ rs. MakesCrashes (seen_in link) keys rs crashes (seen_in after) (Follows link after)) runs c.campaign_with_crashes-crashes.ensures) in
+    (subst (λ rs. MakesCrashes (seen_in link) keys rs crashes (seen_in after) (Follows link after)) runs
+    c.campaign_with_crashes-crashes.ensures) in
     record {
       is_crash = subst (λ n. IsCrashOf keys words n) same
-          (crash_of batch keys words c.as_slice-2.result.now _ c.len.result runs count (c.campaign_with_crashes-crashes.ensures.refused c.if-crashes.true));
+          (crash_of batch keys words c.as_slice-2.result.now _ c.len.result runs count
+          (c.campaign_with_crashes-crashes.ensures.refused c.if-crashes.true));
       crashes = crashes;
       link = after;
       refused = c.if-crashes.true;

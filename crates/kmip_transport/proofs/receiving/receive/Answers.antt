@@ -7,7 +7,8 @@ use Rattle.kmip_transport.proofs.PieceLemmas.{Takes-refl, takes_on, received_no_
 use Rattle.kmip_transport.proofs.receiving.receive.Goals as goal
 
 -- all that was held or read is answered
-received : {M : Type 0} (bytes : M → List ℕ) (result : Result (Option M) LinkFault) (old all held : List ℕ) (unread left : Option (List ℕ))
+received : {M : Type 0} (bytes : M → List ℕ) (result : Result (Option M) LinkFault) (old all held : List ℕ)
+    (unread left : Option (List ℕ))
     → Takes old all unread left → Answers bytes result all held left → Receives bytes result old held unread left
 received bytes result old all held unread left taken answered = record {
   read = taken.read;
@@ -22,15 +23,23 @@ pub loop-turn-preserved : goal.loop-turn-preserved
 loop-turn-preserved g c =
     let begun = rw c.in-Ok-None.field-0-is at c.in-Ok-None.ensures in (
       takes_on _ _ _ _ _ _ _ c.loop-turn.invariant.0 begun.1 c.take_piece.ensures.taken,
-      λ sure. omega (arith, c.take_piece.ensures.grown sure (search rules), c.loop-turn.invariant.1 sure, ap length begun.1),
+      λ sure. omega (
+        arith,
+        c.take_piece.ensures.grown sure (search rules),
+        c.loop-turn.invariant.1 sure,
+        ap length
+            begun.1,
+      ),
     )
 
 pub returns-in-Ok-false-clause-received : goal.returns-in-Ok-false-clause-received
 returns-in-Ok-false-clause-received g c =
     let begun = rw c.in-Ok-None.field-0-is at c.in-Ok-None.ensures in
     let whole = takes_on _ _ _ _ _ _ _ c.loop-turn.invariant.0 begun.1 c.take_piece.ensures.taken in
-    let end = c.take_piece.ensures.end (subst (λ goes_on. c.take_piece.result ≡ Ok goes_on) c.in-Ok-false.field-0-test c.in-Ok-false.is) in
-    received (λ message. message.items) _ _ _ c.take_piece.new.framer _ _ whole (subst IsUnfinished (sym (end.0 ∙ begun.1)) begun.0, refl, end.1)
+    let end = c.take_piece.ensures.end (subst (λ goes_on. c.take_piece.result ≡ Ok goes_on) c.in-Ok-false.field-0-test
+    c.in-Ok-false.is) in
+    received (λ message. message.items) _ _ _ c.take_piece.new.framer _ _ whole
+    (subst IsUnfinished (sym (end.0 ∙ begun.1)) begun.0, refl, end.1)
 
 pub returns-in-Err-clause-received : goal.returns-in-Err-clause-received
 returns-in-Err-clause-received g c =
@@ -44,4 +53,10 @@ returns-in-Ok-None-hand_over-clause-received g c =
 
 pub returns-in-Ok-None-hand_over-clause-sure : goal.returns-in-Ok-None-hand_over-clause-sure
 returns-in-Ok-None-hand_over-clause-sure g c = λ sure io.
-    omega (arith, c.loop-turn.invariant.1 sure, c.a_framer_holds_one_message.ensures.at_most, c.loop-turn-test.false, c.loop-turn.auto._turn-end)
+    omega (
+      arith,
+      c.loop-turn.invariant.1 sure,
+      c.a_framer_holds_one_message.ensures.at_most,
+      c.loop-turn-test.false,
+      c.loop-turn.auto._turn-end,
+    )

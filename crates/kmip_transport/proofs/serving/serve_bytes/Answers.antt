@@ -9,9 +9,11 @@ use Rattle.kmip_transport.proofs.serving.serve_bytes.Goals as goal
 pub returns-in-Ok-clause-all : goal.returns-in-Ok-clause-all
 returns-in-Ok-clause-all g c = λ other.
     let done = c.serve_in_turn-served.new in
-    subst (λ before. ServesAll c.args.now c.in-Ok.end c.args.server.now done.server c.args.input.now before done.writer.bytes.items)
+    subst (λ before. ServesAll c.args.now c.in-Ok.end c.args.server.now done.server c.args.input.now before
+    done.writer.bytes.items)
     (ap (λ v. v.items) c.replace.ensures.value)
-    (all_served _ _ _ _ _ _ _ _ c.the_laws_of_streams_hold.ensures.fault (serves_at _ _ _ _ _ _ _ _ _ (to_z-of_z c.ranges.now) c.in-Ok.ensures.served)
+    (all_served _ _ _ _ _ _ _ _ c.the_laws_of_streams_hold.ensures.fault
+    (serves_at _ _ _ _ _ _ _ _ _ (to_z-of_z c.ranges.now) c.in-Ok.ensures.served)
     (λ io. c.in-Ok.ensures.sure tt (ap Ok io)) other)
 
 pub returns-in-Ok-clause-broken : goal.returns-in-Ok-clause-broken

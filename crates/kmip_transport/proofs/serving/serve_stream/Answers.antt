@@ -5,4 +5,5 @@ use Rattle.kmip_transport.proofs.serving.serve_stream.Goals as goal
 
 pub returns-in-Err : goal.returns-in-Err
 returns-in-Err g c =
-    serves_at _ _ _ _ _ _ _ _ _ (to_z-of_z c.ranges.now) (lost_is_io _ _ _ _ _ _ _ _ c.the_laws_of_sizes_hold.ensures.short c.in-Err.ensures.lost)
+    serves_at _ _ _ _ _ _ _ _ _ (to_z-of_z c.ranges.now)
+    (lost_is_io _ _ _ _ _ _ _ _ c.the_laws_of_sizes_hold.ensures.short c.in-Err.ensures.lost)

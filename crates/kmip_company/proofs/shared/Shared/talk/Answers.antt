@@ -17,6 +17,8 @@ returns-in_err-answer-clause-unmade g c =
     let request = c.args.request.now in
     let sent = c.self.inside.sent.items in
     let handed = c.self.inside.handed.items in
-    subst (λ (s : Sharing). ExchangedAmid keys (past_of s) request (Err NoMemory) (with_talk sent handed new)) c.self.view_is
+    subst (λ (s : Sharing). ExchangedAmid keys (past_of s) request (Err NoMemory) (with_talk sent handed new))
+    c.self.view_is
     (wanting c.the_laws_amid_others_hold.ensures.blind keys old new request sent sent handed handed refl refl
-    (c.the_laws_amid_others_hold.ensures.exchanges_amid keys old new request (Err NoMemory) (c.in_err-answer.ensures.want (is_planned keys)))))
+    (c.the_laws_amid_others_hold.ensures.exchanges_amid keys old new request (Err NoMemory)
+    (c.in_err-answer.ensures.want (is_planned keys)))))

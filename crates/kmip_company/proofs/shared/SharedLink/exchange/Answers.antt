@@ -16,9 +16,14 @@ returns-in_default-clause-made g c = record {
       let old = c.args.self.now in
       let new = c.talk.new.self in
       let done = c.in_default.ensures.unmade keys in
-      let kept = c.the_laws_amid_others_hold.ensures.exchanges keys (past_of old) (past_of new) c.args.request.now (Err NoMemory) sound just done in
-      let lawful = subst IsLawful together.keys_are (subst (λ (s : Sharing). IsLawful s.other.keys) c.self.view_is c.a_client_has_a_lawful_plan.ensures) in
-      (together_on c.the_laws_of_clients_hold.ensures.known_for_good keys old new lawful kept.1 c.talk.ensures.other together, done);
+      let kept = c.the_laws_amid_others_hold.ensures.exchanges keys (past_of old) (past_of new) c.args.request.now
+      (Err NoMemory) sound just done in
+      let lawful = subst IsLawful together.keys_are
+      (subst (λ (s : Sharing). IsLawful s.other.keys) c.self.view_is c.a_client_has_a_lawful_plan.ensures) in (
+        together_on c.the_laws_of_clients_hold.ensures.known_for_good keys old new lawful kept.1 c.talk.ensures.other
+            together,
+        done,
+      );
   calmly = search rules;
   counted = search rules;
   io = search rules;
@@ -37,12 +42,16 @@ returns-in_default-let_the_other_ask-clause-made g c = record {
       let between = c.let_the_other_ask.new.self in
       let request = c.args.request.now in
       let answer = option_map (λ v. v.items) c.in-Ok.answer in
-      let lawful = subst IsLawful together.keys_are (subst (λ (s : Sharing). IsLawful s.other.keys) c.self.view_is c.a_client_has_a_lawful_plan.ensures) in
+      let lawful = subst IsLawful together.keys_are
+      (subst (λ (s : Sharing). IsLawful s.other.keys) c.self.view_is c.a_client_has_a_lawful_plan.ensures) in
       let both =
-      both_passed c.the_laws_of_clients_hold.ensures.known_for_good c.the_laws_amid_others_hold.ensures.exchanges c.the_laws_amid_others_hold.ensures.blind
+      both_passed c.the_laws_of_clients_hold.ensures.known_for_good c.the_laws_amid_others_hold.ensures.exchanges
+      c.the_laws_amid_others_hold.ensures.blind
       c.the_laws_amid_others_hold.ensures.joins keys old mid between request answer lawful together sound just
-      (c.the_laws_amid_others_hold.ensures.exchanges_amid keys (past_in old.scene) (past_in mid.scene) request (Ok answer) (c.in-Ok.ensures.exchanged (is_planned keys)))
-      c.talk.ensures.other c.talk.ensures.sent c.talk.ensures.handed (c.let_the_other_ask.ensures.together keys) (c.let_the_other_ask.ensures.passed keys) in
+      (c.the_laws_amid_others_hold.ensures.exchanges_amid keys (past_in old.scene) (past_in mid.scene) request
+      (Ok answer) (c.in-Ok.ensures.exchanged (is_planned keys)))
+      c.talk.ensures.other c.talk.ensures.sent c.talk.ensures.handed (c.let_the_other_ask.ensures.together keys)
+      (c.let_the_other_ask.ensures.passed keys) in
       unnoted_amid keys old between between request answer refl both;
   calmly = search rules;
   counted = search rules;
@@ -61,12 +70,16 @@ returns-in-Err-clause-made g c = record {
       let between = c.let_the_other_ask.new.self in
       let request = c.args.request.now in
       let answer = option_map (λ v. v.items) c.in-Ok.answer in
-      let lawful = subst IsLawful together.keys_are (subst (λ (s : Sharing). IsLawful s.other.keys) c.self.view_is c.a_client_has_a_lawful_plan.ensures) in
+      let lawful = subst IsLawful together.keys_are
+      (subst (λ (s : Sharing). IsLawful s.other.keys) c.self.view_is c.a_client_has_a_lawful_plan.ensures) in
       let both =
-      both_passed c.the_laws_of_clients_hold.ensures.known_for_good c.the_laws_amid_others_hold.ensures.exchanges c.the_laws_amid_others_hold.ensures.blind
+      both_passed c.the_laws_of_clients_hold.ensures.known_for_good c.the_laws_amid_others_hold.ensures.exchanges
+      c.the_laws_amid_others_hold.ensures.blind
       c.the_laws_amid_others_hold.ensures.joins keys old mid between request answer lawful together sound just
-      (c.the_laws_amid_others_hold.ensures.exchanges_amid keys (past_in old.scene) (past_in mid.scene) request (Ok answer) (c.in-Ok.ensures.exchanged (is_planned keys)))
-      c.talk.ensures.other c.talk.ensures.sent c.talk.ensures.handed (c.let_the_other_ask.ensures.together keys) (c.let_the_other_ask.ensures.passed keys) in
+      (c.the_laws_amid_others_hold.ensures.exchanges_amid keys (past_in old.scene) (past_in mid.scene) request
+      (Ok answer) (c.in-Ok.ensures.exchanged (is_planned keys)))
+      c.talk.ensures.other c.talk.ensures.sent c.talk.ensures.handed (c.let_the_other_ask.ensures.together keys)
+      (c.let_the_other_ask.ensures.passed keys) in
       unnoted_amid keys old between c.note.new.self request answer c.in-Err.ensures.same both;
   calmly = search rules;
   counted = search rules;
@@ -85,12 +98,16 @@ returns-in-Ok-note-clause-made g c = record {
       let between = c.let_the_other_ask.new.self in
       let request = c.args.request.now in
       let answer = option_map (λ v. v.items) c.in-Ok.answer in
-      let lawful = subst IsLawful together.keys_are (subst (λ (s : Sharing). IsLawful s.other.keys) c.self.view_is c.a_client_has_a_lawful_plan.ensures) in
+      let lawful = subst IsLawful together.keys_are
+      (subst (λ (s : Sharing). IsLawful s.other.keys) c.self.view_is c.a_client_has_a_lawful_plan.ensures) in
       let both =
-      both_passed c.the_laws_of_clients_hold.ensures.known_for_good c.the_laws_amid_others_hold.ensures.exchanges c.the_laws_amid_others_hold.ensures.blind
+      both_passed c.the_laws_of_clients_hold.ensures.known_for_good c.the_laws_amid_others_hold.ensures.exchanges
+      c.the_laws_amid_others_hold.ensures.blind
       c.the_laws_amid_others_hold.ensures.joins keys old mid between request answer lawful together sound just
-      (c.the_laws_amid_others_hold.ensures.exchanges_amid keys (past_in old.scene) (past_in mid.scene) request (Ok answer) (c.in-Ok.ensures.exchanged (is_planned keys)))
-      c.talk.ensures.other c.talk.ensures.sent c.talk.ensures.handed (c.let_the_other_ask.ensures.together keys) (c.let_the_other_ask.ensures.passed keys) in
+      (c.the_laws_amid_others_hold.ensures.exchanges_amid keys (past_in old.scene) (past_in mid.scene) request
+      (Ok answer) (c.in-Ok.ensures.exchanged (is_planned keys)))
+      c.talk.ensures.other c.talk.ensures.sent c.talk.ensures.handed (c.let_the_other_ask.ensures.together keys)
+      (c.let_the_other_ask.ensures.passed keys) in
       noted_amid keys old between c.note.new.self request answer c.in-Ok-note.ensures.noted both;
   calmly = search rules;
   counted = search rules;
@@ -101,12 +118,16 @@ returns-in-Ok-note-clause-made g c = record {
       let request = c.args.request.now in
       let answer = option_map (λ v. v.items) c.in-Ok.answer in
       shared_once old c.note.new.self request answer
-      (shares old c.talk.new.self c.let_the_other_ask.new.self c.note.new.self request answer c.in-Ok.ensures.exchanged c.talk.ensures.other c.talk.ensures.sent
-      c.talk.ensures.handed c.in-Ok-let_the_other_ask.ensures.turn c.let_the_other_ask.ensures.sent c.let_the_other_ask.ensures.handed c.in-Ok-note.ensures.noted);
+      (shares old c.talk.new.self c.let_the_other_ask.new.self c.note.new.self request answer
+      c.in-Ok.ensures.exchanged c.talk.ensures.other c.talk.ensures.sent
+      c.talk.ensures.handed c.in-Ok-let_the_other_ask.ensures.turn c.let_the_other_ask.ensures.sent
+      c.let_the_other_ask.ensures.handed c.in-Ok-note.ensures.noted);
 }
 
 pub returns-in-Ok-note-clause-shared : goal.returns-in-Ok-note-clause-shared
 returns-in-Ok-note-clause-shared g c =
-    shares c.args.self.now c.talk.new.self c.let_the_other_ask.new.self c.note.new.self c.args.request.now (option_map (λ v. v.items) c.in-Ok.answer)
-    c.in-Ok.ensures.exchanged c.talk.ensures.other c.talk.ensures.sent c.talk.ensures.handed c.in-Ok-let_the_other_ask.ensures.turn
+    shares c.args.self.now c.talk.new.self c.let_the_other_ask.new.self c.note.new.self c.args.request.now
+    (option_map (λ v. v.items) c.in-Ok.answer)
+    c.in-Ok.ensures.exchanged c.talk.ensures.other c.talk.ensures.sent c.talk.ensures.handed
+    c.in-Ok-let_the_other_ask.ensures.turn
     c.let_the_other_ask.ensures.sent c.let_the_other_ask.ensures.handed c.in-Ok-note.ensures.noted

@@ -9,7 +9,8 @@ use Rattle.kmip_server.proofs.MessageLemmas.{batch_begun, batch_room, batch_serv
 use Rattle.kmip_server.proofs.ObjectLemmas.{kept_objects}
 use Rattle.kmip_server.proofs.server.Server.handle_batch.Goals as goal
 
-noted : {A E : Type 0} (r : Result A E) (P : List Effect → Type 0) (before after : List Effect) → OnErr r (GrownBy P before after)
+noted : {A E : Type 0} (r : Result A E) (P : List Effect → Type 0) (before after : List Effect)
+    → OnErr r (GrownBy P before after)
     → OnErr r ((effects : List Effect) × P effects)
 noted (Ok v) P before after grown = tt
 noted (Err e) P before after (more, is, begun) = (more, begun)
@@ -26,18 +27,24 @@ returns-clause-handled g c =
       after = search rules;
       begun = noted reply _ _ _
           (batch_begun c.serving_is_a_step.ensures c.serving_keeps_the_records.ensures reply c.args.self.now after
-          c.args.effects.now.items c.handle_parts-reply.new.effects.items _ _ (c.the_laws_of_messages_hold.ensures.questions_fit c.args.message.now) kept told.begun);
-      room = batch_room reply c.args.self.now after c.args.effects.now.items c.handle_parts-reply.new.effects.items _ _ told.after told.begun;
+          c.args.effects.now.items c.handle_parts-reply.new.effects.items _ _
+          (c.the_laws_of_messages_hold.ensures.questions_fit c.args.message.now) kept told.begun);
+      room = batch_room reply c.args.self.now after c.args.effects.now.items c.handle_parts-reply.new.effects.items _
+          _ told.after told.begun;
       kept_before = kept;
       kept = subst (λ s. IsKept s.rows s.room) c.self-2.view_is c.the_records_are_kept-2.ensures;
       objects_before = subst HasLawfulObjects c.self.view_is (kept_objects _ c.the_records_are_kept.ensures);
       objects = subst HasLawfulObjects c.self-2.view_is (kept_objects _ c.the_records_are_kept-2.ensures);
-      served = batch_served c.serving_is_a_step.ensures c.serving_keeps_the_records.ensures reply (λ v. v.items) c.args.self.now after
-          _ _ _ _ (c.the_laws_of_messages_hold.ensures.questions_fit c.args.message.now) kept told.tells told.after refl;
+      served = batch_served c.serving_is_a_step.ensures c.serving_keeps_the_records.ensures reply (λ v. v.items)
+          c.args.self.now after
+          _ _ _ _ (c.the_laws_of_messages_hold.ensures.questions_fit c.args.message.now) kept told.tells told.after
+          refl;
     }
 
 pub returns-clause-begun : goal.returns-clause-begun
 returns-clause-begun g c =
-    batch_begun c.serving_is_a_step.ensures c.serving_keeps_the_records.ensures c.handle_parts-reply.result c.args.self.now c.handle_parts-reply.new.self
-    c.args.effects.now.items c.handle_parts-reply.new.effects.items _ _ (c.the_laws_of_messages_hold.ensures.questions_fit c.args.message.now)
+    batch_begun c.serving_is_a_step.ensures c.serving_keeps_the_records.ensures c.handle_parts-reply.result
+    c.args.self.now c.handle_parts-reply.new.self
+    c.args.effects.now.items c.handle_parts-reply.new.effects.items _ _
+    (c.the_laws_of_messages_hold.ensures.questions_fit c.args.message.now)
     (subst (λ s. IsKept s.rows s.room) c.self.view_is c.the_records_are_kept.ensures) c.handle_parts-reply.ensures.begun
