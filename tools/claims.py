@@ -10,7 +10,7 @@ import re
 from prose import documents, without_fences
 
 NAMED_KEYS = 'crates/kmip_plan/src/named_keys.rt'
-REPORTING = 'crates/kmip_trouble/src/reporting.rt'
+DOING = 'crates/kmip_program/src/doing.rt'
 COURSES = 'crates/kmip_tally/specs/Courses.antt'
 MACHINE_DISK = 'crates/kmip_files/src/machine_disk.rt'
 
@@ -18,7 +18,7 @@ MACHINE_DISK = 'crates/kmip_files/src/machine_disk.rt'
 CLAIMS = [
     (r'compared each with each', NAMED_KEYS, 'not HashSet<String>'),
     (r'`NamedKeys`', NAMED_KEYS, 'HashSet<String>'),
-    (r'[Ss]tandard output has the promised (?:texts|lines) (?:alone|only)', REPORTING, 'not pub fn print_made'),
+    (r'[Ss]tandard output has the promised (?:texts|lines) (?:alone|only)', DOING, 'not rt.print(PLAN_SCHEMA)'),
     (r'(?:which steps a|that this) run took', COURSES, 'not has_asked course.asked'),
     (r'\bfsync\(?\)?[^.]*\bof (?:the|its|a) file', MACHINE_DISK, 'not file.sync_data()'),
     (r'\bfdatasync\b', MACHINE_DISK, 'file.sync_data()'),

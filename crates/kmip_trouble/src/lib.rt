@@ -1,13 +1,12 @@
 //! What keeps a command from its work, and how that is told.
 //!
 //! A `Trouble` ends a command before its work is done, and `Trouble::tell` is the one place that prints it.
-//! `Told` is a standard stream that tells why it fails. `print_made` prints a report that was made in
-//! memory, or that memory ran out.
+//! `Told` is a standard stream that tells why it fails.
 //!
 //! All is safe and total. The line of an `Obstacle` is proved in both forms (specs/PrivateObstacleLines.antt), but
 //! for the words of the system, and for the line and the words that kmip_explaining finds for a plan.
-//! `Trouble`, `print_made`, `tell_why`, `tell_cause`, `tell_output`, `tell_of_terminal`, `standard_input`
-//! and `standard_output` have no clause, as std says nothing in contracts of the bytes of streams and of
+//! `Trouble`, `tell_why`, `tell_cause`, `tell_output`, `tell_of_terminal`, `standard_input` and
+//! `standard_output` have no clause, as std says nothing in contracts of the bytes of streams and of
 //! the words of the system. `make causes` wants the lines of files, sockets and streams.
 #![tactic(auto)]
 
@@ -35,7 +34,6 @@ pub use disagreement::Disagreement;
 pub use naming::{INPUT_PATH, plan_name};
 pub use obstacle::Obstacle;
 pub use place::Place;
-pub use reporting::print_made;
 pub use told::{
     STANDARD_INPUT, Told, standard_input, standard_output, tell_of_terminal, tell_output,
 };

@@ -1,24 +1,11 @@
-//! How a report that was made in memory as a whole is printed, and the line of a fault at a path.
+//! The line of a fault at a path.
 ghost use Rattle.std.specs.Prelude.{◌≡◌, ◌++◌, OnOk, option_map};
 ghost use Rattle.kmip_report.specs.Pieces.{line_in};
 ghost use Rattle.kmip_trouble.specs.PrivateObstacleLines.{fault_at};
 
-use crate::told::standard_output;
-use kmip_report::{ExitStatus, Fault, Form, print_report, push_fault};
+use kmip_report::{Fault, Form, push_fault};
 use kmip_ttlv::NoMemory;
 use std::alloc::Global;
-
-/// Prints the report of a command on standard output, and says how the program ends: `Refused` if
-/// something was refused, otherwise `Done`. If memory ran out while it was made, the line of that is
-/// printed instead.
-pub fn print_made(
-    rt: &HostRuntime,
-    form: Form,
-    made: Result<bool, NoMemory>,
-    report: &[u8],
-) -> ExitStatus {
-    print_report(form, made, report, &mut standard_output(rt))
-}
 
 /// Appends the line of a fault at a path, and why it is one, if that is known.
 ///
