@@ -21,5 +21,5 @@ mod wording;
 
 pub use lines::{push_end, push_making, push_premise, push_unmade, unfit_line};
 pub use premise::{PREMISES, Premise, finding_of};
-pub use running::{probe, probe_bytes, run_probe};
+pub use running::{probe_bytes, run_probe};
 pub use wording::are_all_kept;

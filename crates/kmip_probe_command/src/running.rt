@@ -92,7 +92,7 @@ fn print_end<W: Write>(form: Form, ended: Result<bool, CommandFault>, writer: &m
 ///
 /// # Errors
 /// `NoMemory`, and `Output` where the writer fails. The lines that were written before stay.
-pub fn probe<L: Link, O: ExchangeObserver, W: Write>(
+fn probe<L: Link, O: ExchangeObserver, W: Write>(
     alloc: Global,
     prefix: &str,
     form: Form,
