@@ -1,6 +1,6 @@
 #!/usr/bin/env python3
 """Counts the allocations and the instructions of `kmipctl answer` a message, of the baseline too, and of `sim` an
-exchange; and how often `run`, `look` and `probe` read a reply.
+exchange; how often `run`, `look` and `probe` read a reply; and how often each command parses a plan and a progress.
 
     bench/counts.py PROGRAM OUT
 
@@ -10,6 +10,9 @@ The counts do not depend on what else the machine does.
 
 Each reply is to be read once, with --verbose too: it fails if callgrind counts more calls of `read_reply`, or of
 `requests_in`, which reads what was asked.
+
+Each command is to parse each of its plans once, and its progress once: it fails if callgrind counts other calls of
+`read_plan` of kmip_plan and `read_text` of kmip_progress.
 
 Allocations are calls of malloc, calloc and realloc, which bench/count.c counts; that needs cc. Instructions are those
 that callgrind counts; that needs valgrind. What a machine lacks is not counted, and a line says so.
@@ -24,7 +27,7 @@ import sys
 
 sys.dont_write_bytecode = True
 
-from measuring import fail, ratio, remove_progress, run, write_plan
+from measuring import Server, fail, ratio, remove_progress, run, write_plan
 
 # What the messages are, how many the second run has more, and the words for bench/input.rs of both.
 LOADS = [
@@ -36,6 +39,8 @@ LOADS = [
 FEW, MANY = 500, 1000
 # The keys of the plan of `run`, with three exchanges each.
 RUN_KEYS = 20
+# The functions that parse a plan and a progress: the crate, and the name.
+PARSERS = [('kmip_plan', 'read_plan'), ('kmip_progress', 'read_text')]
 # A function that a line of callgrind names, by a number, and with its name the first time; and how often it is called.
 NAMED = re.compile(r'(c?fn)=\((\d+)\)(?: (.*))?$')
 CALLED = re.compile(r'calls=(\d+)')
@@ -154,6 +159,41 @@ class Counts:
         # The server has no object, so a look ends with 1.
         for command, wanted, *words in ('run', 0, '--plan', plan), ('look', 1, '--plan', plan), ('probe', 0, '--name-prefix', 'p'):
             self.tell_reading(counter, command, wanted, words)
+        self.tell_parsings(counter, plan)
+
+    def tell_parsing(self, counter, what, wanted, words):
+        """Prints how often a command parses a plan and a progress, and fails if the two numbers are not those wanted."""
+        calls = counter.calls([self.program, *words], 0)
+        counted = tuple(sum(count for name, count in calls.items() if name.startswith(f'{crate}::') and name.endswith(f'::{word}'))
+                        for crate, word in PARSERS)
+        print(f'{what}: {counted[0]} of a plan parsed, {counted[1]} of a progress', flush=True)
+        if counted != wanted:
+            fail([self.program, *words], f'{wanted[0]} of a plan is to be parsed, and {wanted[1]} of a progress')
+
+    def tell_parsings(self, counter, plan):
+        """Prints how often each command that has a plan parses it, and its progress."""
+        progress, script, prolonging = (self.path(name) for name in ('run.progress', 'empty.script', 'prolonging.script'))
+        open(script, 'w').close()
+        with open(prolonging, 'w') as file:
+            file.write('prolong\n')
+        remove_progress(progress)
+        given = ['--plan', plan]
+        kept = [*given, '--progress', progress]
+        with Server([self.program, 'serve', '--port', '0', '--connections', '1000000']) as server:
+            address = ['--connect', f'127.0.0.1:{server.port}']
+            for what, wanted, *words in (
+                ('check', (1, 0), 'check', *given),
+                ('check --after', (2, 0), 'check', *given, '--after', plan),
+                ('sim', (1, 0), 'sim', *given, '--script', script),
+                # The run of the second plan begins with what that of the first saved.
+                ('sim --then', (2, 1), 'sim', *given, '--then', plan, '--script', prolonging),
+                ('run that begins', (1, 0), 'run', *kept, *address),
+                ('look', (1, 0), 'look', *given, *address),
+                ('list', (1, 1), 'list', *kept),
+                ('run that goes on', (1, 1), 'run', *kept, *address),
+                ('run --refresh', (1, 1), 'run', *kept, '--refresh', *address),
+            ):
+                self.tell_parsing(counter, what, wanted, words)
 
     def tell(self, kind, digits):
         """Prints what a counter of this kind counts, or that the machine lacks what it needs."""

@@ -1,17 +1,15 @@
--- What `list` reports for a plan and what was read of a progress, and `run` of what its client knows.
+-- What `list` reports of a progress of a plan, and `run` of what its client knows.
 -- Source: own (text): what the program prints.
-use Rattle.std.specs.Prelude.{ℕ, Bool, true, false, List, [], ◌∷◌, ◌++◌, length, map, codes, Option, None, Result, Ok, Err}
+use Rattle.std.specs.Prelude.{Bool, true, List, [], ◌∷◌, ◌++◌, length, map, codes}
 use Rattle.kmip_report.specs.Pieces.{Piece, number, shown_or, told_if, word}
 use Rattle.kmip_plan.specs.TargetWords.{target_word}
 use Rattle.kmip_plan.specs.declared.key.Key.{Key}
-use Rattle.kmip_progress.specs.declared.progress_fault.ProgressFault.{ProgressFault}
 use Rattle.kmip_progress.specs.declared.known.Known.{Known}
 use Rattle.kmip_client.specs.Clients.{ClientState}
 use Rattle.kmip_client.specs.Knowledge.{chain_length}
 use Rattle.kmip_client.specs.Saving.{progress, resume}
 use Rattle.kmip_client.specs.Verdicts.{finished_count, verdict_word, verdicts_of}
 use Rattle.kmip_client.specs.declared.verdict.Verdict.{Verdict}
-use Rattle.kmip_plan_report.specs.Refusals.{progress_refusal}
 use Rattle.kmip_plan_report.specs.Standings.{Standing, standings}
 
 -- The line of a key: its name, its target, the number of its steps that are done, the verdict and the identifier. The
@@ -48,14 +46,3 @@ client_listing client = list_lines_by (verdicts_of client.keys client.knowns) cl
 -- The listing of a progress: that of a client that begins with it.
 abbrev pub saved_listing : List Key → List Known → List (List Piece)
 saved_listing keys saved = client_listing (resume keys saved)
-
--- The report for what was read of a progress of the plan: the listing, or the line of the fault of the text at this
--- path.
-abbrev pub progress_listing : List Key → Option (List ℕ) → Result (List Known) ProgressFault → List (List Piece)
-progress_listing keys at (Ok saved) = saved_listing keys saved
-progress_listing keys at (Err fault) = progress_refusal fault at None ∷ []
-
--- True if no progress was read.
-abbrev pub is_progress_refused : Result (List Known) ProgressFault → Bool
-is_progress_refused (Ok saved) = false
-is_progress_refused (Err fault) = true

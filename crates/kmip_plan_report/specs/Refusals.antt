@@ -9,6 +9,7 @@ use Rattle.kmip_plan.specs.declared.plan_fault.PlanFault.{PlanFault}
 use Rattle.kmip_plan.specs.declared.plan_fault.PlanFault.TheVariants.{NoMemory}
 use Rattle.kmip_progress.specs.Faults.{progress_fault_name, progress_fault_number}
 use Rattle.kmip_progress.specs.declared.progress_fault.ProgressFault.{ProgressFault}
+use Rattle.kmip_progress.specs.declared.progress_fault.ProgressFault.TheVariants as progress_faults
 
 -- Where a text has the fault for which it is refused, and why it is one, as far as that is known.
 pub record Site : Type 0 where
@@ -46,6 +47,11 @@ plan_refusal fault at found =
 abbrev pub is_memory : PlanFault → Bool
 is_memory NoMemory = true
 is_memory fault = false
+
+-- True if the fault of a progress is that memory ran out, which refuses nothing.
+abbrev pub is_progress_memory : ProgressFault → Bool
+is_progress_memory progress_faults.NoMemory = true
+is_progress_memory fault = false
 
 -- The line of a fault of a progress, of the text at this path: its number and its name, and in JSON the path, and why
 -- it is refused.

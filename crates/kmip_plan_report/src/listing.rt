@@ -1,7 +1,6 @@
 //! The command `list`: what a progress says of each key of its plan.
-ghost use Rattle.std.specs.Prelude.{◌≡◌, ◌++◌, IfOk, OnOk, map, option_map};
+ghost use Rattle.std.specs.Prelude.{◌≡◌, ◌++◌, false, IfOk, OnOk, map, option_map};
 ghost use Rattle.std.specs.Io.KnownBytes.{Appends};
-ghost use Rattle.kmip_progress.specs.Reading.{read_text};
 ghost use Rattle.kmip_progress.specs.Suiting.{Suits};
 ghost use Rattle.kmip_report.specs.Endings.{FailsToPrint, IfFailed, IfWhole};
 ghost use Rattle.kmip_report.specs.FaultLines.{no_memory};
@@ -10,89 +9,68 @@ ghost use Rattle.kmip_report.specs.Pieces.{line_in, report_in};
 ghost use Rattle.kmip_plan_report.specs.Listing.{
   client_listing,
   finished_line,
-  is_progress_refused,
   key_line,
   key_line_with,
   list_lines_by,
-  progress_listing,
   saved_listing,
 };
 ghost use Rattle.kmip_plan_report.specs.Standings.{standing_of};
 
 use crate::key_standing::{KeyStanding, standings};
-use crate::refusing::push_progress_refusal;
 use kmip_client::{Client, Verdict, finished_count};
 use kmip_plan::{Key, Plan, chain_length};
-use kmip_progress::{Known, Progress, ProgressFault};
+use kmip_progress::{Known, Progress};
 use kmip_report::{ExitStatus, Form, Piece, Printer, print_report, push_line};
 use kmip_ttlv::{NoMemory, Text};
 use std::alloc::Global;
 
-/// Runs `list` on a plan and the text of a progress, which is that of the file at this path: prints the
-/// report, or that memory ran out. Returns how the program ends.
+/// Runs `list` on a plan and a progress: prints the listing, or that memory ran out. Returns how the
+/// program ends. What it prints of a text that is not a progress of the plan is printed by
+/// `run_progress_refusal`.
 pub fn run_list<P: Printer>(
     alloc: Global,
     form: Form,
     plan: &Plan,
-    progress: &str,
-    at: Option<&str>,
+    saved: &Progress,
     printer: &mut P,
 ) -> ExitStatus
-    // If it ends with `Done` or `Refused`, exactly the listing or the line of the fault is printed. It
-    // never ends with `Usage`.
+    // The progress suits the plan.
+    requires { Suits plan.now saved.now }
+    // If it ends with `Done`, exactly the listing is printed. It never ends with `Usage`.
     ensures text { IfWhole result (λ _. Appends (P.contents printer.old) (P.contents printer.new)
-        (report_in form (progress_listing plan.now (option_map (λ path. path.now) at.entry)
-        (read_text plan.now progress.now)))) }
-    // It ends with `Refused`, not `Done`, exactly if the text is not a progress of the plan.
-    ensures refused { IfWhole result (λ r.
-        r ≡ is_progress_refused (read_text plan.now progress.now)) }
+        (report_in form (saved_listing plan.now saved.now))) }
+    // It never ends with `Refused`.
+    ensures refused { IfWhole result (λ r. r ≡ false) }
     // If it ends with `Failed`, memory ran out, and exactly the line of that is printed; or the printer
     // failed.
     ensures broken { IfFailed result (λ fault. FailsToPrint (line_in form no_memory) fault
         P.own_fault P.IsWhole (P.contents printer.old) (P.contents printer.new)) }
 {
     let mut text = Vec::new(alloc);
-    let made = push_listing(alloc, form, plan, progress, at, &mut text);
+    let made = push_whole_list(alloc, form, plan, saved, &mut text);
     print_report(form, made, text.as_slice(), printer)
 }
 
-/// Appends in this form what the text of a progress, which is that of the file at this path, says of
-/// each key of a plan: a line for each key with its name, its target, how many of its steps are done,
-/// the verdict and its identifier, and a line that counts the finished keys. If the progress is refused
-/// it is one line, which says so. Returns true if it is refused.
-///
-/// # Errors
-/// If memory runs out. A part may have been appended then.
-pub fn push_listing(
+/// Appends the listing of a progress. Returns false, as nothing is refused.
+fn push_whole_list(
     alloc: Global,
     form: Form,
     plan: &Plan,
-    progress: &str,
-    at: Option<&str>,
+    saved: &Progress,
     text: &mut Vec<u8>,
 ) -> Result<bool, NoMemory>
-    // What is appended is exactly the listing, or the line of the fault.
-    ensures text { OnOk result (text.new.items ≡ text.old.items
-        ++ report_in form (progress_listing plan.now (option_map (λ path. path.now) at.entry)
-        (read_text plan.now progress.now))) }
-    // It is refused exactly if the text is not a progress of the plan.
-    ensures refused { IfOk result (λ r.
-        r ≡ is_progress_refused (read_text plan.now progress.now)) }
+    requires { Suits plan.now saved.now }
+    ensures text { OnOk result (text.new.items
+        ≡ text.old.items ++ report_in form (saved_listing plan.now saved.now)) }
+    ensures refused { IfOk result (λ r. r ≡ false) }
 {
-    match Progress::read_text(alloc, plan, progress) {
-        Ok(saved) => {
-            push_list(alloc, form, plan, &saved, text)?;
-            Ok(false)
-        }
-        Err(ProgressFault::NoMemory) => Err(NoMemory),
-        Err(fault) => {
-            push_progress_refusal(alloc, form, fault, at, None, text)?;
-            Ok(true)
-        }
-    }
+    push_list(alloc, form, plan, saved, text)?;
+    Ok(false)
 }
 
-/// Appends the listing of a progress.
+/// Appends what a progress says of each key of a plan: a line for each key with its name, its target,
+/// how many of its steps are done, the verdict and its identifier, and a line that counts the finished
+/// keys.
 ///
 /// # Errors
 /// If memory runs out. A part may have been appended then.

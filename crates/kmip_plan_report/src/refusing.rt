@@ -1,12 +1,22 @@
 //! The lines of a plan or a progress that is refused.
-ghost use Rattle.std.specs.Prelude.{◌≡◌, [], ◌∷◌, ◌++◌, false, OnOk, option_map};
+ghost use Rattle.std.specs.Prelude.{◌≡◌, [], ◌∷◌, ◌++◌, false, true, None, IfOk, OnOk, option_map};
+ghost use Rattle.std.specs.Io.KnownBytes.{Appends};
+ghost use Rattle.kmip_report.specs.Endings.{FailsToPrint, IfFailed, IfWhole};
+ghost use Rattle.kmip_report.specs.FaultLines.{no_memory};
 ghost use Rattle.kmip_report.specs.Pieces.{line_in, report_in};
-ghost use Rattle.kmip_plan_report.specs.Refusals.{Site, is_memory, plan_refusal, progress_refusal, site};
+ghost use Rattle.kmip_plan_report.specs.Refusals.{
+  Site,
+  is_memory,
+  is_progress_memory,
+  plan_refusal,
+  progress_refusal,
+  site,
+};
 
 use kmip_explaining::explained;
 use kmip_plan::PlanFault;
 use kmip_progress::ProgressFault;
-use kmip_report::{Form, Member, Piece, push_line};
+use kmip_report::{ExitStatus, Form, Member, Piece, Printer, print_report, push_line};
 use kmip_ttlv::NoMemory;
 use std::alloc::Global;
 
@@ -76,6 +86,56 @@ pub fn push_refused_plan(
             push_plan_refusal(alloc, form, fault, at, found.line, Some(why), text)
         }
     }
+}
+
+/// Prints the line of a progress that is refused for this fault, which is that of the file at this
+/// path, or that memory ran out. Returns how the program ends.
+pub fn run_progress_refusal<P: Printer>(
+    alloc: Global,
+    form: Form,
+    fault: ProgressFault,
+    at: Option<&str>,
+    printer: &mut P,
+) -> ExitStatus
+    // If it ends with `Refused`, exactly the line of the fault is printed. It never ends with `Usage`.
+    ensures text { IfWhole result (λ _. Appends (P.contents printer.old) (P.contents printer.new)
+        (line_in form (progress_refusal fault (option_map (λ path. path.now) at.entry) None))) }
+    // It never ends with `Done`.
+    ensures refused { IfWhole result (λ r. r ≡ true) }
+    // If it ends with `Refused`, the fault is not that memory ran out.
+    ensures known { IfWhole result (λ _. is_progress_memory fault ≡ false) }
+    // If it ends with `Failed`, memory ran out, and exactly the line of that is printed; or the printer
+    // failed.
+    ensures broken { IfFailed result (λ fault. FailsToPrint (line_in form no_memory) fault
+        P.own_fault P.IsWhole (P.contents printer.old) (P.contents printer.new)) }
+{
+    let mut text = Vec::new(alloc);
+    let made = push_refused_progress(alloc, form, fault, at, &mut text);
+    print_report(form, made, text.as_slice(), printer)
+}
+
+/// Appends the line of a progress that is refused for this fault, which is that of the file at this
+/// path. Returns true, as it is refused.
+///
+/// # Errors
+/// If memory runs out, and if the fault is that it ran out. A part may have been appended then.
+fn push_refused_progress(
+    alloc: Global,
+    form: Form,
+    fault: ProgressFault,
+    at: Option<&str>,
+    text: &mut Vec<u8>,
+) -> Result<bool, NoMemory>
+    ensures text { OnOk result (text.new.items ≡ text.old.items
+        ++ line_in form (progress_refusal fault (option_map (λ path. path.now) at.entry) None)) }
+    ensures refused { IfOk result (λ r. r ≡ true) }
+    ensures known { OnOk result (is_progress_memory fault ≡ false) }
+{
+    if let ProgressFault::NoMemory = fault {
+        return Err(NoMemory);
+    }
+    push_progress_refusal(alloc, form, fault, at, None, text)?;
+    Ok(true)
 }
 
 /// Appends the line of a progress that is refused. JSON also has the path of the file, and why it is

@@ -7,7 +7,8 @@ use crate::recalling::{judge_attributes, progress_file_at};
 use kmip_choices::ListOptions;
 use kmip_explaining::RefusedProgress;
 use kmip_files::{MOST_PROGRESS_BYTES, ProgressFile};
-use kmip_plan_report::run_list;
+use kmip_plan::Plan;
+use kmip_plan_report::{run_list, run_progress_refusal};
 use kmip_progress::{Progress, ProgressFault};
 use kmip_report::ExitStatus;
 use kmip_trouble::{Trouble, plan_name, standard_output};
@@ -16,8 +17,7 @@ use std::alloc::Global;
 use std::io::{self, ErrorKind};
 
 /// The command `list`: the plan is read first, then the progress, and then what says where that was
-/// kept. No lock is taken, as the file is whole at any instant. Where the progress is listed, standard
-/// error has against which server it was kept, and when.
+/// kept. No lock is taken, as the file is whole at any instant.
 ///
 /// # Errors
 /// What ends it before anything is printed.
@@ -26,54 +26,73 @@ pub fn list_progress(rt: &HostRuntime, options: &ListOptions) -> Result<ExitStat
     let path = options.progress.as_str();
     let file = progress_file_at(rt, path)?;
     let saved = text_within(rt, path, MOST_PROGRESS_BYTES)?;
-    let line = origin_line(&file, &plan, saved.as_str())?;
+    match Progress::read_text(rt.alloc(), &plan.plan, saved.as_str()) {
+        Ok(progress) => list_kept(options, &file, &plan.plan, &progress),
+        Err(ProgressFault::NoMemory) => Err(Trouble::from(NoMemory)),
+        Err(fault) => Ok(refuse(rt, options, &plan, saved.as_str(), fault)),
+    }
+}
+
+/// Lists the progress that was read from a file. Standard error has against which server it was kept,
+/// and when.
+///
+/// # Errors
+/// If the progress was saved for other attributes, or memory runs out.
+fn list_kept(
+    options: &ListOptions,
+    file: &ProgressFile<'_, HostRuntime>,
+    plan: &Plan,
+    progress: &Progress,
+) -> Result<ExitStatus, Trouble> {
+    let rt = file.system();
+    let line = origin_line(file, plan)?;
+    let mut output = standard_output(rt);
     let status = run_list(
         rt.alloc(),
         options.format.form(),
-        &plan.plan,
-        saved.as_str(),
-        Some(path),
-        &mut standard_output(rt),
+        plan,
+        progress,
+        &mut output,
     );
-    if status == ExitStatus::Refused {
-        let refused = RefusedProgress {
-            plan_path: plan_name(options.plan.as_str()),
-            plan: plan.text.as_str(),
-            path,
-            text: saved.as_str(),
-        };
-        refused.explain(rt);
-    }
     if status == ExitStatus::Done {
         let _ = rt.eprintln(line.as_str());
     }
     Ok(status)
 }
 
-/// The line that says against which server and when a progress was kept; empty where the progress is
-/// refused.
+/// Prints that the text of a progress file is refused for this fault, and explains it on standard error.
+fn refuse(
+    rt: &HostRuntime,
+    options: &ListOptions,
+    plan: &PlanFile,
+    saved: &str,
+    fault: ProgressFault,
+) -> ExitStatus {
+    let path = options.progress.as_str();
+    let mut output = standard_output(rt);
+    let form = options.format.form();
+    let status = run_progress_refusal(rt.alloc(), form, fault, Some(path), &mut output);
+    if status == ExitStatus::Refused {
+        let refused = RefusedProgress {
+            plan_path: plan_name(options.plan.as_str()),
+            plan: plan.text.as_str(),
+            path,
+            text: saved,
+        };
+        refused.explain(rt);
+    }
+    status
+}
+
+/// The line that says against which server and when a progress was kept.
 ///
 /// # Errors
 /// If the progress was saved for other attributes, or memory runs out.
-fn origin_line(
-    file: &ProgressFile<'_, HostRuntime>,
-    plan: &PlanFile,
-    saved: &str,
-) -> Result<String, Trouble> {
-    let alloc = file.system().alloc();
-    match Progress::read_text(alloc, &plan.plan, saved) {
-        Ok(_) => told_origin(file, plan),
-        Err(ProgressFault::NoMemory) => Err(Trouble::from(NoMemory)),
-        Err(_) => Ok(String::new(alloc)),
-    }
-}
-
-/// The line of a progress that is one of this plan.
-fn told_origin(file: &ProgressFile<'_, HostRuntime>, plan: &PlanFile) -> Result<String, Trouble> {
+fn origin_line(file: &ProgressFile<'_, HostRuntime>, plan: &Plan) -> Result<String, Trouble> {
     let rt = file.system();
     match known_origin(file)? {
         Known::Origin(origin) => {
-            judge_attributes(file, &origin, plan.plan.keys())?;
+            judge_attributes(file, &origin, plan.keys())?;
             Ok(origin.kept_text(rt)?)
         }
         Known::Nothing => {

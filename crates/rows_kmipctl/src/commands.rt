@@ -14,9 +14,10 @@ use kmip_message_commands::{
 };
 use kmip_plan::{Plan, PlanFault, read_plan};
 use kmip_plan_report::{
-    push_check, push_check_after, push_listing, push_refused_plan, run_check, run_check_after,
-    run_list,
+    push_check, push_check_after, push_list, push_progress_refusal, push_refused_plan, run_check,
+    run_check_after, run_list, run_progress_refusal,
 };
+use kmip_progress::{Progress, ProgressFault};
 use kmip_report::{CommandFault, ExitStatus, Form as ReportForm, finished, print_report, send};
 use kmip_run_command::batch_of;
 use kmip_sim_command::{SimInput, push_sim, run_sim};
@@ -213,14 +214,7 @@ impl Command {
                 Err(fault) => refuse(alloc, plan.as_str(), &fault, writer),
             },
             Command::List { plan, progress } => match read_plan(alloc, plan.as_str()) {
-                Ok(plan) => run_list(
-                    alloc,
-                    ReportForm::Text,
-                    &plan,
-                    progress.as_str(),
-                    None,
-                    writer,
-                ),
+                Ok(plan) => list(alloc, &plan, progress.as_str(), writer),
                 Err(fault) => refuse(alloc, plan.as_str(), &fault, writer),
             },
             Command::Simulate(case) => case.run(alloc, writer),
@@ -277,7 +271,7 @@ impl Command {
                 Err(fault) => push_refused(alloc, plan.as_str(), &fault, text),
             },
             Command::List { plan, progress } => match read_plan(alloc, plan.as_str()) {
-                Ok(plan) => push_listing(alloc, form, &plan, progress.as_str(), None, text),
+                Ok(plan) => push_listing(alloc, &plan, progress.as_str(), text),
                 Err(fault) => push_refused(alloc, plan.as_str(), &fault, text),
             },
             Command::Check(plan) => push_check(alloc, form, plan.as_str(), None, text),
@@ -303,4 +297,32 @@ fn refuse(alloc: Global, plan: &str, fault: &PlanFault, writer: &mut NotingWrite
     let mut text = Vec::new(alloc);
     let made = push_refused(alloc, plan, fault, &mut text);
     print_report(ReportForm::Text, made, text.as_slice(), writer)
+}
+
+/// Lists the text of a progress of the plan, as the program does.
+fn list(alloc: Global, plan: &Plan, progress: &str, writer: &mut NotingWriter) -> ExitStatus {
+    match Progress::read_text(alloc, plan, progress) {
+        Ok(saved) => run_list(alloc, ReportForm::Text, plan, &saved, writer),
+        Err(fault) => run_progress_refusal(alloc, ReportForm::Text, fault, None, writer),
+    }
+}
+
+/// Appends the listing of the text of a progress of the plan, or why it is refused. Returns true if it is.
+fn push_listing(
+    alloc: Global,
+    plan: &Plan,
+    progress: &str,
+    text: &mut Vec<u8>,
+) -> Result<bool, NoMemory> {
+    match Progress::read_text(alloc, plan, progress) {
+        Ok(saved) => {
+            push_list(alloc, ReportForm::Text, plan, &saved, text)?;
+            Ok(false)
+        }
+        Err(ProgressFault::NoMemory) => Err(NoMemory),
+        Err(fault) => {
+            push_progress_refusal(alloc, ReportForm::Text, fault, None, None, text)?;
+            Ok(true)
+        }
+    }
 }
