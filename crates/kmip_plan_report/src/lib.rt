@@ -2,9 +2,9 @@
 //! `list`, and the lines of a plan or a progress that is refused.
 //!
 //! `push_check`, `push_check_after` and `push_list` make a report in memory. `run_check`,
-//! `run_check_after` and `run_list` also print it, and return how the program ends. So does
-//! `run_progress_refusal` if there is no progress to list. The other functions are for reports that have
-//! these lines too.
+//! `run_check_after` and `run_list` also print it, and return how the program ends.
+//! `run_progress_refusal` prints why there is no progress to list. The other functions are for
+//! reports that have these lines too.
 #![tactic(auto)]
 
 mod checking;

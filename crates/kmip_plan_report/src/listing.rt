@@ -24,9 +24,8 @@ use kmip_report::{ExitStatus, Form, Piece, Printer, print_report, push_line};
 use kmip_ttlv::{NoMemory, Text};
 use std::alloc::Global;
 
-/// Runs `list` on a plan and a progress: prints the listing, or that memory ran out. Returns how the
-/// program ends. What it prints of a text that is not a progress of the plan is printed by
-/// `run_progress_refusal`.
+/// Runs `list` on a plan and a progress of it: prints the listing, or that memory ran out. Returns
+/// how the program ends. If a text is not a progress of the plan, `run_progress_refusal` says so.
 pub fn run_list<P: Printer>(
     alloc: Global,
     form: Form,
@@ -41,8 +40,8 @@ pub fn run_list<P: Printer>(
         (report_in form (saved_listing plan.now saved.now))) }
     // It never ends with `Refused`.
     ensures refused { IfWhole result (λ r. r ≡ false) }
-    // If it ends with `Failed`, memory ran out, and exactly the line of that is printed; or the printer
-    // failed.
+    // If it ends with `Failed`, memory ran out, and exactly the line of that is printed; or the
+    // printer failed.
     ensures broken { IfFailed result (λ fault. FailsToPrint (line_in form no_memory) fault
         P.own_fault P.IsWhole (P.contents printer.old) (P.contents printer.new)) }
 {
@@ -68,9 +67,9 @@ fn push_whole_list(
     Ok(false)
 }
 
-/// Appends what a progress says of each key of a plan: a line for each key with its name, its target,
-/// how many of its steps are done, the verdict and its identifier, and a line that counts the finished
-/// keys.
+/// Appends what a progress says of each key of a plan: a line for each key with its name, its
+/// target, how many of its steps are done, the verdict and its identifier, and a line that counts
+/// the finished keys.
 ///
 /// # Errors
 /// If memory runs out. A part may have been appended then.

@@ -97,15 +97,16 @@ pub fn run_progress_refusal<P: Printer>(
     at: Option<&str>,
     printer: &mut P,
 ) -> ExitStatus
-    // If it ends with `Refused`, exactly the line of the fault is printed. It never ends with `Usage`.
+    // If it ends with `Refused`, exactly the line of the fault is printed. It never ends with
+    // `Usage`.
     ensures text { IfWhole result (λ _. Appends (P.contents printer.old) (P.contents printer.new)
         (line_in form (progress_refusal fault (option_map (λ path. path.now) at.entry) None))) }
     // It never ends with `Done`.
     ensures refused { IfWhole result (λ r. r ≡ true) }
     // If it ends with `Refused`, the fault is not that memory ran out.
     ensures known { IfWhole result (λ _. is_progress_memory fault ≡ false) }
-    // If it ends with `Failed`, memory ran out, and exactly the line of that is printed; or the printer
-    // failed.
+    // If it ends with `Failed`, memory ran out, and exactly the line of that is printed; or the
+    // printer failed.
     ensures broken { IfFailed result (λ fault. FailsToPrint (line_in form no_memory) fault
         P.own_fault P.IsWhole (P.contents printer.old) (P.contents printer.new)) }
 {

@@ -33,8 +33,8 @@ pub fn list_progress(rt: &HostRuntime, options: &ListOptions) -> Result<ExitStat
     }
 }
 
-/// Lists the progress that was read from a file. Standard error has against which server it was kept,
-/// and when.
+/// Lists the progress that was read from a file. Standard error has against which server it was
+/// kept, and when.
 ///
 /// # Errors
 /// If the progress was saved for other attributes, or memory runs out.
@@ -60,7 +60,8 @@ fn list_kept(
     Ok(status)
 }
 
-/// Prints that the text of a progress file is refused for this fault, and explains it on standard error.
+/// Prints that the text of a progress file is refused for this fault, and explains it on standard
+/// error.
 fn refuse(
     rt: &HostRuntime,
     options: &ListOptions,

@@ -6,8 +6,8 @@
 //! All is safe and total. The line of an `Obstacle` is proved in both forms (specs/PrivateObstacleLines.antt), but
 //! for the words of the system, and for the line and the words that kmip_explaining finds for a plan.
 //! `Trouble`, `tell_why`, `tell_cause`, `tell_output`, `tell_of_terminal`, `standard_input` and
-//! `standard_output` have no clause, as std says nothing in contracts of the bytes of streams and of
-//! the words of the system. `make causes` wants the lines of files, sockets and streams.
+//! `standard_output` have no clause, as std says nothing in contracts of the bytes of streams and
+//! of the words of the system. `make causes` wants the lines of files, sockets and streams.
 #![tactic(auto)]
 
 mod another_server;

@@ -307,7 +307,8 @@ fn list(alloc: Global, plan: &Plan, progress: &str, writer: &mut NotingWriter) -
     }
 }
 
-/// Appends the listing of the text of a progress of the plan, or why it is refused. Returns true if it is.
+/// Appends the listing of the text of a progress of the plan, or why it is refused. Returns true if
+/// it is.
 fn push_listing(
     alloc: Global,
     plan: &Plan,
