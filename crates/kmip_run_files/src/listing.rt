@@ -7,7 +7,7 @@ use crate::recalling::{judge_attributes, progress_file_at};
 use kmip_choices::ListOptions;
 use kmip_explaining::RefusedProgress;
 use kmip_files::{MOST_PROGRESS_BYTES, ProgressFile};
-use kmip_plan::Plan;
+use kmip_plan::Key;
 use kmip_plan_report::{run_list, run_progress_refusal};
 use kmip_progress::{Progress, ProgressFault};
 use kmip_report::ExitStatus;
@@ -17,7 +17,8 @@ use std::alloc::Global;
 use std::io::{self, ErrorKind};
 
 /// The command `list`: the plan is read first, then the progress, and then what says where that was
-/// kept. No lock is taken, as the file is whole at any instant.
+/// kept. No lock is taken, as the file is whole at any instant. If the progress is listed, standard
+/// error has against which server it was kept, and when.
 ///
 /// # Errors
 /// What ends it before anything is printed.
@@ -26,34 +27,15 @@ pub fn list_progress(rt: &HostRuntime, options: &ListOptions) -> Result<ExitStat
     let path = options.progress.as_str();
     let file = progress_file_at(rt, path)?;
     let saved = text_within(rt, path, MOST_PROGRESS_BYTES)?;
-    match Progress::read_text(rt.alloc(), &plan.plan, saved.as_str()) {
-        Ok(progress) => list_kept(options, &file, &plan.plan, &progress),
-        Err(ProgressFault::NoMemory) => Err(Trouble::from(NoMemory)),
-        Err(fault) => Ok(refuse(rt, options, &plan, saved.as_str(), fault)),
-    }
-}
-
-/// Lists the progress that was read from a file. Standard error has against which server it was
-/// kept, and when.
-///
-/// # Errors
-/// If the progress was saved for other attributes, or memory runs out.
-fn list_kept(
-    options: &ListOptions,
-    file: &ProgressFile<'_, HostRuntime>,
-    plan: &Plan,
-    progress: &Progress,
-) -> Result<ExitStatus, Trouble> {
-    let rt = file.system();
-    let line = origin_line(file, plan)?;
+    let progress = match Progress::read_text(rt.alloc(), &plan.plan, saved.as_str()) {
+        Ok(progress) => progress,
+        Err(ProgressFault::NoMemory) => return Err(Trouble::from(NoMemory)),
+        Err(fault) => return Ok(refuse(rt, options, &plan, saved.as_str(), fault)),
+    };
+    let line = origin_line(&file, plan.plan.keys())?;
+    let form = options.format.form();
     let mut output = standard_output(rt);
-    let status = run_list(
-        rt.alloc(),
-        options.format.form(),
-        plan,
-        progress,
-        &mut output,
-    );
+    let status = run_list(rt.alloc(), form, &plan.plan, &progress, &mut output);
     if status == ExitStatus::Done {
         let _ = rt.eprintln(line.as_str());
     }
@@ -85,15 +67,15 @@ fn refuse(
     status
 }
 
-/// The line that says against which server and when a progress was kept.
+/// The line that says against which server and when the progress of these keys was kept.
 ///
 /// # Errors
 /// If the progress was saved for other attributes, or memory runs out.
-fn origin_line(file: &ProgressFile<'_, HostRuntime>, plan: &Plan) -> Result<String, Trouble> {
+fn origin_line(file: &ProgressFile<'_, HostRuntime>, keys: &[Key]) -> Result<String, Trouble> {
     let rt = file.system();
     match known_origin(file)? {
         Known::Origin(origin) => {
-            judge_attributes(file, &origin, plan.keys())?;
+            judge_attributes(file, &origin, keys)?;
             Ok(origin.kept_text(rt)?)
         }
         Known::Nothing => {
