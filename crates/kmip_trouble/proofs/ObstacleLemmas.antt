@@ -4,7 +4,7 @@ use Rattle.kmip_report.specs.declared.form.Form.{Form}
 use Rattle.kmip_report.specs.Pieces.{Piece, line_in}
 use Rattle.kmip_plan_report.specs.Refusals.{Site, site}
 use Rattle.kmip_plan_report.proofs.RefusalLemmas.{by_some}
-use Rattle.kmip_trouble.specs.PrivateObstacleLines.{fault_at, obstacle_line}
+use Rattle.kmip_trouble.specs.ObstacleLines.{fault_at, obstacle_line}
 use Rattle.kmip_trouble.specs.Words.{cannot_word}
 use Rattle.kmip_trouble.specs.declared.cannot.Cannot as cannot
 use Rattle.kmip_trouble.specs.declared.obstacle.Obstacle.{Obstacle}

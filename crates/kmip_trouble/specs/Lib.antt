@@ -2,5 +2,5 @@
 
 -- the words of what cannot be done
 pub mod Words
--- private: the lines of what keeps a command from its work
-pub mod PrivateObstacleLines
+-- the lines of what keeps a command from its work
+pub mod ObstacleLines

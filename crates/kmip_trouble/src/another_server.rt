@@ -1,7 +1,7 @@
 //! A progress file that was saved against another server.
 ghost use Rattle.std.specs.Prelude.{◌≡◌, ◌++◌, OnOk};
 ghost use Rattle.kmip_report.specs.Pieces.{line_in};
-ghost use Rattle.kmip_trouble.specs.PrivateObstacleLines.{another_server_line};
+ghost use Rattle.kmip_trouble.specs.ObstacleLines.{another_server_line};
 
 use crate::reporting::push_at;
 use kmip_report::Form;

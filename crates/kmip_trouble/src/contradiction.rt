@@ -1,7 +1,7 @@
 //! A progress file that the server of a run contradicts.
 ghost use Rattle.std.specs.Prelude.{◌≡◌, ◌++◌, IfOk, OnOk, map};
 ghost use Rattle.kmip_report.specs.Pieces.{line_in};
-ghost use Rattle.kmip_trouble.specs.PrivateObstacleLines.{contradicted_line, names_of};
+ghost use Rattle.kmip_trouble.specs.ObstacleLines.{contradicted_line, names_of};
 
 use crate::disagreement::Disagreement;
 use kmip_report::{Form, push_contradiction};

@@ -3,7 +3,7 @@
 //! A `Trouble` ends a command before its work is done, and `Trouble::tell` is the one place that prints it.
 //! `Told` is a standard stream that tells why it fails.
 //!
-//! All is safe and total. The line of an `Obstacle` is proved in both forms (specs/PrivateObstacleLines.antt), but
+//! All is safe and total. The line of an `Obstacle` is proved in both forms (specs/ObstacleLines.antt), but
 //! for the words of the system, and for the line and the words that kmip_explaining finds for a plan.
 //! `Trouble`, `tell_why`, `tell_cause`, `tell_output`, `tell_of_terminal`, `standard_input` and
 //! `standard_output` have no clause, as std says nothing in contracts of the bytes of streams and

@@ -1,18 +1,22 @@
 //! What keeps a command from its work.
+ghost use Rattle.std.specs.Prelude.{◌≡◌, ◌≢◌, IfOk, Some, true};
+ghost use Rattle.kmip_report.specs.Endings.{FailsToPrint, IfFailed, IfWhole};
+ghost use Rattle.kmip_report.specs.FaultLines.{no_memory};
+ghost use Rattle.kmip_report.specs.Pieces.{line_in};
+ghost use Rattle.kmip_trouble.specs.ObstacleLines.{TellsObstacle};
 
 use crate::another_server::AnotherServer;
 use crate::cannot::Cannot;
 use crate::causes::{tell_cause, tell_why};
 use crate::contradiction::Contradiction;
-use crate::held::Held;
 use crate::place::Place;
-use crate::told::standard_output;
 use kmip_explaining::tell_refusal;
 use kmip_plan::PlanFault;
 use kmip_progress::ProgressFault;
-use kmip_report::{ExitStatus, Form, print_report};
+use kmip_report::{ExitStatus, Form, Printer, print_report};
 use kmip_ttlv::NoMemory;
-use std::io::{Error, Write};
+use std::alloc::Global;
+use std::io::Error;
 use std::net::{Ipv4Addr, Net, SocketAddr, SocketAddrV4};
 
 /// Why a file has no text.
@@ -56,47 +60,79 @@ pub enum Obstacle {
 }
 
 impl Obstacle {
-    /// Prints its line in this form, and tells on standard error what there is to say of it. Returns how
-    /// the program ends.
-    pub(crate) fn tell(&self, rt: &HostRuntime, form: Form) -> ExitStatus {
+    /// Prints its line in this form, and reports on standard error what there is to say of it. Returns how the
+    /// program ends.
+    pub(crate) fn tell<P: Printer>(
+        &self,
+        rt: &HostRuntime,
+        form: Form,
+        printer: &mut P,
+    ) -> ExitStatus
+        // It does not end with `Done`.
+        ensures troubled { result ≢ ExitStatus.Done }
+        // If it ends with `Refused`, exactly its line is printed.
+        ensures text { IfWhole result (λ _. TellsObstacle form self.now
+            (P.contents printer.old) (P.contents printer.new)) }
+        // If it ends with `Failed`, memory ran out, and exactly the line of that is printed; or the printer failed.
+        ensures broken { IfFailed result (λ fault. FailsToPrint (line_in form no_memory) fault
+            P.own_fault P.IsWhole (P.contents printer.old) (P.contents printer.new)) }
+    {
+        if self.is_explained_first() {
+            self.explain(rt);
+            return self.print(rt.alloc(), form, printer);
+        }
+        let status = self.print(rt.alloc(), form, printer);
+        if self.is_always_explained() || status == ExitStatus::Refused {
+            self.explain(rt);
+        }
+        status
+    }
+
+    /// Whether standard error has why before its line is printed.
+    fn is_explained_first(&self) -> bool {
         match self {
             Obstacle::Cannot(..)
             | Obstacle::TooLong(..)
             | Obstacle::NoText(_)
             | Obstacle::NoOrigin(_)
             | Obstacle::InUse(_)
-            | Obstacle::NoPort => {
-                self.explain(rt);
-                self.print(rt, form, &mut standard_output(rt))
-            }
-            Obstacle::NoPlan(..) => {
-                let mut output = Held::of(rt);
-                let status = self.print(rt, form, &mut output);
-                self.explain(rt);
-                output.tell();
-                status
-            }
-            Obstacle::AnotherServer(_)
+            | Obstacle::NoPort => true,
+            Obstacle::NoPlan(..)
+            | Obstacle::AnotherServer(_)
             | Obstacle::Contradicted(_)
             | Obstacle::NoProgress(..)
-            | Obstacle::OtherAttributes(..) => {
-                let status = self.print(rt, form, &mut standard_output(rt));
-                if status == ExitStatus::Refused {
-                    self.explain(rt);
-                }
-                status
-            }
+            | Obstacle::OtherAttributes(..) => false,
         }
     }
 
+    /// Whether standard error has why also if its line could not be printed.
+    fn is_always_explained(&self) -> bool {
+        matches!(self, Obstacle::NoPlan(..))
+    }
+
     /// Prints its line in this form, or that memory ran out.
-    fn print<W: Write>(&self, rt: &HostRuntime, form: Form, writer: &mut W) -> ExitStatus {
-        let mut text = Vec::new(rt.alloc());
-        let made = match self.push_line(rt.alloc(), form, &mut text) {
-            Ok(()) => Ok(true),
-            Err(NoMemory) => Err(NoMemory),
-        };
-        print_report(form, made, text.as_slice(), writer)
+    fn print<P: Printer>(&self, alloc: Global, form: Form, printer: &mut P) -> ExitStatus
+        ensures troubled { result ≢ ExitStatus.Done }
+        ensures text { IfWhole result (λ _. TellsObstacle form self.now
+            (P.contents printer.old) (P.contents printer.new)) }
+        ensures broken { IfFailed result (λ fault. FailsToPrint (line_in form no_memory) fault
+            P.own_fault P.IsWhole (P.contents printer.old) (P.contents printer.new)) }
+    {
+        let mut text = Vec::new(alloc);
+        let made = self.line(alloc, form, &mut text);
+        print_report(form, made, text.as_slice(), printer)
+    }
+
+    /// Appends its line in this form. Returns true, as something is refused.
+    ///
+    /// # Errors
+    /// If memory runs out. A part may have been appended then.
+    fn line(&self, alloc: Global, form: Form, text: &mut Vec<u8>) -> Result<bool, NoMemory>
+        ensures { IfOk result (λ refused. (refused ≡ true) × TellsObstacle form self.now
+            (Some text.old.items) (Some text.new.items)) }
+    {
+        self.push_line(alloc, form, text)?;
+        Ok(true)
     }
 
     /// Tells on standard error what there is to say of it.

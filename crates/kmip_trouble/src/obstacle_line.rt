@@ -3,7 +3,7 @@ ghost use Rattle.std.specs.Prelude.{◌≡◌, ◌++◌, ℕ, List, Option, None
 ghost use Rattle.kmip_report.specs.FaultLines.{fault_pieces};
 ghost use Rattle.kmip_report.specs.Pieces.{line_in};
 ghost use Rattle.kmip_plan_report.specs.Refusals.{Site};
-ghost use Rattle.kmip_trouble.specs.PrivateObstacleLines.{
+ghost use Rattle.kmip_trouble.specs.ObstacleLines.{
   fault_at,
   longer_than_line,
   obstacle_line,

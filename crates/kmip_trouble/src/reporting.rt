@@ -1,7 +1,7 @@
 //! The line of a fault at a path.
 ghost use Rattle.std.specs.Prelude.{◌≡◌, ◌++◌, OnOk, option_map};
 ghost use Rattle.kmip_report.specs.Pieces.{line_in};
-ghost use Rattle.kmip_trouble.specs.PrivateObstacleLines.{fault_at};
+ghost use Rattle.kmip_trouble.specs.ObstacleLines.{fault_at};
 
 use kmip_report::{Fault, Form, push_fault};
 use kmip_ttlv::NoMemory;

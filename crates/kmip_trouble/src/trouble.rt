@@ -1,14 +1,18 @@
 //! What ends a command before its work is done, and the one place that prints it.
+ghost use Rattle.std.specs.Prelude.{◌≢◌};
+ghost use Rattle.kmip_report.specs.Endings.{IfFailed, IfWhole};
+ghost use Rattle.kmip_trouble.specs.ObstacleLines.{FailsToTell, TellsTrouble};
 
 use crate::cannot::Cannot;
+use crate::held::Held;
 use crate::obstacle::Obstacle;
 use crate::place::Place;
 use crate::told::tell_output;
 use kmip_choices::Format;
-use kmip_report::{CommandFault, ExitStatus, no_memory_line};
+use kmip_report::{CommandFault, ExitStatus, Form, Printer, print_report};
 use kmip_ttlv::NoMemory;
 use std::alloc::AllocError;
-use std::io::{self, Error, ErrorKind};
+use std::io::{Error, ErrorKind};
 
 /// What ends a command before its work is done.
 #[derive(Drop)]
@@ -90,7 +94,7 @@ impl Trouble {
     }
 
     fn at_place(cannot: Cannot, place: Place, error: Error) -> Trouble {
-        if error.kind() == ErrorKind::OutOfMemory {
+        if is_out_of_memory(&error) {
             return Trouble::Io(error);
         }
         Trouble::from(Obstacle::Cannot(cannot, place, error))
@@ -104,12 +108,40 @@ impl Trouble {
         }
     }
 
-    /// Prints in this form why the command ends, and tells on standard error what there is to say of it.
+    /// Prints on standard output, in this form, why the command ends, and reports on standard error what there
+    /// is to say of it. Returns how the program ends.
+    pub fn tell(&self, rt: &HostRuntime, format: Format) -> ExitStatus
+        // It does not end with `Done`.
+        ensures troubled { result ≢ ExitStatus.Done }
+    {
+        let mut output = Held::of(rt);
+        let status = self.print(rt, format.form(), &mut output);
+        output.tell();
+        status
+    }
+
+    /// Prints in this form why the command ends, and reports on standard error what there is to say of it.
     /// Returns how the program ends.
-    pub fn tell(self, rt: &HostRuntime, format: Format) -> ExitStatus {
+    pub fn print<P: Printer>(&self, rt: &HostRuntime, form: Form, printer: &mut P) -> ExitStatus
+        // It does not end with `Done`.
+        ensures troubled { result ≢ ExitStatus.Done }
+        // If it ends with `Refused`, exactly the line of what keeps the command from its work is printed.
+        ensures text { IfWhole result (λ _. TellsTrouble form self.now
+            (P.contents printer.old) (P.contents printer.new)) }
+        // If it ends with `Failed`, memory ran out, and exactly the line of that is printed; or the printer
+        // failed. If the output had failed before, nothing is printed.
+        ensures broken { IfFailed result (λ fault. FailsToTell form self.now fault P.own_fault P.IsWhole
+            (P.contents printer.old) (P.contents printer.new)) }
+    {
         match self {
-            Trouble::Refused(obstacle) => obstacle.tell(rt, format.form()),
-            Trouble::Io(error) => failed(rt, format, error),
+            Trouble::Refused(obstacle) => obstacle.tell(rt, form, printer),
+            Trouble::Io(error) if is_out_of_memory(error) => {
+                print_report(form, Err(NoMemory), &[], printer)
+            }
+            Trouble::Io(error) => {
+                tell_output(rt, error);
+                ExitStatus::Failed(CommandFault::Output)
+            }
         }
     }
 }
@@ -126,30 +158,7 @@ fn place_of(rt: &HostRuntime, given: &str, file: Option<String>) -> Result<Place
     }
 }
 
-/// Says an error outside the commands: want of memory on standard output, in this form, and else, as it
-/// is one of that, on standard error.
-fn failed(rt: &HostRuntime, format: Format, error: Error) -> ExitStatus {
-    let fault = fault_of(&error);
-    let said = match fault {
-        CommandFault::NoMemory => print_no_memory(rt, format),
-        CommandFault::Input | CommandFault::Output => Err(error),
-    };
-    if let Err(error) = said {
-        tell_output(rt, &error);
-    }
-    ExitStatus::Failed(fault)
-}
-
-/// Prints that there is no memory.
-fn print_no_memory(rt: &HostRuntime, format: Format) -> io::Result<()> {
-    rt.print(no_memory_line(format.form()))
-}
-
-/// What an error outside the commands is: want of memory, or else one of the output.
-fn fault_of(error: &Error) -> CommandFault {
-    if error.kind() == ErrorKind::OutOfMemory {
-        CommandFault::NoMemory
-    } else {
-        CommandFault::Output
-    }
+/// Whether memory ran out.
+fn is_out_of_memory(error: &Error) -> bool {
+    error.kind() == ErrorKind::OutOfMemory
 }

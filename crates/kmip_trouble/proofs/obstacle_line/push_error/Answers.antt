@@ -2,7 +2,7 @@
 use Rattle.std.proofs.Common.{◌≡◌, ℕ, List, ◌++◌, codes, Option, Some, OnOk, ap, subst}
 use Rattle.kmip_report.specs.Pieces.{Piece, line_in}
 use Rattle.kmip_plan_report.proofs.RefusalLemmas.{by_some}
-use Rattle.kmip_trouble.specs.PrivateObstacleLines.{fault_at}
+use Rattle.kmip_trouble.specs.ObstacleLines.{fault_at}
 use Rattle.kmip_trouble.specs.Words.{cannot_word}
 use Rattle.kmip_trouble.proofs.obstacle_line.push_error.Goals as goal
 

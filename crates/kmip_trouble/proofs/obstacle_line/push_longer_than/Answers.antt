@@ -1,6 +1,6 @@
 -- The pieces are these.
 use Rattle.kmip_report.proofs.ForCallers.{last_piece, line_of, noted_piece, then_pieces}
-use Rattle.kmip_trouble.specs.PrivateObstacleLines.{longer_than_line}
+use Rattle.kmip_trouble.specs.ObstacleLines.{longer_than_line}
 use Rattle.kmip_trouble.proofs.obstacle_line.push_longer_than.Goals as goal
 use Rattle.std.proofs.Common.{refl}
 

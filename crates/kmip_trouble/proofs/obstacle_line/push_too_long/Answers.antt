@@ -2,7 +2,7 @@
 use Rattle.std.proofs.Common.{◌≡◌, ℕ, List, ◌++◌, codes, OnOk, ap₂, rules, subst}
 use Rattle.std.specs.Fmt.{decimal}
 use Rattle.kmip_report.specs.Pieces.{Piece, line_in}
-use Rattle.kmip_trouble.specs.PrivateObstacleLines.{longer_than_line}
+use Rattle.kmip_trouble.specs.ObstacleLines.{longer_than_line}
 use Rattle.kmip_trouble.proofs.obstacle_line.push_too_long.Goals as goal
 
 pub returns : goal.returns

@@ -1,7 +1,7 @@
 -- The words are these.
 use Rattle.std.proofs.Common.{◌≡◌, ◌++◌, ℕ, List, codes, string_bytes, Some, OnOk, ap₂, rules, subst}
 use Rattle.kmip_report.specs.Pieces.{Piece, line_in}
-use Rattle.kmip_trouble.specs.PrivateObstacleLines.{fault_at, other_server_words}
+use Rattle.kmip_trouble.specs.ObstacleLines.{fault_at, other_server_words}
 use Rattle.kmip_trouble.proofs.another_server.AnotherServer.push_line.Goals as goal
 
 pub returns : goal.returns

@@ -3,7 +3,7 @@ use Rattle.std.proofs.Common.{ℕ, List, codes, Some, None, refl, ap, ap₂}
 use Rattle.kmip_report.specs.FaultLines.{fault_pieces}
 use Rattle.kmip_report.specs.Pieces.{Piece}
 use Rattle.kmip_plan_report.specs.Refusals.{Site, progress_refusal, site}
-use Rattle.kmip_trouble.specs.PrivateObstacleLines.{fault_at, obstacle_line, other_attributes_line, too_long_line, unreadable_line}
+use Rattle.kmip_trouble.specs.ObstacleLines.{fault_at, obstacle_line, other_attributes_line, too_long_line, unreadable_line}
 use Rattle.kmip_trouble.specs.Words.{cannot_word}
 use Rattle.kmip_trouble.specs.declared.obstacle.Obstacle.TheVariants as obstacles
 use Rattle.kmip_trouble.proofs.ObstacleLemmas.{told, told_why}

@@ -1,11 +1,16 @@
 -- The lines of what keeps a command from its work.
 -- Source: own (text): what the program prints.
-use Rattle.std.specs.Prelude.{ℕ, List, [], ◌∷◌, ◌++◌, codes, map, Option, Some, None, string_bytes}
+use Rattle.std.specs.Prelude.{◌≡◌, ◌⊎◌, ℕ, List, [], ◌∷◌, ◌++◌, codes, map, Option, Some, None, string_bytes, ⊥}
 use Rattle.std.specs.Fmt.{decimal}
+use Rattle.std.specs.Io.KnownBytes.{Appends, Keeps}
 use Rattle.serde_json.specs.Data.{null, string}
 use Rattle.kmip_progress.specs.declared.progress_fault.ProgressFault.TheVariants.{OtherPlan}
-use Rattle.kmip_report.specs.FaultLines.{contradiction_line, fault_pieces}
-use Rattle.kmip_report.specs.Pieces.{Piece, noted, said, word}
+use Rattle.kmip_report.specs.Endings.{FailsToPrint}
+use Rattle.kmip_report.specs.FaultLines.{contradiction_line, fault_pieces, no_memory}
+use Rattle.kmip_report.specs.Pieces.{Piece, line_in, noted, said, word}
+use Rattle.kmip_report.specs.declared.command_fault.CommandFault.{CommandFault}
+use Rattle.kmip_report.specs.declared.command_fault.CommandFault.TheVariants.{Output}
+use Rattle.kmip_report.specs.declared.form.Form.{Form}
 use Rattle.kmip_plan_report.specs.Refusals.{Site, plan_refusal, progress_refusal}
 use Rattle.kmip_trouble.specs.Words.{cannot_word}
 use Rattle.kmip_trouble.specs.declared.another_server.AnotherServer as another
@@ -13,6 +18,8 @@ use Rattle.kmip_trouble.specs.declared.contradiction.Contradiction.{Contradictio
 use Rattle.kmip_trouble.specs.declared.disagreement.Disagreement.{Disagreement}
 use Rattle.kmip_trouble.specs.declared.obstacle.Obstacle.{Obstacle}
 use Rattle.kmip_trouble.specs.declared.obstacle.Obstacle.TheVariants.{Cannot, TooLong, NoText, NoOrigin, NoPlan, InUse, NoPort, AnotherServer, Contradicted, NoProgress, OtherAttributes}
+use Rattle.kmip_trouble.specs.declared.trouble.Trouble.{Trouble}
+use Rattle.kmip_trouble.specs.declared.trouble.Trouble.TheVariants.{Refused, Io}
 
 -- The line of a fault at a path: what went wrong, these words and then the path, and in JSON why.
 abbrev pub fault_at : List ℕ → List ℕ → List ℕ → Option (List ℕ) → List Piece
@@ -75,3 +82,19 @@ obstacle_line (AnotherServer server) found = another_server_line server
 obstacle_line (Contradicted contradiction) found = contradicted_line contradiction
 obstacle_line (NoProgress path fault) found = progress_refusal fault (Some (string_bytes path)) None
 obstacle_line (OtherAttributes path difference) found = other_attributes_line (string_bytes path) (string_bytes difference)
+
+-- The line of the obstacle was printed, with what is found of it, and nothing else.
+abbrev pub TellsObstacle : Form → Obstacle → Option (List ℕ) → Option (List ℕ) → Type 0
+TellsObstacle form obstacle old new = (found : Site) × Appends old new (line_in form (obstacle_line obstacle found))
+
+-- The line of what keeps the command from its work was printed, and nothing else.
+abbrev pub TellsTrouble : Form → Trouble → Option (List ℕ) → Option (List ℕ) → Type 0
+TellsTrouble form (Refused obstacle) old new = TellsObstacle form obstacle old new
+TellsTrouble form (Io error) old new = ⊥
+
+-- The trouble was not printed. Memory ran out, and exactly the line of that was printed; or the printer failed. Where
+-- the output had failed before, nothing was printed.
+abbrev pub FailsToTell : Form → Trouble → CommandFault → CommandFault → Type 0 → Option (List ℕ) → Option (List ℕ) → Type 0
+FailsToTell form (Refused obstacle) fault own_fault IsWhole old new = FailsToPrint (line_in form no_memory) fault own_fault IsWhole old new
+FailsToTell form (Io error) fault own_fault IsWhole old new =
+    FailsToPrint (line_in form no_memory) fault own_fault IsWhole old new ⊎ ((fault ≡ Output) × Keeps old new)
