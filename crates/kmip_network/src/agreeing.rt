@@ -3,23 +3,23 @@
 use crate::disagreeing::report_gone;
 use kmip_account::Account;
 use kmip_refresh::{Beginning, KeyLook};
-use kmip_run_files::Start;
+use kmip_run_files::Kept;
 use kmip_trouble::Trouble;
 
 /// Begins a run once the server agrees with its progress: PATH.origin is written first.
 #[derive(Drop)]
 pub(crate) struct Agreeing<'a> {
     account: &'a Account<'a>,
-    start: &'a Start<'a>,
+    kept: &'a Kept<'a>,
     /// Why the run cannot begin.
     trouble: Option<Trouble>,
 }
 
 impl<'a> Agreeing<'a> {
-    pub(crate) fn new(account: &'a Account<'a>, start: &'a Start<'a>) -> Self {
+    pub(crate) fn new(account: &'a Account<'a>, kept: &'a Kept<'a>) -> Self {
         Agreeing {
             account,
-            start,
+            kept,
             trouble: None,
         }
     }
@@ -33,7 +33,7 @@ impl<'a> Agreeing<'a> {
 impl<'a> Beginning for Agreeing<'a> {
     fn begin(&mut self, looks: &[KeyLook]) -> bool {
         report_gone(self.account, looks);
-        match self.start.agree() {
+        match self.kept.note_origin() {
             Ok(()) => {
                 self.account.begin_run();
                 true

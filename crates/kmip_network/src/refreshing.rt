@@ -1,6 +1,4 @@
 //! A run that first asks the server about what its progress knows.
-ghost use Rattle.std.specs.Prelude.{IsTrue};
-ghost use Rattle.kmip_messages.specs.Members.{may_have};
 
 use crate::agreeing::Agreeing;
 use crate::disagreeing::{contradiction, report_unanswered};
@@ -12,14 +10,15 @@ use crate::repeating::Repeating;
 use crate::running::{first_wait, tell_end};
 use kmip_account::{Account, RunObserver};
 use kmip_choices::RunOptions;
+use kmip_client::Client;
 use kmip_look::{Pause, Why};
 use kmip_protocol::Link;
 use kmip_refresh::{
     Agreement, Beginning, KeyLook, Refresh, RefreshOutcome, Refreshed, run_refreshed,
 };
 use kmip_report::{ExitStatus, print_report};
-use kmip_run_command::{RunEnd, RunInput, push_run_end};
-use kmip_run_files::{MachineKeeper, Start};
+use kmip_run_command::{RunEnd, RunInput, batch_of, push_run_end};
+use kmip_run_files::{Kept, MachineKeeper};
 use kmip_run_record::Findings;
 use kmip_runs::Pace;
 use kmip_tally::Unanswered;
@@ -30,7 +29,7 @@ use kmip_ttlv::NoMemory;
 #[derive(Clone, Copy)]
 pub(crate) struct Refreshing<'a> {
     pub(crate) options: &'a RunOptions,
-    pub(crate) start: &'a Start<'a>,
+    pub(crate) kept: &'a Kept<'a>,
     /// At how many keys it looks.
     pub(crate) count: usize,
     pub(crate) account: &'a Account<'a>,
@@ -40,11 +39,12 @@ impl<'a> Refreshing<'a> {
     /// Prints how the run ended, and reports why.
     fn end(
         &self,
+        client: &Client<'_>,
         input: &RunInput<'_>,
         keeper: &MachineKeeper<'_>,
         observer: &mut RunObserver<'_>,
         has_given_up: bool,
-        ended: Result<Refreshed<'_>, NoMemory>,
+        ended: Result<Refreshed, NoMemory>,
         unbegun: Option<Trouble>,
     ) -> Result<ExitStatus, Trouble> {
         if let Some(trouble) = unbegun {
@@ -55,17 +55,17 @@ impl<'a> Refreshing<'a> {
             Err(NoMemory) => return Ok(self.out_of_memory(input)),
         };
         let looks = refreshed.looks.as_slice();
-        match &refreshed.outcome {
-            RefreshOutcome::Contradicted => Err(self.contradiction(looks)?),
+        match refreshed.outcome {
+            RefreshOutcome::Contradicted => Err(self.contradiction(client, looks)?),
             RefreshOutcome::Unanswered(end) => {
                 observer.note_unanswered(unanswered(looks));
-                let status = self.print(input, keeper, observer, end);
+                let status = self.print(client, input, keeper, observer, end);
                 report_unanswered(self.account, looks);
                 Ok(status)
             }
             RefreshOutcome::NotBegun => Ok(self.out_of_memory(input)), // why it was not begun is told above
             RefreshOutcome::Ran(end) => {
-                let status = self.print(input, keeper, observer, end);
+                let status = self.print(client, input, keeper, observer, end);
                 let findings = observer.findings();
                 tell_end(self.account, keeper, findings, has_given_up, status);
                 Ok(status)
@@ -74,10 +74,10 @@ impl<'a> Refreshing<'a> {
     }
 
     /// The trouble that the server contradicts the progress.
-    fn contradiction(&self, looks: &[KeyLook]) -> Result<Trouble, Trouble> {
+    fn contradiction(&self, client: &Client<'_>, looks: &[KeyLook]) -> Result<Trouble, Trouble> {
         let path = self.options.progress.as_str();
-        let server = self.start.server()?;
-        let (alloc, client) = (self.account.rt().alloc(), self.start.client());
+        let server = self.kept.server_text()?;
+        let alloc = self.account.rt().alloc();
         let contradiction = contradiction(alloc, path, server, client, looks)?;
         Ok(Trouble::from(Obstacle::Contradicted(contradiction)))
     }
@@ -85,14 +85,15 @@ impl<'a> Refreshing<'a> {
     /// Prints the end of a run.
     fn print(
         &self,
+        client: &Client<'_>,
         input: &RunInput<'_>,
         keeper: &MachineKeeper<'_>,
         observer: &mut RunObserver<'_>,
-        end: &RunEnd<'_>,
+        end: RunEnd,
     ) -> ExitStatus {
         let rt = self.account.rt();
         let mut text = Vec::new(rt.alloc());
-        let made = push_run_end(rt.alloc(), input, end, keeper, observer, &mut text);
+        let made = push_run_end(rt.alloc(), input, client, end, keeper, observer, &mut text);
         print_report(input.form, made, text.as_slice(), &mut standard_output(rt))
     }
 
@@ -110,44 +111,44 @@ impl<'a> Refreshing<'a> {
 /// If the server contradicts the progress, or the run cannot begin.
 pub(crate) fn run_after_look<L: Link + Drop>(
     refreshing: &Refreshing<'_>,
+    client: &mut Client<'_>,
     input: &RunInput<'_>,
     keeper: &mut MachineKeeper<'_>,
     findings: &mut Findings,
     link: L,
-) -> Result<ExitStatus, Trouble>
-    requires { IsTrue (may_have input.now.batch) }
-{
+) -> Result<ExitStatus, Trouble> {
     let last = LastAnswer::none_yet(keeper.account().rt());
-    look_until_told(refreshing, input, keeper, findings, &last, link)
+    look_until_told(refreshing, client, input, keeper, findings, &last, link)
 }
 
-/// Does the same, and notes there when the server answered last.
+/// Does the same, and notes there when the server answered last. A look leaves the client as it is, so that each look
+/// is about the same keys.
 ///
 /// # Errors
 /// If the server contradicts the progress, or the run cannot begin.
 fn look_until_told<'a, L: Link + Drop>(
     refreshing: &'a Refreshing<'a>,
+    client: &mut Client<'_>,
     input: &RunInput<'_>,
     keeper: &mut MachineKeeper<'_>,
     findings: &'a mut Findings,
     last: &'a LastAnswer,
     link: L,
-) -> Result<ExitStatus, Trouble>
-    requires { IsTrue (may_have input.now.batch) }
-{
+) -> Result<ExitStatus, Trouble> {
     let (account, options) = (refreshing.account, refreshing.options);
     let (rt, log) = (account.rt(), account.log());
     let mut link = link;
     let mut pace = Pace::new(rt, first_wait(options), options.give_up);
     let mut observer = RunObserver::new(account, findings);
     let mut pause = LookPause::new(rt, last, first_wait(options), options.give_up);
-    let mut beginning = Agreeing::new(account, refreshing.start);
+    let mut beginning = Agreeing::new(account, refreshing.kept);
     let mut repeating = Repeating::new(rt, options.give_up);
     for _ in 0..u64::MAX {
         let mark = new_mark(rt)?;
         let watcher = LookWatcher::new(log, last, mark, refreshing.count, None);
         let (ended, paused, begun) = attempt(
             refreshing,
+            client,
             input,
             watcher,
             (pause, beginning),
@@ -167,14 +168,15 @@ fn look_until_told<'a, L: Link + Drop>(
         }
         let has_given_up = pace.has_given_up();
         let unbegun = beginning.into_trouble();
-        return refreshing.end(input, keeper, &mut observer, has_given_up, ended, unbegun);
+        return refreshing.end(client, input, keeper, &mut observer, has_given_up, ended, unbegun);
     }
     Ok(ExitStatus::Refused) // the server was silent 2^64 - 1 times
 }
 
 /// Looks at the keys, of which the watcher is told, and makes the run if the server agrees.
-fn attempt<'b, L: Link, P: Pause, B: Beginning>(
-    refreshing: &'b Refreshing<'_>,
+fn attempt<L: Link, P: Pause, B: Beginning>(
+    refreshing: &Refreshing<'_>,
+    client: &mut Client<'_>,
     input: &RunInput<'_>,
     watcher: LookWatcher<'_>,
     parts: (P, B),
@@ -182,20 +184,19 @@ fn attempt<'b, L: Link, P: Pause, B: Beginning>(
     keeper: &mut MachineKeeper<'_>,
     pace: &mut Pace<&HostRuntime>,
     observer: &mut RunObserver<'_>,
-) -> (Result<Refreshed<'b>, NoMemory>, P, B)
-    requires { IsTrue (may_have input.now.batch) }
-{
+) -> (Result<Refreshed, NoMemory>, P, B) {
     let mark = watcher.mark();
     let (pause, beginning) = parts;
     let mut refresh = Refresh {
         mark: &mark,
+        batch: batch_of(refreshing.options.batch),
         pause,
         beginning,
         observer: watcher,
     };
     let ended = run_refreshed(
         refreshing.account.rt().alloc(),
-        refreshing.account.plan(),
+        client,
         input,
         &mut refresh,
         link,
@@ -208,7 +209,7 @@ fn attempt<'b, L: Link, P: Pause, B: Beginning>(
 }
 
 /// The number of keys about which the look got an answer.
-fn answered(ended: &Result<Refreshed<'_>, NoMemory>) -> usize {
+fn answered(ended: &Result<Refreshed, NoMemory>) -> usize {
     match ended {
         Ok(refreshed) => {
             let looks = refreshed.looks.as_slice().iter();
@@ -221,7 +222,7 @@ fn answered(ended: &Result<Refreshed<'_>, NoMemory>) -> usize {
 }
 
 /// Whether some key got no answer because no reply came, so that the server may be asked again.
-fn is_silent(ended: &Result<Refreshed<'_>, NoMemory>) -> bool {
+fn is_silent(ended: &Result<Refreshed, NoMemory>) -> bool {
     match ended {
         Ok(
             Refreshed {

@@ -5,7 +5,7 @@ use crate::refreshing::{Refreshing, run_after_look};
 use kmip_account::{Account, RunObserver};
 use kmip_choices::{Peer, RunOptions};
 use kmip_report::ExitStatus;
-use kmip_run_command::{RunInput, batch_of, run};
+use kmip_run_command::{RunInput, run};
 use kmip_run_files::{
     MachineKeeper, MetricsFile, Start, check_progress, locked, plan_at, progress_to_begin_with,
 };
@@ -24,9 +24,9 @@ use kmip_trouble::{Trouble, standard_output};
 /// What ends it before anything is asked.
 pub fn run_plan(rt: &HostRuntime, options: &RunOptions) -> Result<ExitStatus, Trouble> {
     let plan = plan_at(rt, options.plan.as_str())?;
-    check_progress(rt, options, &plan)?;
+    let checked = check_progress(rt, options, &plan)?;
     let (progress, lock) = locked(rt, options.progress.as_str(), options.lock_wait)?;
-    let start = progress_to_begin_with(rt, options, &plan, &progress)?;
+    let start = progress_to_begin_with(rt, options, &plan, &progress, checked)?;
     let account = Account::new(rt, options, &plan.plan)?;
     let mut findings = Findings::new(rt.alloc(), start.client())?;
     let link = link_to(account.log(), &options.peer, options.timeout)?;
@@ -34,8 +34,8 @@ pub fn run_plan(rt: &HostRuntime, options: &RunOptions) -> Result<ExitStatus, Tr
     if let Some(metrics) = &metrics {
         metrics.begin(&account, &findings);
     }
-    let mut keeper = MachineKeeper::of(&progress, &account, start.saved().is_none());
-    let status = run_over(options, &start, &mut keeper, &mut findings, link);
+    let mut keeper = MachineKeeper::of(&progress, &account, start.is_new());
+    let status = run_over(options, start, &mut keeper, &mut findings, link);
     if let Some(metrics) = &metrics {
         metrics.end(&account, &findings, matches!(status, Ok(ExitStatus::Done)));
     }
@@ -46,7 +46,7 @@ pub fn run_plan(rt: &HostRuntime, options: &RunOptions) -> Result<ExitStatus, Tr
 /// Carries out the plan over this link, if need be after a look at what the progress knows.
 fn run_over(
     options: &RunOptions,
-    start: &Start<'_>,
+    start: Start<'_>,
     keeper: &mut MachineKeeper<'_>,
     findings: &mut Findings,
     link: PeerLink<'_>,
@@ -56,26 +56,26 @@ fn run_over(
         report: options.report,
         path: options.progress.as_str(),
         limit: options.limit as usize,
-        batch: batch_of(options.batch),
-        saved: start.saved(),
     };
     let account = keeper.account();
-    if let Some(count) = start.looked_at() {
+    let looked_at = start.looked_at();
+    let (mut client, kept) = start.into_parts();
+    if let Some(count) = looked_at {
         let refreshing = Refreshing {
             options,
-            start,
+            kept: &kept,
             count,
             account,
         };
-        return run_after_look(&refreshing, &input, keeper, findings, link);
+        return run_after_look(&refreshing, &mut client, &input, keeper, findings, link);
     }
-    account.show_start(start.client());
+    account.show_start(&client);
     let mut link = link;
     let mut pace = Pace::new(account.rt(), first_wait(options), options.give_up);
     let mut observer = RunObserver::new(account, findings);
     let status = run(
         account.rt().alloc(),
-        account.plan(),
+        &mut client,
         &input,
         &mut link,
         keeper,

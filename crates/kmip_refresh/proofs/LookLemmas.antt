@@ -8,25 +8,20 @@ use Rattle.kmip_ttlv.specs.declared.no_memory.NoMemory.{NoMemory}
 use Rattle.kmip_plan.specs.ChainLaws.{PlacesAreWithin}
 use Rattle.kmip_plan.specs.Plans.{key_fits}
 use Rattle.kmip_plan.specs.declared.key.Key.{Key}
-use Rattle.kmip_progress.specs.Reading.{FailsProgress}
 use Rattle.kmip_progress.specs.declared.known.Known.{Known}
-use Rattle.kmip_progress.specs.declared.progress_fault.ProgressFault.{ProgressFault}
-use Rattle.kmip_progress.specs.declared.progress_fault.ProgressFault.TheVariants as progress_faults
-use Rattle.kmip_client.specs.Clients.{ClientState}
 use Rattle.kmip_client.specs.Saving.{progress}
-use Rattle.kmip_client.specs.declared.knowledge.Knowledge.{Knowledge}
 use Rattle.kmip_protocol.specs.Past.{Names, Past, is_planned}
 use Rattle.kmip_protocol.specs.Seen.{Seen}
 use Rattle.kmip_look.specs.Moments.{IsLater}
 use Rattle.kmip_look.specs.Looks.{AsksLooks, IsFresh, IsSaid, IsToldOf, Looks, Sends}
 use Rattle.kmip_look.specs.declared.looked.Looked.{Looked}
-use Rattle.kmip_run_command.specs.RunEnds.{begin_knowns}
-use Rattle.kmip_run_command.specs.Runs.{CameOf, RunChange, RunStart, RunsPlan}
+use Rattle.kmip_run_command.specs.Course.{Came}
+use Rattle.kmip_run_command.specs.Runs.{RunsPlan}
 use Rattle.kmip_run_command.specs.declared.run_end.RunEnd.{RunEnd}
 use Rattle.kmip_refresh.specs.Agreements.{judgement_of}
-use Rattle.kmip_refresh.specs.KnownKeys.{KnownKey, keys_known, keys_of, known_at_start, known_from, known_keys, looks_judged}
+use Rattle.kmip_refresh.specs.KnownKeys.{KnownKey, keys_of, known_from, known_keys, looks_judged}
 use Rattle.kmip_refresh.specs.Moments.{FinishedSince, StoodSince}
-use Rattle.kmip_refresh.specs.Refreshing.{ComesOf, FollowsLook, IfRan, IsOutcomeOf, IsStill, LooksAlone, LooksFirst, Refreshes, UnlessRan, lookeds_of, looks_of}
+use Rattle.kmip_refresh.specs.Refreshing.{ComesOf, FollowsLook, IfRan, IsOutcomeOf, IsStill, LooksAlone, LooksFirst, Refreshes, RestOfCall, UnlessRan, lookeds_of, looks_of}
 use Rattle.kmip_refresh.specs.declared.judgement.Judgement.{Judgement}
 use Rattle.kmip_refresh.specs.declared.judgement.Judgement.TheVariants as judgements
 use Rattle.kmip_refresh.specs.declared.key_look.KeyLook.{KeyLook}
@@ -167,159 +162,94 @@ agreed_if S U M judgements.Unanswered (Ran end) P comes next = absurd comes
 
 -- ---- since the call began
 
--- the known keys of a text that is refused are none
-none_read : (keys : List Key) (read : Result (List Knowledge) ProgressFault) (fault : ProgressFault) → read ≡ Err fault
-    → known_keys keys (known_at_start read) ≡ []
-none_read [] read fault is = refl
-none_read (key ∷ keys) read fault is = ap (λ r. known_keys (key ∷ keys) (known_at_start r)) is
+-- the keys of which the client knows an identifier at first
+abbrev known_first : RestOfCall → List KnownKey
+known_first rest = known_keys rest.first.keys (progress rest.first)
 
-made_later : (keys : List Key) (start : RunStart) (change : RunChange) (end : RunEnd) (knowns : List Knowledge)
-    → begin_knowns keys start.saved ≡ Ok knowns → RunsPlan keys start change (Ok end) → change.before.link.honest (is_planned keys)
-    → IsLater (is_planned keys) change.before.link.past change.after.link.past
-made_later keys start change end knowns is runs honest =
-    let (first, come) = ends_come change.untouched (CameOf start change keys) keys start.limit (begin_knowns keys start.saved) knowns end is runs.text in
-    come_later start.limit _ change.before change.after _ come.outcome come.has_come come.in_memory honest
+made_later : (rest : RestOfCall) (end : RunEnd) → RunsPlan rest.first rest.limit rest.change (Ok end) rest.last
+    → rest.change.before.link.honest (is_planned rest.first.keys)
+    → IsLater (is_planned rest.first.keys) rest.change.before.link.past rest.change.after.link.past
+made_later rest end runs honest =
+    let come = ends_come (Came rest.limit rest.change.before rest.change.after rest.first) rest.first.keys rest.limit rest.last
+    end runs.text in
+    come_later rest.limit rest.change.before rest.change.after rest.first come.outcome come.has_come come.in_memory honest
 
-nothing_stood : (names : Names) (old new : Past) (known : List KnownKey) (looks : List KeyLook) → known ≡ [] → looks ≡ looks_judged known (lookeds_of looks)
-    → AllZip (StoodSince names old new) known looks
-nothing_stood names old new [] [] none is = tt
-nothing_stood names old new [] (look ∷ looks) none is = absurd (no_more look looks is) where
-  no_more : (look : KeyLook) (looks : List KeyLook) → look ∷ looks ≡ [] → ⊥
-  no_more look looks is = absurd cc
-nothing_stood names old new (k ∷ known) looks none is = absurd cc
-
--- what was so between is so at the end
-stood_since : (keys : List Key) (start : RunStart) (change : RunChange) (old : Past) (looks : List KeyLook) (read : Result (List Knowledge) ProgressFault)
-    → begin_knowns keys start.saved ≡ read → looks ≡ looks_judged (keys_known keys start.saved) (lookeds_of looks) → (end : RunEnd)
-    → RunsPlan keys start change (Ok end) → change.before.link.honest (is_planned keys)
-    → AllZip (StoodSince (is_planned keys) old change.before.link.past) (keys_known keys start.saved) looks
-    → AllZip (StoodSince (is_planned keys) old change.after.link.past) (keys_known keys start.saved) looks
-stood_since keys start change old looks (Ok knowns) is are end runs honest so =
-    all_later (is_planned keys) old change.before.link.past change.after.link.past (keys_known keys start.saved) looks
-    (made_later keys start change end knowns is runs honest) so
-stood_since keys start change old looks (Err fault) is are end runs honest so =
-    nothing_stood (is_planned keys) old change.after.link.past (keys_known keys start.saved) looks
-    (none_read keys (begin_knowns keys start.saved) fault is) are
-
-pub all_since : (keys : List Key) (start : RunStart) (mark : List ℕ) (change : RunChange) (old : Seen) (refreshed : Refreshed)
-    → (change.untouched → change.after.link ≡ change.before.link)
-    → LooksFirst looks_of (keys_known keys start.saved) mark old (Ok refreshed) change.before.link → FollowsLook keys start change (Ok refreshed)
-    → old.honest (is_planned keys) → IsFresh mark old.past
-    → AllZip (StoodSince (is_planned keys) old.past change.after.link.past) (keys_known keys start.saved) refreshed.looks.items
-all_since keys start mark change old refreshed same first follows honest fresh =
-    let all = first.looks.honestly (is_planned keys) honest in
-    let so = all_stood (is_planned keys) old.past change.before.link.past (keys_known keys start.saved) refreshed.looks.items first.judged (all.since fresh) in
-    elim (still_or_made (IsStill change) _ _ (judgement_of refreshed.looks.items) refreshed.outcome follows) [
+pub all_since : (rest : RestOfCall) (mark : List ℕ) (old : Seen) (refreshed : Refreshed)
+    → (rest.untouched → rest.change.after.link ≡ rest.change.before.link)
+    → LooksFirst looks_of (known_first rest) mark old (Ok refreshed) rest.change.before.link → FollowsLook rest (Ok refreshed)
+    → old.honest (is_planned rest.first.keys) → IsFresh mark old.past
+    → AllZip (StoodSince (is_planned rest.first.keys) old.past rest.change.after.link.past) (known_first rest)
+    refreshed.looks.items
+all_since rest mark old refreshed same first follows honest fresh =
+    let names = is_planned rest.first.keys in
+    let known = known_first rest in
+    let between = rest.change.before.link.past in
+    let looks = refreshed.looks.items in
+    let all = first.looks.honestly names honest in
+    let so = all_stood names old.past between known looks first.judged (all.since fresh) in
+    elim (still_or_made (IsStill rest) _ _ (judgement_of looks) refreshed.outcome follows) [
       | inl still ↦
-          subst (λ (s : Seen). AllZip (StoodSince (is_planned keys) old.past s.past) (keys_known keys start.saved) refreshed.looks.items)
-          (sym (same still.0)) so
+          subst (λ (s : Seen). AllZip (StoodSince names old.past s.past) known looks) (sym (same still.0)) so
       | inr (end, runs) ↦
-          stood_since keys start change old.past refreshed.looks.items (begin_knowns keys start.saved) refl first.judged end runs all.still so
+          all_later names old.past between rest.change.after.link.past known looks (made_later rest end runs all.still) so
     ]
 
-pub finished_since : PlacesAreWithin → (keys : List Key) (start : RunStart) (mark : List ℕ) (change : RunChange) (old : Seen) (refreshed : Refreshed)
-    → (change.untouched → change.after.link ≡ change.before.link)
-    → LooksFirst looks_of (keys_known keys start.saved) mark old (Ok refreshed) change.before.link → FollowsLook keys start change (Ok refreshed)
-    → old.honest (is_planned keys) → IsFresh mark old.past
-    → IfRan refreshed.outcome (AllZip (FinishedSince (is_planned keys) old.past change.after.link.past) (keys_known keys start.saved) refreshed.looks.items)
-finished_since within keys start mark change old refreshed same first follows honest fresh =
-    agreed_if (IsStill change) _ _ (judgement_of refreshed.looks.items) refreshed.outcome _ follows (λ agreed.
-    all_finished within (is_planned keys) old.past change.after.link.past (keys_known keys start.saved) refreshed.looks.items
-    (agreed_settled refreshed.looks.items agreed)
-    (all_since keys start mark change old refreshed same first follows honest fresh))
+pub finished_since : PlacesAreWithin → (rest : RestOfCall) (mark : List ℕ) (old : Seen) (refreshed : Refreshed)
+    → (rest.untouched → rest.change.after.link ≡ rest.change.before.link)
+    → LooksFirst looks_of (known_first rest) mark old (Ok refreshed) rest.change.before.link → FollowsLook rest (Ok refreshed)
+    → old.honest (is_planned rest.first.keys) → IsFresh mark old.past
+    → IfRan refreshed.outcome (AllZip (FinishedSince (is_planned rest.first.keys) old.past rest.change.after.link.past)
+    (known_first rest) refreshed.looks.items)
+finished_since within rest mark old refreshed same first follows honest fresh =
+    let looks = refreshed.looks.items in
+    agreed_if (IsStill rest) _ _ (judgement_of looks) refreshed.outcome _ follows (λ agreed.
+    all_finished within (is_planned rest.first.keys) old.past rest.change.after.link.past (known_first rest) looks
+    (agreed_settled looks agreed) (all_since rest mark old refreshed same first follows honest fresh))
 
-pub looks_alone : (names : Names) (keys : List Key) (start : RunStart) (mark : List ℕ) (change : RunChange) (old : Seen) (refreshed : Refreshed) (Same : Type 0)
-    → (change.untouched → (change.after.link ≡ change.before.link) × Same)
-    → LooksFirst looks_of (keys_known keys start.saved) mark old (Ok refreshed) change.before.link → FollowsLook keys start change (Ok refreshed)
-    → old.honest names → UnlessRan refreshed.outcome (Same × LooksAlone names (keys_of (keys_known keys start.saved)) mark old change.after.link)
-looks_alone names keys start mark change old refreshed Same same first follows honest =
+pub looks_alone : (names : Names) (rest : RestOfCall) (mark : List ℕ) (old : Seen) (refreshed : Refreshed) (Same : Type 0)
+    → (rest.untouched → (rest.change.after.link ≡ rest.change.before.link) × Same)
+    → LooksFirst looks_of (known_first rest) mark old (Ok refreshed) rest.change.before.link → FollowsLook rest (Ok refreshed)
+    → old.honest names
+    → UnlessRan refreshed.outcome (Same × LooksAlone names (keys_of (known_first rest)) mark old rest.change.after.link)
+looks_alone names rest mark old refreshed Same same first follows honest =
     let all = first.looks.honestly names honest in
-    still_unless (IsStill change) _ _ (judgement_of refreshed.looks.items) refreshed.outcome _ follows (λ still.
+    still_unless (IsStill rest) _ _ (judgement_of refreshed.looks.items) refreshed.outcome _ follows (λ still.
     let (link, kept) = same still.0 in (
       kept,
-      subst (LooksAlone names (keys_of (keys_known keys start.saved)) mark old) (sym link) (record { still = all.still; sends = all.asks_looks }),
+      subst (LooksAlone names (keys_of (known_first rest)) mark old) (sym link)
+      (record { still = all.still; sends = all.asks_looks }),
     ))
+
+-- unless the run was made, the client is as it was
+pub same_client : (rest : RestOfCall) (refreshed : Refreshed) → FollowsLook rest (Ok refreshed)
+    → UnlessRan refreshed.outcome (rest.last ≡ rest.first)
+same_client rest refreshed follows =
+    still_unless (IsStill rest) _ _ (judgement_of refreshed.looks.items) refreshed.outcome _ follows (λ still. still.3)
 
 -- ---- how the call ends
 
--- what the client knows is what the text says
-known_are : (keys : List Key) (saved : Option (List ℕ)) (client : ClientState) → client.keys ≡ keys → begin_knowns keys saved ≡ Ok client.knowns
-    → known_keys client.keys (progress client) ≡ keys_known keys saved
-known_are keys saved client keys_are is =
-    ap (λ ks. known_keys ks (progress client)) keys_are ∙ ap (λ r. known_keys keys (known_at_start r)) (sym is)
-
 -- the keys were looked at, and this followed
-pub after_look : {L A : Type 0} (seen : L → Seen) (items : A → List KeyLook) (keys : List Key) (saved : Option (List ℕ)) (client : ClientState)
-    (mark : List ℕ) (old between : L) (value : A) (refreshed : Refreshed) (Follows : L → Type 0) → client.keys ≡ keys
-    → begin_knowns keys saved ≡ Ok client.knowns → refreshed.looks.items ≡ items value
-    → LooksFirst items (known_keys client.keys (progress client)) mark (seen old) (Ok value) (seen between) → Follows between
-    → Refreshes seen (keys_known keys saved) mark old (Ok refreshed) Follows
-after_look seen items keys saved client mark old between value refreshed Follows keys_are is same first follows = record {
+pub after_look : {L A : Type 0} (seen : L → Seen) (items : A → List KeyLook) (known : List KnownKey) (mark : List ℕ)
+    (old between : L) (value : A) (refreshed : Refreshed) (Follows : L → Type 0) → refreshed.looks.items ≡ items value
+    → LooksFirst items known mark (seen old) (Ok value) (seen between) → Follows between
+    → Refreshes seen known mark old (Ok refreshed) Follows
+after_look seen items known mark old between value refreshed Follows same first follows = record {
   between = between;
-  looks = subst (λ known. LooksFirst looks_of known mark (seen old) (Ok refreshed) (seen between)) (known_are keys saved client keys_are is)
-      (moved looks_of items (known_keys client.keys (progress client)) mark (seen old) (seen between) refreshed value same first);
+  looks = moved looks_of items known mark (seen old) (seen between) refreshed value same first;
   follows = follows;
 }
 
 -- the keys were looked at, and memory ran out then or before
-pub broken_look : {L A : Type 0} (seen : L → Seen) (items : A → List KeyLook) (keys : List Key) (saved : Option (List ℕ)) (client : ClientState)
-    (mark : List ℕ) (old between : L) (result : Result A NoMemory) (fault : NoMemory) (Follows : L → Type 0) → client.keys ≡ keys
-    → begin_knowns keys saved ≡ Ok client.knowns
-    → LooksFirst items (known_keys client.keys (progress client)) mark (seen old) result (seen between) → Follows between
-    → Refreshes seen (keys_known keys saved) mark old (Err fault) Follows
-broken_look seen items keys saved client mark old between result fault Follows keys_are is first follows = record {
-  between = between;
-  looks = subst (λ known. LooksFirst looks_of known mark (seen old) (Err fault) (seen between)) (known_are keys saved client keys_are is)
-      (broken looks_of (λ v. lookeds_of (items v)) (known_keys client.keys (progress client)) mark (seen old) (seen between) result fault first.looks);
-  follows = follows;
-}
-
--- no key was looked at, since memory ran out
-pub no_look : {L : Type 0} (seen : L → Seen) (known : List KnownKey) (mark : List ℕ) (old : L) (fault : NoMemory) (Follows : L → Type 0) → Follows old
+pub broken_look : {L A : Type 0} (seen : L → Seen) (items : A → List KeyLook) (known : List KnownKey) (mark : List ℕ)
+    (old between : L) (result : Result A NoMemory) (fault : NoMemory) (Follows : L → Type 0)
+    → LooksFirst items known mark (seen old) result (seen between) → Follows between
     → Refreshes seen known mark old (Err fault) Follows
-no_look seen known mark old fault Follows follows =
-    record { between = old; looks = unlooked looks_of known mark (seen old) fault; follows = follows }
-
--- no key was looked at, since the progress is refused
-none_looked : (mark : List ℕ) (old : Seen) (refreshed : Refreshed) → refreshed.looks.items ≡ [] → LooksFirst looks_of [] mark old (Ok refreshed) old
-none_looked mark old refreshed none = record {
-  looks = record {
-    as_many = ap (λ ls. length (lookeds_of ls)) none;
-    honestly = λ names honest. record {
-      still = honest;
-      asks_looks = sends_none [] mark (8 * 0) old.past;
-      since = λ fresh. subst (λ ls. AllZip (IsSaid names old.past old.past) [] (lookeds_of ls)) (sym none) tt;
-    };
-    calmly = λ names calm. record {
-      still = calm;
-      objects = refl;
-      effects = refl;
-      stand = λ distinct. record {
-        stand = subst (λ ls. AllZip (IsToldOf old.past.objects) [] (lookeds_of ls)) (sym none) tt;
-        few = omega arith;
-      };
-    };
-  };
-  judged = none;
-}
-
-pub refused_look : {L : Type 0} (seen : L → Seen) (keys : List Key) (saved : Option (List ℕ)) (mark : List ℕ) (old : L) (refreshed : Refreshed)
-    (Follows : L → Type 0) (fault : ProgressFault) → begin_knowns keys saved ≡ Err fault → refreshed.looks.items ≡ [] → Follows old
-    → Refreshes seen (keys_known keys saved) mark old (Ok refreshed) Follows
-refused_look seen keys saved mark old refreshed Follows fault is none follows = record {
-  between = old;
-  looks = subst (λ known. LooksFirst looks_of known mark (seen old) (Ok refreshed) (seen old)) (sym (none_read keys (begin_knowns keys saved) fault is))
-      (none_looked mark (seen old) refreshed none);
+broken_look seen items known mark old between result fault Follows first follows = record {
+  between = between;
+  looks =
+      broken looks_of (λ v. lookeds_of (items v)) known mark (seen old) (seen between) result fault first.looks;
   follows = follows;
 }
-
--- a text that is refused for a fault gives it
-pub refused : (fault : ProgressFault) (read : Result (List Knowledge) ProgressFault) → fault ≢ progress_faults.NoMemory → FailsProgress fault read
-    → read ≡ Err fault
-refused progress_faults.BadText read other fails = fails
-refused progress_faults.Cut read other fails = fails
-refused progress_faults.OtherPlan read other fails = fails
-refused progress_faults.NoMemory read other fails = absurd (other refl)
 
 -- what comes of a judgement comes of one that is the same
 pub comes_as : (Still : Type 0) (Unmade Made : RunEnd → Type 0) (judgement other : Judgement) (outcome : RefreshOutcome) → judgement ≡ other
@@ -344,19 +274,22 @@ known_fit place (key ∷ keys) (first ∷ known) fits =
           (sym none) rest
     ]
 
-pub since_any : (keys : List Key) (start : RunStart) (mark : List ℕ) (change : RunChange) (old : Seen) (result : Result Refreshed NoMemory)
-    → (change.untouched → change.after.link ≡ change.before.link)
-    → LooksFirst looks_of (keys_known keys start.saved) mark old result change.before.link → FollowsLook keys start change result
-    → old.honest (is_planned keys) → IsFresh mark old.past → IfOk result (λ refreshed.
-    AllZip (StoodSince (is_planned keys) old.past change.after.link.past) (keys_known keys start.saved) refreshed.looks.items)
-since_any keys start mark change old (Ok refreshed) same first follows honest fresh = all_since keys start mark change old refreshed same first follows honest fresh
-since_any keys start mark change old (Err fault) same first follows honest fresh = tt
+pub since_any : (rest : RestOfCall) (mark : List ℕ) (old : Seen) (result : Result Refreshed NoMemory)
+    → (rest.untouched → rest.change.after.link ≡ rest.change.before.link)
+    → LooksFirst looks_of (known_first rest) mark old result rest.change.before.link → FollowsLook rest result
+    → old.honest (is_planned rest.first.keys) → IsFresh mark old.past → IfOk result (λ refreshed.
+    AllZip (StoodSince (is_planned rest.first.keys) old.past rest.change.after.link.past) (known_first rest)
+    refreshed.looks.items)
+since_any rest mark old (Ok refreshed) same first follows honest fresh =
+    all_since rest mark old refreshed same first follows honest fresh
+since_any rest mark old (Err fault) same first follows honest fresh = tt
 
-pub finished_any : PlacesAreWithin → (keys : List Key) (start : RunStart) (mark : List ℕ) (change : RunChange) (old : Seen)
-    (result : Result Refreshed NoMemory) → (change.untouched → change.after.link ≡ change.before.link)
-    → LooksFirst looks_of (keys_known keys start.saved) mark old result change.before.link → FollowsLook keys start change result
-    → old.honest (is_planned keys) → IsFresh mark old.past → IfOk result (λ refreshed. IfRan refreshed.outcome
-    (AllZip (FinishedSince (is_planned keys) old.past change.after.link.past) (keys_known keys start.saved) refreshed.looks.items))
-finished_any within keys start mark change old (Ok refreshed) same first follows honest fresh =
-    finished_since within keys start mark change old refreshed same first follows honest fresh
-finished_any within keys start mark change old (Err fault) same first follows honest fresh = tt
+pub finished_any : PlacesAreWithin → (rest : RestOfCall) (mark : List ℕ) (old : Seen) (result : Result Refreshed NoMemory)
+    → (rest.untouched → rest.change.after.link ≡ rest.change.before.link)
+    → LooksFirst looks_of (known_first rest) mark old result rest.change.before.link → FollowsLook rest result
+    → old.honest (is_planned rest.first.keys) → IsFresh mark old.past → IfOk result (λ refreshed. IfRan refreshed.outcome
+    (AllZip (FinishedSince (is_planned rest.first.keys) old.past rest.change.after.link.past) (known_first rest)
+    refreshed.looks.items))
+finished_any within rest mark old (Ok refreshed) same first follows honest fresh =
+    finished_since within rest mark old refreshed same first follows honest fresh
+finished_any within rest mark old (Err fault) same first follows honest fresh = tt

@@ -3,8 +3,6 @@ use Rattle.std.proofs.Common.{◌≡◌, ◌≢◌, ℕ, true, false, List, [], 
 use Rattle.std.specs.List.{AllZip}
 use Rattle.kmip_plan.specs.ChainLaws.{PlacesAreWithin}
 use Rattle.kmip_plan.specs.declared.key.Key.{Key}
-use Rattle.kmip_progress.specs.declared.progress_fault.ProgressFault.{ProgressFault}
-use Rattle.kmip_client.specs.declared.knowledge.Knowledge.{Knowledge}
 use Rattle.kmip_protocol.specs.Exchanges.{HandsOver}
 use Rattle.kmip_protocol.specs.Past.{Names, Past, is_planned}
 use Rattle.kmip_runs.specs.Turning.{AreExchanged, stop_in}
@@ -16,7 +14,7 @@ use Rattle.kmip_look.specs.Moments.{IsLater}
 use Rattle.kmip_run_command.specs.Course.{Came, RunState}
 use Rattle.kmip_run_command.specs.RunEnds.{EndsFrom, Outcome}
 use Rattle.kmip_run_command.specs.declared.run_end.RunEnd.{RunEnd}
-use Rattle.kmip_run_command.specs.declared.run_end.RunEnd.TheVariants.{Refused, Stopped, Unwritten}
+use Rattle.kmip_run_command.specs.declared.run_end.RunEnd.TheVariants.{Stopped, Unwritten}
 use Rattle.kmip_client.specs.Clients.{ClientState}
 use Rattle.kmip_refresh.specs.Agreements.{agreement}
 use Rattle.kmip_refresh.specs.KnownKeys.{KnownKey, judged_look, keys_of, looks_judged}
@@ -98,7 +96,7 @@ exchanged_later names (sent ∷ questions) [] old new none = absurd none
 exchanged_later names (sent ∷ questions) (answer ∷ answers) old new (between, hands, rest) =
     moments.onward (handed_later names old between sent answer hands) (exchanged_later names questions answers between new rest)
 
--- What came of a run that ended, unless the progress was refused.
+-- What came of a run that ended.
 pub record HasCome (came : Outcome → Type 0) : Type 0 where
   pub outcome : Outcome
   pub has_come : came outcome
@@ -107,26 +105,25 @@ pub record HasCome (came : Outcome → Type 0) : Type 0 where
 limit_in_memory : stops.Limit ≢ stops.NoMemory
 limit_in_memory = λ same. absurd cc
 
-pub ends_come : (U : Type 0) (came : List Knowledge → Outcome → Type 0) (keys : List Key) (limit : ℕ) (read : Result (List Knowledge) ProgressFault)
-    (knowns : List Knowledge) (end : RunEnd) → read ≡ Ok knowns → EndsFrom U came keys limit read end → (first : List Knowledge) × HasCome (came first)
-ends_come U came keys limit (Ok first) knowns (Stopped client stop exchanges) is ends =
-    (first, record { outcome = record { knowns = client.knowns; result = Ok stop; exchanges = exchanges }; has_come = ends.has_come; in_memory = ends.in_memory })
-ends_come U came keys limit (Ok first) knowns Unwritten is ends = (
-  first,
-  record {
-    outcome = record { knowns = ends.knowns; result = Err faults.Output; exchanges = ends.exchanges };
-    has_come = ends.has_come;
-    in_memory = limit_in_memory;
-  },
-)
-ends_come U came keys limit (Ok first) knowns (Refused fault) is ends = absurd ends
-ends_come U came keys limit (Err fault) knowns end is ends = absurd cc
+pub ends_come : (came : Outcome → Type 0) (keys : List Key) (limit : ℕ) (client : ClientState) (end : RunEnd)
+    → EndsFrom came keys limit client end → HasCome came
+ends_come came keys limit client (Stopped stop exchanges) ends = record {
+  outcome = record { knowns = client.knowns; result = Ok stop; exchanges = exchanges };
+  has_come = ends.has_come;
+  in_memory = ends.in_memory;
+}
+ends_come came keys limit client Unwritten ends = record {
+  outcome = record { knowns = client.knowns; result = Err faults.Output; exchanges = ends.exchanges };
+  has_come = ends.has_come;
+  in_memory = limit_in_memory;
+}
 
-pub come_later : (limit : ℕ) (good : List Key → Type 0) (old new : RunState) (first : ClientState) (outcome : Outcome)
-    → Came limit good old new first outcome → stop_in outcome.result ≢ stops.NoMemory → old.link.honest (is_planned first.keys)
+pub come_later : (limit : ℕ) (old new : RunState) (first : ClientState) (outcome : Outcome)
+    → Came limit old new first outcome → stop_in outcome.result ≢ stops.NoMemory → old.link.honest (is_planned first.keys)
     → IsLater (is_planned first.keys) old.link.past new.link.past
-come_later limit good old new first outcome came in_memory honest =
+come_later limit old new first outcome came in_memory honest =
     let t = came.turned in
     moments.onward
-    (exchanged_later (is_planned first.keys) t.turned.questions t.turned.answers old.link.past t.until (t.turned.exchanged honest in_memory))
+    (exchanged_later (is_planned first.keys) t.turned.questions t.turned.answers old.link.past t.until
+    (t.turned.exchanged honest in_memory))
     (moments.delivered (t.closed honest))

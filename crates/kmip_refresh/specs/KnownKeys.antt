@@ -1,14 +1,10 @@
 -- The keys of which a progress file knows an identifier, and what the server said about each.
 -- Source: own (view).
-use Rattle.std.specs.Prelude.{ℕ, ◌+◌, List, [], ◌∷◌, map, Option, Result, Ok, Err, if◌then◌else◌}
+use Rattle.std.specs.Prelude.{ℕ, ◌+◌, List, [], ◌∷◌, map, if◌then◌else◌}
 use Rattle.std.specs.Option.{is_some}
 use Rattle.kmip_plan.specs.declared.key.Key.{Key}
 use Rattle.kmip_progress.specs.declared.known.Known.{Known}
-use Rattle.kmip_progress.specs.declared.progress_fault.ProgressFault.{ProgressFault}
-use Rattle.kmip_client.specs.Saving.{known_of}
-use Rattle.kmip_client.specs.declared.knowledge.Knowledge.{Knowledge}
 use Rattle.kmip_look.specs.declared.looked.Looked.{Looked}
-use Rattle.kmip_run_command.specs.RunEnds.{begin_knowns}
 use Rattle.kmip_refresh.specs.Agreements.{agreement}
 use Rattle.kmip_refresh.specs.declared.key_look.KeyLook.{KeyLook}
 
@@ -33,15 +29,6 @@ known_keys keys known = known_from 0 keys known
 -- The keys themselves.
 abbrev pub keys_of : List KnownKey → List Key
 keys_of known = map (λ k. k.key) known
-
--- What is known of each key at the start; nothing if the text is not a progress of the plan.
-abbrev pub known_at_start : Result (List Knowledge) ProgressFault → List Known
-known_at_start (Ok knowns) = map known_of knowns
-known_at_start (Err fault) = []
-
--- The keys of which the text of a progress knows an identifier.
-abbrev pub keys_known : List Key → Option (List ℕ) → List KnownKey
-keys_known keys saved = known_keys keys (known_at_start (begin_knowns keys saved))
 
 -- What the server said about a key, with its agreement.
 abbrev pub judged_look : KnownKey → Looked → KeyLook

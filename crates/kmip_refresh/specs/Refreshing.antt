@@ -3,15 +3,15 @@
 use Rattle.std.specs.Prelude.{◌≡◌, ◌⊎◌, ⊤, ℕ, ◌*◌, List, length, map, Result, Ok, Err, IfOk}
 use Rattle.kmip_ttlv.specs.declared.no_memory.NoMemory.{NoMemory}
 use Rattle.kmip_plan.specs.declared.key.Key.{Key}
+use Rattle.kmip_client.specs.Clients.{ClientState}
 use Rattle.kmip_protocol.specs.Past.{Names}
 use Rattle.kmip_protocol.specs.Seen.{Seen}
 use Rattle.kmip_runs.specs.declared.stop.Stop.TheVariants as stops
 use Rattle.kmip_look.specs.Looks.{Looks, Sends}
 use Rattle.kmip_look.specs.declared.looked.Looked.{Looked}
-use Rattle.kmip_run_command.specs.RunEnds.{begin_knowns}
-use Rattle.kmip_run_command.specs.Runs.{RunChange, RunStart, RunsPlan}
+use Rattle.kmip_run_command.specs.Runs.{RunChange, RunsPlan}
 use Rattle.kmip_run_command.specs.declared.run_end.RunEnd.{RunEnd}
-use Rattle.kmip_run_command.specs.declared.run_end.RunEnd.TheVariants.{Refused, Stopped, Unwritten}
+use Rattle.kmip_run_command.specs.declared.run_end.RunEnd.TheVariants.{Stopped, Unwritten}
 use Rattle.kmip_refresh.specs.Agreements.{judgement_of}
 use Rattle.kmip_refresh.specs.KnownKeys.{KnownKey, keys_of, looks_judged}
 use Rattle.kmip_refresh.specs.declared.judgement.Judgement.{Judgement}
@@ -40,12 +40,10 @@ looks_of refreshed = refreshed.looks.items
 
 -- ---- what follows the look
 
--- The end is that of a run that made no exchange: it stopped at its limit, with what the progress says.
-abbrev pub IsUnmade : List Key → RunStart → RunEnd → Type 0
-IsUnmade keys start (Stopped client stop exchanges) =
-    (client.keys ≡ keys) × (begin_knowns keys start.saved ≡ Ok client.knowns) × (stop ≡ stops.Limit) × (exchanges ≡ 0)
-IsUnmade keys start Unwritten = ⊥
-IsUnmade keys start (Refused fault) = ⊥
+-- The end is that of a run that made no exchange: it stopped at its limit.
+abbrev pub IsUnmade : RunEnd → Type 0
+IsUnmade (Stopped stop exchanges) = (stop ≡ stops.Limit) × (exchanges ≡ 0)
+IsUnmade Unwritten = ⊥
 
 -- What came of the call for this judgement. If the server contradicts, did not answer, or the run was not to begin,
 -- nothing more was done. Otherwise the run was made, and of its end this holds.
@@ -56,18 +54,40 @@ ComesOf Still Unmade Made judgements.Agreed NotBegun = Still
 ComesOf Still Unmade Made judgements.Agreed (Ran end) = Made end
 ComesOf Still Unmade Made judgement outcome = ⊥
 
--- Nothing more was sent and nothing was kept, and patience was not asked.
-abbrev pub IsStill : RunChange → Type 0
-IsStill change =
-    change.untouched × (change.after.is_tired ≡ change.before.is_tired) × (change.after.asked ≡ change.before.asked)
+-- Nothing was sent, and nothing was kept.
+abbrev pub AreUntouched : {L K : Type 0} → L → L → K → K → Type 0
+AreUntouched old new old_keeper new_keeper = (new ≡ old) × (new_keeper ≡ old_keeper)
 
--- What followed the look: this change of the link, the keeper and the patience. If memory ran out, nothing more was done,
--- or it ran out in the run.
-abbrev pub FollowsLook : List Key → RunStart → RunChange → Result Refreshed NoMemory → Type 0
-FollowsLook keys start change (Ok refreshed) =
-    ComesOf (IsStill change) (IsUnmade keys start) (λ end. RunsPlan keys start change (Ok end))
+-- What the rest of the call, after the look, makes of its client, its link, its keeper and its patience.
+pub record RestOfCall : Type 1 where
+  -- The client at first.
+  pub first : ClientState
+  -- The client at the end.
+  pub last : ClientState
+  -- How many exchanges the run may make at most.
+  pub limit : ℕ
+  -- The change of the link, the keeper and the patience.
+  pub change : RunChange
+  -- That nothing was sent, and nothing was kept.
+  pub untouched : Type 0
+
+-- The rest of these parts.
+abbrev pub rest_of_call : ClientState → ClientState → ℕ → RunChange → Type 0 → RestOfCall
+rest_of_call first last limit change untouched =
+    record { first = first; last = last; limit = limit; change = change; untouched = untouched }
+
+-- Nothing more was sent and nothing was kept, patience was not asked, and the client is as it was.
+abbrev pub IsStill : RestOfCall → Type 0
+IsStill rest =
+    rest.untouched × (rest.change.after.is_tired ≡ rest.change.before.is_tired)
+    × (rest.change.after.asked ≡ rest.change.before.asked) × (rest.last ≡ rest.first)
+
+-- What followed the look. If memory ran out, nothing more was done, or it ran out in the run.
+abbrev pub FollowsLook : RestOfCall → Result Refreshed NoMemory → Type 0
+FollowsLook rest (Ok refreshed) =
+    ComesOf (IsStill rest) IsUnmade (λ end. RunsPlan rest.first rest.limit rest.change (Ok end) rest.last)
     (judgement_of refreshed.looks.items) refreshed.outcome
-FollowsLook keys start change (Err fault) = IsStill change ⊎ RunsPlan keys start change (Err fault)
+FollowsLook rest (Err fault) = IsStill rest ⊎ RunsPlan rest.first rest.limit rest.change (Err fault) rest.last
 
 -- A look at the known keys, and then what followed. `between` is the link after the look.
 pub record Refreshes {L : Type 0} (seen : L → Seen) (known : List KnownKey) (mark : List ℕ) (old : L) (result : Result Refreshed NoMemory) (Follows : L → Type 0) : Type 0 where

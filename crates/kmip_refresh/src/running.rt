@@ -1,17 +1,17 @@
 //! A run that first looks at the keys that its progress file knows.
-ghost use Rattle.std.specs.Prelude.{◌≡◌, ◌≤◌, ◌⊎◌, IfOk, IsTrue, OnOk, length, option_map, true};
+ghost use Rattle.std.specs.Prelude.{◌≡◌, ◌≤◌, IfOk, IsTrue, length, true};
 ghost use Rattle.std.specs.List.{AllZip, list_all};
 ghost use Rattle.kmip_messages.specs.Members.{may_have};
 ghost use Rattle.kmip_client.specs.Saving.{progress};
 ghost use Rattle.kmip_plan.specs.Plans.{key_fits};
 ghost use Rattle.kmip_protocol.specs.Past.{Names, is_planned};
 ghost use Rattle.kmip_look.specs.Looks.{IsFresh};
-ghost use Rattle.kmip_run_command.specs.Course.{AreUntouched, run_state};
-ghost use Rattle.kmip_run_command.specs.Runs.{run_change, run_start};
+ghost use Rattle.kmip_run_command.specs.Course.{run_state};
+ghost use Rattle.kmip_run_command.specs.Runs.{run_change};
 ghost use Rattle.kmip_refresh.specs.Agreements.{judgement_of};
-ghost use Rattle.kmip_refresh.specs.KnownKeys.{keys_known, keys_of, known_keys, looks_judged};
+ghost use Rattle.kmip_refresh.specs.KnownKeys.{keys_of, known_keys, looks_judged};
 ghost use Rattle.kmip_refresh.specs.Moments.{FinishedSince, StoodSince};
-ghost use Rattle.kmip_refresh.specs.Refreshing.{FollowsLook, IfRan, IsOutcomeOf, LooksAlone, LooksFirst, Refreshes, UnlessRan, lookeds_of};
+ghost use Rattle.kmip_refresh.specs.Refreshing.{AreUntouched, FollowsLook, IfRan, IsOutcomeOf, LooksAlone, LooksFirst, Refreshes, UnlessRan, lookeds_of, rest_of_call};
 
 use crate::beginning::Beginning;
 use crate::judgement::Judgement;
@@ -24,28 +24,27 @@ use crate::refreshed::Refreshed;
 use kmip_client::Client;
 use kmip_look::{Pause, look_at_keys};
 use kmip_plan::chain_laws::states_have_places;
-use kmip_plan::{Key, Plan};
-use kmip_progress::{Known, ProgressFault};
+use kmip_plan::Key;
+use kmip_progress::Known;
 use kmip_protocol::{ExchangeObserver, Link};
-use kmip_run_command::{RunEnd, RunInput, begin, run_to_end};
+use kmip_run_command::{RunEnd, RunInput, run_to_end};
 use kmip_runs::{Keeper, Observer, Patience, Stop};
 use kmip_ttlv::NoMemory;
 use std::alloc::Global;
 
-/// Runs a plan as `run_to_end` does, once the server agrees with the saved progress.
+/// Runs a plan as `run_to_end` does, once the server agrees with what the client knows.
 ///
-/// First it looks at each key of which the progress knows an identifier, by questions that change nothing, with
-/// as many keys in a message as the input says. Each answer is compared with what the progress says. The run
+/// First it looks at each key of which the client knows an identifier, by questions that change nothing, with
+/// as many keys in a message as `refresh` says. Each answer is compared with what the client knows. The run
 /// is made if the judgement on all of them is `Agreed` and `Beginning::begin` returns true.
 ///
 /// The observer of `refresh` is told of each exchange of the look, and `observer` of each one of the run.
 ///
-/// If the text is not a progress of the plan, nothing is sent, and the outcome is `Ran(RunEnd::Refused(..))`.
+/// The look leaves the client as it is. So if the run was not made, the call may be repeated with the client.
 ///
 /// # Errors
 /// If memory runs out. What the keeper was given stays.
 pub fn run_refreshed<
-    'a,
     L: Link,
     K: Keeper,
     E: Patience,
@@ -55,74 +54,71 @@ pub fn run_refreshed<
     X: ExchangeObserver,
 >(
     alloc: Global,
-    plan: &'a Plan,
+    client: &mut Client<'_>,
     input: &RunInput<'_>,
     refresh: &mut Refresh<'_, P, B, X>,
     link: &mut L,
     keeper: &mut K,
     patience: &mut E,
     observer: &mut O,
-) -> Result<Refreshed<'a>, NoMemory>
-    // The `batch` of the input is a number from 1 to 8.
-    requires batch { IsTrue (may_have input.now.batch) }
+) -> Result<Refreshed, NoMemory>
+    // The `batch` of the look is a number from 1 to 8.
+    requires batch { IsTrue (may_have refresh.old.batch) }
     // The mark has at most 16 bytes.
     requires mark { length refresh.old.mark.now ≤ 16 }
     // First it looked at the known keys, from the link before the call to a link between. Then came of it what
     // the judgement says (`ComesOf`): nothing more, or a run from the link between, with all that `run_to_end`
     // promises (`RunsPlan`).
-    ensures refreshes { Refreshes (λ l. L.seen l)
-        (keys_known plan.now (option_map (λ text. text.now) input.now.saved)) refresh.old.mark.now
-        link.old result (λ between. FollowsLook plan.now
-        (run_start (option_map (λ text. text.now) input.now.saved) input.now.batch input.now.limit)
+    ensures refreshes { Refreshes (λ l. L.seen l) (known_keys client.old.keys (progress client.old))
+        refresh.old.mark.now link.old result (λ between. FollowsLook
+        (rest_of_call client.old client.new input.now.limit
         (run_change
         (run_state (L.seen between) (K.kept keeper.old) (E.has_given_up patience.old)
         (E.asked patience.old))
         (run_state (L.seen link.new) (K.kept keeper.new) (E.has_given_up patience.new)
-        (E.asked patience.new))
+        (E.asked patience.new)))
         (AreUntouched between link.new keeper.old keeper.new)) result) }
     // Its outcome is the one for the judgement on what the server said.
     ensures outcome { IfOk result (λ refreshed.
         IsOutcomeOf (judgement_of refreshed.looks.items) refreshed.outcome) }
-    // There is one answer for each key of which the progress knows an identifier, in the order of the plan, and
+    // There is one answer for each key of which the client knows an identifier, in the order of the plan, and
     // its agreement is that of `agreement`.
     ensures judged { IfOk result (λ refreshed. refreshed.looks.items ≡ looks_judged
-        (keys_known plan.now (option_map (λ text. text.now) input.now.saved))
-        (lookeds_of refreshed.looks.items)) }
+        (known_keys client.old.keys (progress client.old)) (lookeds_of refreshed.looks.items)) }
     // Unless the run was made, nothing was kept. Over a link that was honest for some names, looks at the known
     // keys were sent, and nothing else: no message that may change anything.
     ensures looks_alone { (names : Names) → (L.seen link.old).honest names
         → IfOk result (λ refreshed. UnlessRan refreshed.outcome ((keeper.new ≡ keeper.old)
-        × LooksAlone names
-        (keys_of (keys_known plan.now (option_map (λ text. text.now) input.now.saved)))
+        × LooksAlone names (keys_of (known_keys client.old.keys (progress client.old)))
         refresh.old.mark.now (L.seen link.old) (L.seen link.new))) }
     // Let the link be honest for the names of the plan, and let the mark be new. Then each key about which the
     // server agrees stood so at some moment since the call began.
-    ensures since { (L.seen link.old).honest (is_planned plan.now)
+    ensures since { (L.seen link.old).honest (is_planned client.old.keys)
         → IsFresh refresh.old.mark.now (L.seen link.old).past → IfOk result (λ refreshed. AllZip
-        (StoodSince (is_planned plan.now) (L.seen link.old).past (L.seen link.new).past)
-        (keys_known plan.now (option_map (λ text. text.now) input.now.saved))
-        refreshed.looks.items) }
-    // If the run was made, each key that the progress says is finished had reached its target at such a moment,
+        (StoodSince (is_planned client.old.keys) (L.seen link.old).past (L.seen link.new).past)
+        (known_keys client.old.keys (progress client.old)) refreshed.looks.items) }
+    // If the run was made, each key that the client knew to be finished had reached its target at such a moment,
     // or it is gone.
-    ensures finished { (L.seen link.old).honest (is_planned plan.now)
+    ensures finished { (L.seen link.old).honest (is_planned client.old.keys)
         → IsFresh refresh.old.mark.now (L.seen link.old).past → IfOk result (λ refreshed.
         IfRan refreshed.outcome (AllZip
-        (FinishedSince (is_planned plan.now) (L.seen link.old).past (L.seen link.new).past)
-        (keys_known plan.now (option_map (λ text. text.now) input.now.saved))
-        refreshed.looks.items)) }
+        (FinishedSince (is_planned client.old.keys) (L.seen link.old).past (L.seen link.new).past)
+        (known_keys client.old.keys (progress client.old)) refreshed.looks.items)) }
+    // Unless the run was made, the client is as it was.
+    ensures same { IfOk result (λ refreshed.
+        UnlessRan refreshed.outcome (client.new ≡ client.old)) }
 {
     states_have_places();
     look_and_run(
-        alloc, plan, input, refresh, link, keeper, patience, observer,
+        alloc, client, input, refresh, link, keeper, patience, observer,
     )
 }
 
-/// Reads the progress, looks at the keys that it knows, and makes the run if the server agrees.
+/// Looks at the keys that the client knows, and makes the run if the server agrees.
 ///
 /// # Errors
 /// If memory runs out.
 fn look_and_run<
-    'a,
     L: Link,
     K: Keeper,
     E: Patience,
@@ -132,64 +128,58 @@ fn look_and_run<
     X: ExchangeObserver,
 >(
     alloc: Global,
-    plan: &'a Plan,
+    client: &mut Client<'_>,
     input: &RunInput<'_>,
     refresh: &mut Refresh<'_, P, B, X>,
     link: &mut L,
     keeper: &mut K,
     patience: &mut E,
     observer: &mut O,
-) -> Result<Refreshed<'a>, NoMemory>
-    requires batch { IsTrue (may_have input.now.batch) }
+) -> Result<Refreshed, NoMemory>
+    requires batch { IsTrue (may_have refresh.old.batch) }
     requires mark { length refresh.old.mark.now ≤ 16 }
-    ensures { Refreshes (λ l. L.seen l)
-        (keys_known plan.now (option_map (λ text. text.now) input.now.saved)) refresh.old.mark.now
-        link.old result (λ between. FollowsLook plan.now
-        (run_start (option_map (λ text. text.now) input.now.saved) input.now.batch input.now.limit)
+    ensures { Refreshes (λ l. L.seen l) (known_keys client.old.keys (progress client.old))
+        refresh.old.mark.now link.old result (λ between. FollowsLook
+        (rest_of_call client.old client.new input.now.limit
         (run_change
         (run_state (L.seen between) (K.kept keeper.old) (E.has_given_up patience.old)
         (E.asked patience.old))
         (run_state (L.seen link.new) (K.kept keeper.new) (E.has_given_up patience.new)
-        (E.asked patience.new))
+        (E.asked patience.new)))
         (AreUntouched between link.new keeper.old keeper.new)) result) }
 {
-    match begin(alloc, plan, input.saved) {
-        Ok(client) => {
-            let looks = look(alloc, &client, input.batch, refresh, link)?;
-            let judgement = judgement_of(looks.as_slice());
-            match judgement {
-                Judgement::Contradicted => Ok(Refreshed {
+    let looks = look(alloc, client, refresh, link)?;
+    let judgement = judgement_of(looks.as_slice());
+    match judgement {
+        Judgement::Contradicted => Ok(Refreshed {
+            looks,
+            outcome: RefreshOutcome::Contradicted,
+        }),
+        Judgement::Unanswered => Ok(Refreshed {
+            looks,
+            outcome: RefreshOutcome::Unanswered(RunEnd::Stopped {
+                stop: Stop::Limit,
+                exchanges: 0,
+            }),
+        }),
+        Judgement::Agreed => {
+            if !refresh.beginning.begin(looks.as_slice()) {
+                return Ok(Refreshed {
                     looks,
-                    outcome: RefreshOutcome::Contradicted,
-                }),
-                Judgement::Unanswered => Ok(Refreshed {
-                    looks,
-                    outcome: RefreshOutcome::Unanswered(RunEnd::Stopped {
-                        client,
-                        stop: Stop::Limit,
-                        exchanges: 0,
-                    }),
-                }),
-                Judgement::Agreed => {
-                    if !refresh.beginning.begin(looks.as_slice()) {
-                        return Ok(Refreshed {
-                            looks,
-                            outcome: RefreshOutcome::NotBegun,
-                        });
-                    }
-                    let end = run_to_end(alloc, plan, input, link, keeper, patience, observer)?;
-                    Ok(Refreshed {
-                        looks,
-                        outcome: RefreshOutcome::Ran(end),
-                    })
-                }
+                    outcome: RefreshOutcome::NotBegun,
+                });
             }
-        }
-        Err(ProgressFault::NoMemory) => Err(NoMemory),
-        Err(_fault) => {
-            let end = run_to_end(alloc, plan, input, link, keeper, patience, observer)?;
+            let end = run_to_end(
+                alloc,
+                client,
+                input.limit,
+                link,
+                keeper,
+                patience,
+                observer,
+            )?;
             Ok(Refreshed {
-                looks: Vec::new(alloc),
+                looks,
                 outcome: RefreshOutcome::Ran(end),
             })
         }
@@ -203,18 +193,17 @@ fn look_and_run<
 fn look<L: Link, P: Pause, B, X: ExchangeObserver>(
     alloc: Global,
     client: &Client<'_>,
-    batch: usize,
     refresh: &mut Refresh<'_, P, B, X>,
     link: &mut L,
 ) -> Result<Vec<KeyLook>, NoMemory>
-    requires batch { IsTrue (may_have batch) }
+    requires batch { IsTrue (may_have refresh.old.batch) }
     requires mark { length refresh.old.mark.now ≤ 16 }
     ensures { LooksFirst (λ v. v.items) (known_keys client.now.keys (progress client.now))
         refresh.old.mark.now (L.seen link.old) result (L.seen link.new) }
 {
     let saved = client.progress(alloc)?;
     let plan = client.plan();
-    let mark = refresh.mark;
+    let (mark, batch) = (refresh.mark, refresh.batch);
     let pause = &mut refresh.pause;
     let observer = &mut refresh.observer;
     look_at_known(

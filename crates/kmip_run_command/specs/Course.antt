@@ -22,7 +22,7 @@ use Rattle.kmip_protocol.specs.Headline.{Safe}
 use Rattle.kmip_runs.specs.Headline.{GoodLink, reported_by}
 use Rattle.kmip_runs.specs.Lasting.{KeepsMoments, LeavesTheFile}
 use Rattle.kmip_runs.specs.Turning.{IsTurnedUntil, stop_in}
-use Rattle.kmip_runs.specs.Driving.{IsQuestion, Learnt, WentOn}
+use Rattle.kmip_runs.specs.Driving.{IsGood, IsQuestion, Learnt, WentOn}
 use Rattle.kmip_runs.specs.Losing.{IsEnough}
 use Rattle.kmip_runs.specs.declared.stop.Stop.{Stop}
 use Rattle.kmip_runs.specs.declared.stop.Stop.TheVariants as stops
@@ -32,10 +32,6 @@ use Rattle.kmip_runs.specs.declared.save_fault.SaveFault.{SaveFault}
 use Rattle.kmip_runs.specs.declared.save_fault.SaveFault.TheVariants as faults
 use Rattle.kmip_runs.specs.Keeping.{Kept}
 use Rattle.kmip_run_command.specs.RunEnds.{Outcome}
-
--- Nothing was sent, and nothing was kept.
-abbrev pub AreUntouched : {L K : Type 0} → L → L → K → K → Type 0
-AreUntouched old new old_keeper new_keeper = (new ≡ old) × (new_keeper ≡ old_keeper)
 
 -- The state of a run at a moment: what is seen of its link, its keeper and its patience.
 pub record RunState : Type 1 where
@@ -51,10 +47,6 @@ abbrev pub run_state : Seen → Kept → Bool → ℕ → RunState
 run_state link keeper is_tired asked =
     record { link = link; keeper = keeper; is_tired = is_tired; asked = asked }
 
--- A client that knows this of its keys, and asks about at most this number of them in a message. The first key is next.
-abbrev pub begun_client : List Key → List Knowledge → ℕ → ClientState
-begun_client keys knowns most = record { keys = keys; knowns = knowns; next = 0; batch = most }
-
 -- A crash leaves what a read of the file gives, and nothing else, or the keeper has counted a failure since. It asks
 -- for a disk that kept the rules, with the bytes of the file on it.
 abbrev pub Lasts : Kept → Kept → Type 0
@@ -63,15 +55,15 @@ Lasts old new =
 
 -- What came of exchanges over a link, no more than `limit`, of a client that was in this state at first. `old` is
 -- the state of the run at first, `new` the state then. `outcome` says what is known then, why no more exchanges
--- were made, and how many were. `good` is that the link was honest among others of the plan, all was sound, and
--- what was known was true.
-pub record Came (limit : ℕ) (good : List Key → Type 0) (old new : RunState) (first : ClientState) (outcome : Outcome) : Type 0 where
+-- were made, and how many were. All was good at first if the link was honest among others of the plan, all was sound,
+-- and what was known was true (`IsGood`).
+pub record Came (limit : ℕ) (old new : RunState) (first : ClientState) (outcome : Outcome) : Type 0 where
   -- No identifier or count is taken back.
   pub forgets_nothing : AllZip IsKept first.knowns outcome.knowns
   -- If all was good, what is known then is true of the objects that there are then, whoever else asked.
-  pub is_true : good first.keys → Held new.link.past.objects first.keys outcome.knowns
+  pub is_true : IsGood first old.link → Held new.link.past.objects first.keys outcome.knowns
   -- If all was good, the past is safe for the steps that are then reported done.
-  pub safe : good first.keys → Safe first.keys new.link.past (reported_by first.keys (counts_of outcome.knowns))
+  pub safe : IsGood first old.link → Safe first.keys new.link.past (reported_by first.keys (counts_of outcome.knowns))
   -- Over an honest link, each message asked about keys of the plan. What is known then is what was known
   -- at first and what the exchanges handed over.
   pub learnt : old.link.honest (is_planned first.keys)
@@ -85,7 +77,7 @@ pub record Came (limit : ℕ) (good : List Key → Type 0) (old new : RunState) 
       old.link.past new.link.past
   -- What was known after each exchange was saved, and what a crash may leave is one of these texts.
   pub moments : KeepsMoments first.keys first.batch
-      (record { good = good first.keys; honest = old.link.honest (is_planned first.keys) })
+      (record { good = IsGood first old.link; honest = old.link.honest (is_planned first.keys) })
       (record { knowns = first.knowns; past = old.link.past }) (record { knowns = outcome.knowns; past = new.link.past })
       old.keeper new.keeper outcome.result outcome.exchanges
   -- A crash after it leaves the file as it is read, or the keeper has counted a failure.
@@ -109,22 +101,23 @@ pub record Came (limit : ℕ) (good : List Key → Type 0) (old new : RunState) 
   -- Where all was good and nobody else asks, with no premise of calm: the plan's bound, one exchange for each
   -- key, and what the link counted of the run's disturbed exchanges are enough for every key. That too is said
   -- where each text could be kept, memory did not run out, and patience has not given up.
-  pub outlasts : good first.keys → old.link.honest (is_planned first.keys) → new.is_tired ≡ false → IsWhole outcome.result
+  pub outlasts : IsGood first old.link → old.link.honest (is_planned first.keys) → new.is_tired ≡ false → IsWhole outcome.result
       → IsEnough first.keys limit old.link.disturbances new.link.disturbances → outcome.result ≡ Ok stops.AllFinished
 
--- Turns were taken over the link by a client of these keys that began with this knowledge, and asked about at most
--- this many keys in a message.
-abbrev pub TakesTurns : List Key → List Knowledge → ℕ → Seen → Seen → Type 0
-TakesTurns keys knowns most old new =
+-- Turns were taken over the link by a client that was in this state at first.
+abbrev pub TakesTurns : ClientState → Seen → Seen → Type 0
+TakesTurns first old new =
     (stop : Stop) × (exchanges : ℕ) × (last : ClientState)
-    × IsTurnedUntil (old.honest (is_planned keys)) stop exchanges (begun_client keys knowns most) last old.past new.past
+    × IsTurnedUntil (old.honest (is_planned first.keys)) stop exchanges first last old.past new.past
 
--- A run of these keys that began with this knowledge kept the texts of its moments. `good` is that it began well.
-abbrev pub KeepsTexts : Type 0 → List Key → List Knowledge → ℕ → Seen → Seen → Kept → Kept → Type 0
-KeepsTexts good keys knowns most old new old_keeper new_keeper =
+-- A run of a client that was in this state at first kept the texts of its moments.
+abbrev pub KeepsTexts : ClientState → Seen → Seen → Kept → Kept → Type 0
+KeepsTexts first old new old_keeper new_keeper =
     (result : Result Stop SaveFault) × (exchanges : ℕ) × (ended : List Knowledge)
-    × KeepsMoments keys most (record { good = good; honest = old.honest (is_planned keys) })
-    (record { knowns = knowns; past = old.past }) (record { knowns = ended; past = new.past }) old_keeper new_keeper result exchanges
+    × KeepsMoments first.keys first.batch
+    (record { good = IsGood first old; honest = old.honest (is_planned first.keys) })
+    (record { knowns = first.knowns; past = old.past }) (record { knowns = ended; past = new.past })
+    old_keeper new_keeper result exchanges
 
 -- The text of a progress, where there is one, says what is true of these objects.
 abbrev pub IsTrueText : List Object → List Key → Option (List ℕ) → Type 0
@@ -150,8 +143,8 @@ IsWholeFile objects keys c = (text : List ℕ) × (c ≡ Some text) × IsWholeTe
 abbrev pub LeavesTrue : List Object → List Key → DiskView → DiskView → Type 0
 LeavesTrue objects keys old new = old.lawful → LeavesOnly old new (λ c. old.may_leave c ⊎ IsWholeFile objects keys c)
 
--- Own (law): the link was honest among others of the plan, its past was sound, and the run began with nothing
--- or with what was true. What holds of the link then.
+-- Own (law): the link was honest among others of the plan, its past was sound, and the run began with what was
+-- true. What holds of the link then.
 pub record KeepsSafe (keys : List Key) (old new : Seen) : Type 0 where
   -- The link is honest among others of the plan still, and its past is sound.
   pub stays_good : GoodLink keys new

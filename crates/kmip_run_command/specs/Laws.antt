@@ -30,7 +30,8 @@ CrashesLeaveGoodFiles {L} {K} seen kept =
     (keys : List Key) (begun ended : L) (first last : K) (c : Content) → IsLawful keys
     → IsLeft seen kept keys begun ended first last c → IsGoodFile (seen ended).past.objects keys c
 
--- So the next run begins well with it: all is good for `run` (`IsGoodStart`), which then promises the sentence again.
+-- So the next run begins well with it (`IsGoodStart`): what its client knows is true (clause *held* of `begin`), and
+-- `run` promises the sentence again.
 abbrev pub TheNextRunBeginsWell : {L K : Type 0} → (L → Seen) → (K → Kept) → Type 0
 TheNextRunBeginsWell {L} {K} seen kept =
     (keys : List Key) (begun ended : L) (first last : K) (c : Content) → IsLawful keys

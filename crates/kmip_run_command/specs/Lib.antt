@@ -2,7 +2,7 @@
 
 -- what a run promises
 pub mod Runs
--- how a run ended, for a plan, a progress and the exchanges that were made
+-- what a run begins with, and how it ended
 pub mod RunEnds
 -- what came of the exchanges, and what stays safe over an honest link
 pub mod Course
@@ -14,5 +14,3 @@ pub mod Causes
 pub mod Laws
 -- the line that says how far a run is
 pub mod ProgressLineText
--- private: what the parts of a run promise
-pub mod PrivateRuns

@@ -1,4 +1,4 @@
--- How a run ended, and what that has come of: a plan, a saved progress, and the exchanges that were made.
+-- What a run begins with, how it ended, and what that has come of.
 -- Source: own (view).
 use Rattle.std.specs.Prelude.{◌≡◌, ◌≢◌, ◌≤◌, ℕ, List, Option, Some, None, Result, Ok, Err}
 use Rattle.kmip_plan.specs.declared.key.Key.{Key}
@@ -14,7 +14,7 @@ use Rattle.kmip_runs.specs.declared.stop.Stop.TheVariants as stops
 use Rattle.kmip_runs.specs.declared.save_fault.SaveFault.{SaveFault}
 use Rattle.kmip_runs.specs.declared.save_fault.SaveFault.TheVariants as faults
 use Rattle.kmip_run_command.specs.declared.run_end.RunEnd.{RunEnd}
-use Rattle.kmip_run_command.specs.declared.run_end.RunEnd.TheVariants.{Refused, Unwritten, Stopped}
+use Rattle.kmip_run_command.specs.declared.run_end.RunEnd.TheVariants.{Unwritten, Stopped}
 
 -- What came of a run: what is known after it, why no more exchanges were made, and how many were.
 pub record Outcome : Type 0 where
@@ -35,7 +35,8 @@ abbrev pub begin_knowns : List Key → Option (List ℕ) → Result (List Knowle
 begin_knowns keys None = Ok (fresh keys).knowns
 begin_knowns keys (Some text) = knowns_read keys (read_text keys text)
 
--- A run over these keys stopped for this reason after so many exchanges. What came of them is given.
+-- A run over these keys stopped for this reason after so many exchanges, and its client is then this one. What came
+-- of them is given.
 pub record IsStopped (came : Outcome → Type 0) (keys : List Key) (limit : ℕ) (client : ClientState) (stop : Stop) (exchanges : ℕ) : Type 0 where
   -- The client is one of these keys.
   pub keys_are : client.keys ≡ keys
@@ -48,19 +49,16 @@ pub record IsStopped (came : Outcome → Type 0) (keys : List Key) (limit : ℕ)
   -- No more exchanges were made than may be.
   pub within : exchanges ≤ limit
 
--- What was known after the last exchange of a run could not be kept.
-pub record IsUnwritten (came : Outcome → Type 0) : Type 0 where
-  -- What was known.
-  pub knowns : List Knowledge
+-- What was known after the last exchange of a run over these keys could not be kept. Its client is then this one.
+pub record IsUnwritten (came : Outcome → Type 0) (keys : List Key) (client : ClientState) : Type 0 where
+  -- The client is one of these keys.
+  pub keys_are : client.keys ≡ keys
   -- How many exchanges were made.
   pub exchanges : ℕ
-  -- That has come of the exchanges.
-  pub has_come : came (record { knowns = knowns; result = Err faults.Output; exchanges = exchanges })
+  -- What it knows has come of the exchanges.
+  pub has_come : came (record { knowns = client.knowns; result = Err faults.Output; exchanges = exchanges })
 
--- How a run ended that begins with what is known at first: it stopped, or what was known could not be kept.
--- Where there is a fault of the progress instead, it is refused for this; nothing was sent, and nothing kept.
-abbrev pub EndsFrom : Type 0 → (List Knowledge → Outcome → Type 0) → List Key → ℕ → Result (List Knowledge) ProgressFault → RunEnd → Type 0
-EndsFrom untouched came keys limit (Ok knowns) (Stopped client stop exchanges) = IsStopped (came knowns) keys limit client stop exchanges
-EndsFrom untouched came keys limit (Ok knowns) Unwritten = IsUnwritten (came knowns)
-EndsFrom untouched came keys limit (Err fault) (Refused other) = untouched × (other ≡ fault)
-EndsFrom untouched came keys limit first end = ⊥
+-- How a run over these keys ended, after which its client is this one: it stopped, or what was known could not be kept.
+abbrev pub EndsFrom : (Outcome → Type 0) → List Key → ℕ → ClientState → RunEnd → Type 0
+EndsFrom came keys limit client (Stopped stop exchanges) = IsStopped came keys limit client stop exchanges
+EndsFrom came keys limit client Unwritten = IsUnwritten came keys client

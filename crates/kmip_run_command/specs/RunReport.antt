@@ -20,11 +20,10 @@ use Rattle.kmip_report.specs.Pieces.{Piece, noted, number, report_in, said}
 use Rattle.kmip_choices.specs.declared.report.Report.{Report}
 use Rattle.kmip_choices.specs.declared.report.Report.TheVariants.{Plain, Identifiers}
 use Rattle.kmip_plan_report.specs.Listing.{key_line_with}
-use Rattle.kmip_plan_report.specs.Refusals.{progress_refusal}
 use Rattle.kmip_plan_report.specs.Standings.{Standing, standings}
 use Rattle.kmip_run_command.specs.Causes.{cause_of}
 use Rattle.kmip_run_command.specs.declared.run_end.RunEnd.{RunEnd}
-use Rattle.kmip_run_command.specs.declared.run_end.RunEnd.TheVariants.{Refused, Unwritten, Stopped}
+use Rattle.kmip_run_command.specs.declared.run_end.RunEnd.TheVariants.{Unwritten, Stopped}
 use Rattle.kmip_run_command.specs.declared.run_input.RunInput.{RunInput}
 use Rattle.kmip_tally.specs.declared.run_tally.RunTally.{RunTally}
 
@@ -95,27 +94,25 @@ abbrev pub stopped_report : Report → ClientState → Stop → ℕ → ℕ → 
 stopped_report report client stop exchanges limit tally =
     stopped_lines report (verdicts_of client.keys client.knowns) client.keys (progress client) stop exchanges limit tally
 
--- This holds of the report of a run that ended so, for some counts of its exchanges, and for some reason of the
--- system. Nothing is said of these.
-abbrev pub TellsEnd : RunInput → RunEnd → (List (List Piece) → Type 0) → Type 0
-TellsEnd input (Refused fault) Holds = Holds (progress_refusal fault (Some input.path.now) None ∷ [])
-TellsEnd input Unwritten Holds = (why : Option (List ℕ)) × Holds (unsaved_line input.path.now why ∷ [])
-TellsEnd input (Stopped client stop exchanges) Holds =
+-- This holds of the report of a run that ended so, where the client is this one, for some counts of its exchanges,
+-- and for some reason of the system. Nothing is said of these.
+abbrev pub TellsEnd : RunInput → ClientState → RunEnd → (List (List Piece) → Type 0) → Type 0
+TellsEnd input client Unwritten Holds = (why : Option (List ℕ)) × Holds (unsaved_line input.path.now why ∷ [])
+TellsEnd input client (Stopped stop exchanges) Holds =
     (tally : RunTally) × Holds (stopped_report input.report client stop exchanges input.limit tally)
 
--- Whether something was refused, unsaved or left unfinished.
+-- Whether something was unsaved or left unfinished.
 abbrev pub is_end_refused : RunEnd → Bool
-is_end_refused (Refused fault) = true
 is_end_refused Unwritten = true
-is_end_refused (Stopped client stop exchanges) = not (is_all_finished stop)
+is_end_refused (Stopped stop exchanges) = not (is_all_finished stop)
 
--- The report of an end of which this holds was written, and nothing else.
-pub record WritesEnd (input : RunInput) (refused : Bool) (ends : RunEnd → Type 0) (old new : Option (List ℕ)) : Type 0 where
+-- The report of an end of which this holds was written, where the client is this one, and nothing else.
+pub record WritesEnd (input : RunInput) (client : ClientState) (refused : Bool) (ends : RunEnd → Type 0) (old new : Option (List ℕ)) : Type 0 where
   -- The end of the run.
   pub end : RunEnd
   -- This holds of it.
   pub ended : ends end
-  -- It is told whether something was refused, unsaved or left unfinished.
+  -- It is told whether something was unsaved or left unfinished.
   pub refused_is : refused ≡ is_end_refused end
   -- Its report was written, and nothing else.
-  pub written : TellsEnd input end (λ lines. Appends old new (report_in input.form lines))
+  pub written : TellsEnd input client end (λ lines. Appends old new (report_in input.form lines))

@@ -10,17 +10,14 @@ ghost use Rattle.std.specs.Prelude.{
   IfOk,
   map,
   min,
-  None,
   OnOk,
   option_map,
   slice_index,
-  Some,
   string_bytes,
   sum,
 };
 ghost use Rattle.kmip_report.specs.PieceViews.{pieces_of};
 ghost use Rattle.kmip_report.specs.Pieces.{line_in, report_in};
-ghost use Rattle.kmip_plan_report.specs.Refusals.{progress_refusal};
 ghost use Rattle.kmip_plan_report.specs.Standings.{standing_of};
 ghost use Rattle.kmip_run_command.specs.RunReport.{
   all_steps,
@@ -46,8 +43,8 @@ use crate::unsaved::Unsaved;
 use kmip_choices::Report;
 use kmip_client::{Client, Verdict, finished_count};
 use kmip_plan::Key;
-use kmip_plan_report::{KeyStanding, pieces_of_key, push_progress_refusal, standings};
-use kmip_progress::{Known, ProgressFault};
+use kmip_plan_report::{KeyStanding, pieces_of_key, standings};
+use kmip_progress::Known;
 use kmip_report::{Cause, Fault, Form, Member, Piece, push_fault, push_line, word_of_cause};
 use kmip_runs::Stop;
 use kmip_tally::RunTally;
@@ -74,27 +71,28 @@ struct EndLine<'a> {
     cause: Option<Cause>,
 }
 
-/// Appends the report of the end of a run: how each key stands, why the run stopped and what was counted. If the
-/// progress is refused, or could not be saved, it is one line that says so. Returns true if something was refused,
-/// unsaved or left unfinished.
+/// Appends the report of the end of a run after which the client is this one: how each key stands, why the run
+/// stopped and what was counted. If the progress could not be saved, it is one line that says so. Returns true if
+/// something was unsaved or left unfinished.
 ///
 /// # Errors
 /// If memory runs out. A part may have been appended then.
 pub fn push_run_end<K: Unsaved, O: Counting>(
     alloc: Global,
     input: &RunInput<'_>,
-    end: &RunEnd<'_>,
+    client: &Client<'_>,
+    end: RunEnd,
     keeper: &K,
     observer: &mut O,
     text: &mut Vec<u8>,
 ) -> Result<bool, NoMemory>
     // What is appended is exactly the report of the end, for some counts and some reason of the system.
-    ensures text { OnOk result (TellsEnd input.now end.now (λ lines.
+    ensures text { OnOk result (TellsEnd input.now client.now end (λ lines.
         text.new.items ≡ text.old.items ++ report_in input.now.form lines)) }
-    // Something was refused, unsaved or left unfinished.
-    ensures refused { IfOk result (λ r. r ≡ is_end_refused end.now) }
+    // Something was unsaved or left unfinished.
+    ensures refused { IfOk result (λ r. r ≡ is_end_refused end) }
 {
-    push_end(alloc, input, end, keeper, observer, text)?;
+    push_end(alloc, input, client, end, keeper, observer, text)?;
     Ok(end.is_refused())
 }
 
@@ -105,49 +103,31 @@ pub fn push_run_end<K: Unsaved, O: Counting>(
 fn push_end<K: Unsaved, O: Counting>(
     alloc: Global,
     input: &RunInput<'_>,
-    end: &RunEnd<'_>,
+    client: &Client<'_>,
+    end: RunEnd,
     keeper: &K,
     observer: &mut O,
     text: &mut Vec<u8>,
 ) -> Result<(), NoMemory>
-    ensures { OnOk result (TellsEnd input.now end.now (λ lines.
+    ensures { OnOk result (TellsEnd input.now client.now end (λ lines.
         text.new.items ≡ text.old.items ++ report_in input.now.form lines)) }
 {
     match end {
-        RunEnd::Refused(fault) => push_refused(alloc, input.form, *fault, input.path, text),
         RunEnd::Unwritten => {
             let why = keeper.why(alloc)?;
             push_unsaved(alloc, input.form, input.path, words_of(&why), text)
         }
-        RunEnd::Stopped {
-            client,
-            stop,
-            exchanges,
-        } => {
+        RunEnd::Stopped { stop, exchanges } => {
             let tally = observer.tally(alloc, client)?;
             let stopping = Stopping {
-                stop: *stop,
-                exchanges: *exchanges,
+                stop,
+                exchanges,
                 limit: input.limit,
                 tally: &tally,
             };
             push_stopped(alloc, input, client, &stopping, text)
         }
     }
-}
-
-/// Appends the report of a progress that is refused.
-fn push_refused(
-    alloc: Global,
-    form: Form,
-    fault: ProgressFault,
-    path: &str,
-    text: &mut Vec<u8>,
-) -> Result<(), NoMemory>
-    ensures { OnOk result (text.new.items ≡ text.old.items
-        ++ report_in form (progress_refusal fault (Some path.now) None ∷ [])) }
-{
-    push_progress_refusal(alloc, form, fault, Some(path), None, text)
 }
 
 /// Appends the report of a progress that could not be saved, with the reason of the system.

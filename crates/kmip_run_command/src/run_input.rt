@@ -13,8 +13,4 @@ pub struct RunInput<'a> {
     pub path: &'a str,
     /// The most exchanges that may be made.
     pub limit: usize,
-    /// The most keys that a message asks about, 1 to 8.
-    pub batch: usize,
-    /// The text of the progress that the run begins with; none if it begins with nothing.
-    pub saved: Option<&'a str>,
 }

@@ -3,6 +3,7 @@
 use crate::kept::Kept;
 use crate::origin::server_of;
 use crate::plan_file::PlanFile;
+use crate::read_progress::ReadProgress;
 use crate::recalling::progress_file_at;
 use crate::start::Start;
 use kmip_choices::{RunOptions, Trust};
@@ -15,10 +16,13 @@ use kmip_run_command::begin;
 use kmip_trouble::{Obstacle, Trouble, plan_name};
 use kmip_ttlv::NoMemory;
 
-/// What a run begins with: the text of its progress, or nothing.
+/// What a run begins with: what its progress says, or nothing.
 ///
 /// If the run is to ask the server about the progress first, PATH.origin is written once the server agrees.
 /// Otherwise it is written here, unless the run sends nothing.
+///
+/// `checked` is what `check_progress` read. The file is read again, as it is locked now. If its text is still the same,
+/// it is not parsed again.
 ///
 /// # Errors
 /// Why it is not to begin.
@@ -27,6 +31,7 @@ pub fn progress_to_begin_with<'a>(
     options: &'a RunOptions,
     file: &'a PlanFile,
     progress: &'a ProgressFile<'a, HostRuntime>,
+    checked: Option<ReadProgress<'a>>,
 ) -> Result<Start<'a>, Trouble> {
     let kept = Kept {
         rt,
@@ -37,29 +42,32 @@ pub fn progress_to_begin_with<'a>(
     };
     match options.trust {
         Trust::Afresh => kept.afresh(),
-        Trust::Believe | Trust::Checked => kept.begun(),
+        Trust::Believe | Trust::Checked => kept.begun(checked),
     }
 }
 
 /// Checks that the progress file of a run can be read, and is one of the plan, before it is locked: no lock is left
 /// next to a file that is refused. A run with `--afresh` does not read it.
 ///
+/// Returns what it read, so that the progress is parsed once in a run, unless it changes while the run waits for the
+/// lock. Returns none if there is no file, or it is not read.
+///
 /// # Errors
 /// Why the file is refused, which is explained on standard error.
-pub fn check_progress(
+pub fn check_progress<'p>(
     rt: &HostRuntime,
     options: &RunOptions,
-    file: &PlanFile,
-) -> Result<(), Trouble> {
+    file: &'p PlanFile,
+) -> Result<Option<ReadProgress<'p>>, Trouble> {
     if options.trust == Trust::Afresh {
-        return Ok(());
+        return Ok(None);
     }
     let path = options.progress.as_str();
     let Some(text) = read_progress(rt, &progress_file_at(rt, path)?)? else {
-        return Ok(());
+        return Ok(None);
     };
-    client_of(rt, options, file, text.as_str())?;
-    Ok(())
+    let client = client_of(rt, options, file, text.as_str())?;
+    Ok(Some(ReadProgress { text, client }))
 }
 
 /// A client that knows what the text of the progress of a run says of the plan.

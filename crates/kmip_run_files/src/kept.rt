@@ -3,18 +3,20 @@
 use crate::believing::{client_of, destroyed_key, known_count, read_progress};
 use crate::origin::{Origin, server_text};
 use crate::plan_file::PlanFile;
+use crate::read_progress::ReadProgress;
 use crate::recalling::{judge_attributes, origin_of};
 use crate::start::Start;
 use kmip_choices::{Peer, RunOptions, Trust};
 use kmip_client::Client;
 use kmip_files::ProgressFile;
+use kmip_run_command::batch_of;
 use kmip_trouble::{AnotherServer, Cannot, Obstacle, Trouble};
 use std::alloc::AllocError;
 use std::io::{self, Error};
 
 /// What a run has of its progress.
 #[derive(Drop)]
-pub(crate) struct Kept<'a> {
+pub struct Kept<'a> {
     pub(crate) rt: &'a HostRuntime,
     pub(crate) options: &'a RunOptions,
     pub(crate) plan: &'a PlanFile,
@@ -33,29 +35,42 @@ impl<'a> Kept<'a> {
         self.fresh()
     }
 
-    /// From what the file says, unless it was saved elsewhere or for other keys.
-    pub(crate) fn begun(self) -> Result<Start<'a>, Trouble> {
+    /// From what the file says, unless it was saved elsewhere or for other keys. `checked` is what it said before it
+    /// was locked.
+    pub(crate) fn begun(self, checked: Option<ReadProgress<'a>>) -> Result<Start<'a>, Trouble> {
         let Some(text) = read_progress(self.rt, self.file)? else {
             return self.fresh();
         };
-        let client = client_of(self.rt, self.options, self.plan, text.as_str())?;
+        let client = self.client_knowing(text.as_str(), checked)?;
         let origin = origin_of(self.file, self.options.trust == Trust::Believe)?;
         self.judge(origin.as_ref(), &client)?;
         let known = known_count(&client);
         if known > 0 && self.is_to_refresh(origin.is_some()) {
-            return Ok(self.start(client, Some(text), Some(known)));
+            return Ok(self.start(client, false, Some(known)));
         }
         if client.working() > 0 {
-            return self.begins(client, Some(text));
+            return self.begins(client, false);
         }
         self.tell_not_asked(origin.as_ref())?;
-        Ok(self.start(client, Some(text), None))
+        Ok(self.start(client, false, None))
+    }
+
+    /// A client that knows what the text says: the one that was made of the same text before, or a new one.
+    fn client_knowing(
+        &self,
+        text: &str,
+        checked: Option<ReadProgress<'a>>,
+    ) -> Result<Client<'a>, Trouble> {
+        match checked {
+            Some(checked) if checked.text.as_str() == text => Ok(checked.client),
+            Some(_) | None => client_of(self.rt, self.options, self.plan, text),
+        }
     }
 
     /// With nothing known.
     fn fresh(self) -> Result<Start<'a>, Trouble> {
         let client = Client::fresh(self.rt.alloc(), &self.plan.plan)?;
-        self.begins(client, None)
+        self.begins(client, true)
     }
 
     /// Whether the server is asked about what the file knows, before the run. It is if that was asked for, or if
@@ -66,17 +81,15 @@ impl<'a> Kept<'a> {
         self.options.limit > 0 && (self.options.is_refreshed || is_unknown)
     }
 
-    /// The start of a run with this text, which first looks at this number of keys, if it looks.
-    fn start(
-        self,
-        client: Client<'a>,
-        saved: Option<String>,
-        looked_at: Option<usize>,
-    ) -> Start<'a> {
+    /// The start of a run with this client, which first looks at this number of keys, if it looks. `is_new` says that
+    /// it begins without a file.
+    fn start(self, client: Client<'a>, is_new: bool, looked_at: Option<usize>) -> Start<'a> {
+        let mut client = client;
+        client.set_batch(batch_of(self.options.batch));
         Start {
             kept: self,
             client,
-            saved,
+            is_new,
             looked_at,
         }
     }
@@ -146,17 +159,20 @@ impl<'a> Kept<'a> {
         Ok(text)
     }
 
-    /// Begins with this text, once PATH.origin says that the file is of this server. A run that may make no
+    /// Begins with this client, once PATH.origin says that the file is of this server. A run that may make no
     /// exchange writes nothing.
-    fn begins(self, client: Client<'a>, saved: Option<String>) -> Result<Start<'a>, Trouble> {
+    fn begins(self, client: Client<'a>, is_new: bool) -> Result<Start<'a>, Trouble> {
         if self.options.limit > 0 {
             self.note_origin()?;
         }
-        Ok(self.start(client, saved, None))
+        Ok(self.start(client, is_new, None))
     }
 
     /// Writes PATH.origin: the file is of this server since now, and of these keys.
-    pub(crate) fn note_origin(&self) -> Result<(), Trouble> {
+    ///
+    /// # Errors
+    /// If it cannot be written.
+    pub fn note_origin(&self) -> Result<(), Trouble> {
         let text = Origin::text(self.rt, self.server.as_str(), self.plan.plan.keys())?;
         if let Err(error) = self.file.write_origin(text.as_bytes()) {
             let origin = self.file.origin_path()?;
@@ -166,7 +182,10 @@ impl<'a> Kept<'a> {
     }
 
     /// The server of this run, as messages name it.
-    pub(crate) fn server_text(&self) -> Result<String, Trouble> {
+    ///
+    /// # Errors
+    /// If memory runs out.
+    pub fn server_text(&self) -> Result<String, Trouble> {
         let text = server_text(self.rt.alloc(), self.server.as_str())?;
         Ok(text)
     }

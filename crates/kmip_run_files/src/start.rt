@@ -2,29 +2,26 @@
 
 use crate::kept::Kept;
 use kmip_client::Client;
-use kmip_trouble::Trouble;
 
-/// What a run begins with: its progress, and whether the server is asked about it first.
+/// What a run begins with: a client, what the run has of its progress, and whether the server is asked about that
+/// first.
 #[derive(Drop)]
 pub struct Start<'a> {
     pub(crate) kept: Kept<'a>,
     pub(crate) client: Client<'a>,
-    pub(crate) saved: Option<String>,
+    pub(crate) is_new: bool,
     pub(crate) looked_at: Option<usize>,
 }
 
 impl<'a> Start<'a> {
-    /// A client that knows what the progress says.
+    /// A client that knows what the progress says, and asks about as many keys in a message as the options say.
     pub fn client(&self) -> &Client<'a> {
         &self.client
     }
 
-    /// The text of the progress; none if the run begins with nothing.
-    pub fn saved(&self) -> Option<&str> {
-        match &self.saved {
-            Some(text) => Some(text.as_str()),
-            None => None,
-        }
+    /// Whether the run begins without a progress file.
+    pub fn is_new(&self) -> bool {
+        self.is_new
     }
 
     /// About how many keys the server is asked before the run; none if it is not asked.
@@ -32,19 +29,8 @@ impl<'a> Start<'a> {
         self.looked_at
     }
 
-    /// The server of the run, as messages name it.
-    ///
-    /// # Errors
-    /// If memory runs out.
-    pub fn server(&self) -> Result<String, Trouble> {
-        self.kept.server_text()
-    }
-
-    /// The server agrees with the progress: writes PATH.origin, which says that the progress is of this server.
-    ///
-    /// # Errors
-    /// If the file cannot be written.
-    pub fn agree(&self) -> Result<(), Trouble> {
-        self.kept.note_origin()
+    /// The client, and what the run has of its progress.
+    pub fn into_parts(self) -> (Client<'a>, Kept<'a>) {
+        (self.client, self.kept)
     }
 }

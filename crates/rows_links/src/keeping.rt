@@ -1,6 +1,4 @@
 //! Runs of a plan over a link in memory, line by line, and the texts that they keep.
-ghost use Rattle.std.specs.Prelude.{IsTrue};
-ghost use Rattle.kmip_messages.specs.Members.{may_have};
 
 use crate::probing::script_link;
 use crate::settings::{Settings, batch_of};
@@ -9,6 +7,8 @@ use crate::short::{Tally, push_short};
 use crate::watching::{Count, Patient, Stopped};
 use kmip_client::Client;
 use kmip_plan::{Plan, read_plan};
+use kmip_plan_report::push_progress_refusal;
+use kmip_progress::ProgressFault;
 use kmip_report::{ExitStatus, Form};
 use kmip_run_command::{Report, RunInput, Unsaved, begin, progress_line};
 use kmip_runs::{Keeper, Pace, SaveFault, Stop, carry_out, next_wait};
@@ -48,18 +48,13 @@ struct Case<'c> {
     count: Count,
 }
 
-/// What `run` is told beside its link.
+/// What `run` is told beside its client and its link.
 #[derive(Clone, Copy)]
-struct Order<'o> {
-    plan: &'o Plan,
+struct Order {
     /// In which form its end is printed.
     report: Report,
     /// How many exchanges it may make.
     limit: usize,
-    /// How many keys a message asks about at most.
-    batch: usize,
-    /// The text of a saved progress, where there is one.
-    saved: Option<&'o str>,
 }
 
 /// Does what calls behind a line `runs of` say, which names a plan and what its link does. What each tells is
@@ -172,19 +167,21 @@ fn run(
     let settings = Settings::of(words)?;
     let plan = plan_in(rt, settings.plan.unwrap_or(case.file))?;
     let order = Order {
-        plan: &plan,
         report: settings.report,
         limit: settings.limit,
-        batch: batch_of(settings.batch)?,
-        saved,
     };
+    let mut client = match begin(rt.alloc(), &plan, saved) {
+        Ok(client) => client,
+        Err(fault) => return push_refused(rt.alloc(), text, fault),
+    };
+    client.set_batch(batch_of(settings.batch)?);
     if settings.is_short {
-        return run_in_short(rt.alloc(), text, &order, case);
+        return run_in_short(rt.alloc(), text, &mut client, order, case);
     }
     let mut shelf = Shelf::new(rt.alloc(), settings.room);
     let status = match settings.writer {
-        Some(size) => run_with_room(rt.alloc(), &order, case, &mut shelf, size)?,
-        None => run_told(rt.alloc(), text, &order, case, &mut shelf)?,
+        Some(size) => run_with_room(rt.alloc(), &mut client, order, case, &mut shelf, size)?,
+        None => run_told(rt.alloc(), text, &mut client, order, case, &mut shelf)?,
     };
     push_status(text, status)?;
     shelf.push(rt.alloc(), text)
@@ -193,30 +190,28 @@ fn run(
 /// Runs `run` with a writer that has room for so many bytes, of which nothing is told.
 fn run_with_room(
     alloc: Global,
-    order: &Order<'_>,
+    client: &mut Client<'_>,
+    order: Order,
     case: &mut Case<'_>,
     shelf: &mut Shelf,
     size: usize,
-) -> Result<ExitStatus, Fail>
-    requires { IsTrue (may_have order.now.batch) }
-{
+) -> Result<ExitStatus, Fail> {
     let mut room = vec![in alloc; 0u8; size]?;
     let mut writer = room.as_mut_slice();
-    Ok(run_with(alloc, order, case, shelf, &mut writer))
+    Ok(run_with(alloc, client, order, case, shelf, &mut writer))
 }
 
 /// Runs `run`, and writes what it writes.
 fn run_told(
     alloc: Global,
     text: &mut String,
-    order: &Order<'_>,
+    client: &mut Client<'_>,
+    order: Order,
     case: &mut Case<'_>,
     shelf: &mut Shelf,
-) -> Result<ExitStatus, Fail>
-    requires { IsTrue (may_have order.now.batch) }
-{
+) -> Result<ExitStatus, Fail> {
     let mut written = Vec::new(alloc);
-    let status = run_with(alloc, order, case, shelf, &mut written);
+    let status = run_with(alloc, client, order, case, shelf, &mut written);
     text.push_str(from_utf8(written.as_slice())?)?;
     Ok(status)
 }
@@ -225,14 +220,13 @@ fn run_told(
 fn run_in_short(
     alloc: Global,
     text: &mut String,
-    order: &Order<'_>,
+    client: &mut Client<'_>,
+    order: Order,
     case: &mut Case<'_>,
-) -> Result<(), Fail>
-    requires { IsTrue (may_have order.now.batch) }
-{
+) -> Result<(), Fail> {
     let mut tally = Tally::new(alloc);
     let mut written = Vec::new(alloc);
-    let status = run_with(alloc, order, case, &mut tally, &mut written);
+    let status = run_with(alloc, client, order, case, &mut tally, &mut written);
     push_short(text, "written", written.as_slice())?;
     push_status(text, status)?;
     tally.push(text)
@@ -241,25 +235,30 @@ fn run_in_short(
 /// Runs `run` over the link of the case, with this keeper and this writer.
 fn run_with<K: Keeper + Unsaved, W: Write>(
     alloc: Global,
-    order: &Order<'_>,
+    client: &mut Client<'_>,
+    order: Order,
     case: &mut Case<'_>,
     keeper: &mut K,
     writer: &mut W,
-) -> ExitStatus
-    requires { IsTrue (may_have order.now.batch) }
-{
+) -> ExitStatus {
     let input = RunInput {
         form: Form::Text,
         report: order.report,
         path: "over there",
         limit: order.limit,
-        batch: order.batch,
-        saved: order.saved,
     };
     let (link, patience, count) = (&mut case.link, &mut case.patience, &mut case.count);
     kmip_run_command::run(
-        alloc, order.plan, &input, link, keeper, patience, count, writer,
+        alloc, client, &input, link, keeper, patience, count, writer,
     )
+}
+
+/// Writes that the text of a progress is refused, as the program prints it.
+fn push_refused(alloc: Global, text: &mut String, fault: ProgressFault) -> Result<(), Fail> {
+    let mut line = Vec::new(alloc);
+    push_progress_refusal(alloc, Form::Text, fault, None, None, &mut line)?;
+    text.push_str(from_utf8(line.as_slice())?)?;
+    Ok(push_status(text, ExitStatus::Refused)?)
 }
 
 /// Writes how a command ended.

@@ -5,8 +5,7 @@ use kmip_client::NoListener;
 use kmip_disk::{Disk, MemoryDisk};
 use kmip_objects::KeyState;
 use kmip_plan::read_plan;
-use kmip_report::Form;
-use kmip_run_command::{Report, RunInput, run_to_end};
+use kmip_run_command::{begin, run_to_end};
 use kmip_runs::{FileKeeper, Tireless};
 use kmip_scripted::{Scripted, read_script};
 use kmip_server::Server;
@@ -59,19 +58,12 @@ fn run(
     };
     disk.restart(calls);
     let mut keeper = FileKeeper::new(disk, saved.is_none());
-    let input = RunInput {
-        form: Form::Text,
-        report: Report::Plain,
-        path: "progress",
-        limit: 100,
-        batch: 1,
-        saved,
-    };
     let plan = read_plan(alloc, PLAN)?;
+    let mut client = begin(alloc, &plan, saved)?;
     let end = run_to_end(
         alloc,
-        &plan,
-        &input,
+        &mut client,
+        100,
         link,
         &mut keeper,
         &mut Tireless,

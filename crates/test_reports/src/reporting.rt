@@ -186,8 +186,6 @@ fn input(form: Form, report: Report, limit: usize) -> RunInput<'static> {
         report,
         path: "over there",
         limit,
-        batch: 1,
-        saved: None,
     }
 }
 
@@ -204,11 +202,19 @@ fn push_stopped(
 {
     let client = Client::resume(alloc, plan, saved)?;
     let end = RunEnd::Stopped {
-        client,
         stop: Stop::Limit,
         exchanges: 20,
     };
-    push_run_end(alloc, input, &end, &FullDisk, &mut Counted { lost }, text)
+    let mut counted = Counted { lost };
+    push_run_end(
+        alloc,
+        input,
+        &client,
+        end,
+        &FullDisk,
+        &mut counted,
+        text,
+    )
 }
 
 #[test]
@@ -250,6 +256,8 @@ fn writes_what_came_of_a_run_in_text(rt: HostRuntime) -> Result<(), Fail> {
 #[test]
 fn writes_that_a_run_could_not_save(rt: HostRuntime) -> Result<(), Fail> {
     let alloc = rt.alloc();
+    let plan: Plan = read_plan(alloc, PLAN)?;
+    let client = Client::fresh(alloc, &plan)?;
     for (form, line) in [
         (Form::Json, UNSAVED_LINE),
         (Form::Text, "cannot write over there"),
@@ -258,7 +266,9 @@ fn writes_that_a_run_could_not_save(rt: HostRuntime) -> Result<(), Fail> {
         let mut text = Vec::new(alloc);
         let mut counted = Counted { lost: 0 };
         let end = RunEnd::Unwritten;
-        assert!(rt; push_run_end(alloc, &unsaved, &end, &FullDisk, &mut counted, &mut text)?);
+        assert!(rt; push_run_end(
+            alloc, &unsaved, &client, end, &FullDisk, &mut counted, &mut text,
+        )?);
         assert_lines(&rt, alloc, text.as_slice(), &[line])?;
     }
     Ok(())
