@@ -1,5 +1,6 @@
 -- What a look and what followed it come to.
-use Rattle.std.proofs.Common.{◌≡◌, ◌≢◌, ◌⊎◌, ◌+◌, ◌*◌, ℕ, true, List, [], ◌∷◌, length, Option, Result, Ok, Err, IfOk, if◌then◌else◌, refl, sym, ap, subst, ◌∙◌, inl, inr, append-nil, arith}
+use Rattle.std.proofs.Common.{◌≡◌, ◌⊎◌, ◌+◌, ◌*◌, ℕ, true, List, [], ◌∷◌, length, Result, Ok, Err, IfOk, if◌then◌else◌}
+use Rattle.std.proofs.Common.{refl, sym, ap, subst, ◌∙◌, inl, inr, append-nil, arith}
 use Rattle.std.specs.List.{All, AllZip, list_all}
 use Rattle.std.proofs.lemmas.List.Elements.{All-cons, All-nil}
 use Rattle.std.proofs.lemmas.Bool.{and_parts, cases_Bool}
@@ -13,7 +14,7 @@ use Rattle.kmip_client.specs.Saving.{progress}
 use Rattle.kmip_protocol.specs.Past.{Names, Past, is_planned}
 use Rattle.kmip_protocol.specs.Seen.{Seen}
 use Rattle.kmip_look.specs.Moments.{IsLater}
-use Rattle.kmip_look.specs.Looks.{AsksLooks, IsFresh, IsSaid, IsToldOf, Looks, Sends}
+use Rattle.kmip_look.specs.Looks.{AsksLooks, IsFresh, Looks, Sends}
 use Rattle.kmip_look.specs.declared.looked.Looked.{Looked}
 use Rattle.kmip_run_command.specs.Course.{Came}
 use Rattle.kmip_run_command.specs.Runs.{RunsPlan}
@@ -21,12 +22,14 @@ use Rattle.kmip_run_command.specs.declared.run_end.RunEnd.{RunEnd}
 use Rattle.kmip_refresh.specs.Agreements.{judgement_of}
 use Rattle.kmip_refresh.specs.KnownKeys.{KnownKey, keys_of, known_from, known_keys, looks_judged}
 use Rattle.kmip_refresh.specs.Moments.{FinishedSince, StoodSince}
-use Rattle.kmip_refresh.specs.Refreshing.{ComesOf, FollowsLook, IfRan, IsOutcomeOf, IsStill, LooksAlone, LooksFirst, Refreshes, RestOfCall, UnlessRan, lookeds_of, looks_of}
+use Rattle.kmip_refresh.specs.Refreshing.{ComesOf, FollowsLook, IfRan, IsOutcomeOf, IsStill, LooksAlone, LooksFirst}
+use Rattle.kmip_refresh.specs.Refreshing.{Refreshes, RestOfCall, UnlessRan, lookeds_of, looks_of}
 use Rattle.kmip_refresh.specs.declared.judgement.Judgement.{Judgement}
 use Rattle.kmip_refresh.specs.declared.judgement.Judgement.TheVariants as judgements
 use Rattle.kmip_refresh.specs.declared.key_look.KeyLook.{KeyLook}
 use Rattle.kmip_refresh.specs.declared.refresh_outcome.RefreshOutcome.{RefreshOutcome}
-use Rattle.kmip_refresh.specs.declared.refresh_outcome.RefreshOutcome.TheVariants.{Contradicted, NotBegun, Ran, Unanswered}
+use Rattle.kmip_refresh.specs.declared.refresh_outcome.RefreshOutcome.TheVariants.{Contradicted, Unanswered}
+use Rattle.kmip_refresh.specs.declared.refresh_outcome.RefreshOutcome.TheVariants.{NotBegun, Ran}
 use Rattle.kmip_refresh.specs.declared.refreshed.Refreshed.{Refreshed}
 use Rattle.kmip_refresh.proofs.AgreementLemmas.{agreed_settled}
 use Rattle.kmip_refresh.proofs.MomentLemmas.{all_finished, all_later, all_stood, come_later, ends_come}
@@ -35,10 +38,16 @@ use Rattle.kmip_refresh.proofs.MomentLemmas.{all_finished, all_later, all_stood,
 
 -- nothing was sent
 sends_none : (keys : List Key) (mark : List ℕ) (most : ℕ) (p : Past) → Sends keys mark most p p
-sends_none keys mark most p = record { messages = []; sent = sym (append-nil p.sent); look = All-nil (AsksLooks keys mark); few = omega arith }
+sends_none keys mark most p = record {
+  messages = [];
+  sent = sym (append-nil p.sent);
+  look = All-nil (AsksLooks keys mark);
+  few = omega arith;
+}
 
 -- memory ran out before the look
-pub unlooked : {A : Type 0} (items : A → List KeyLook) (known : List KnownKey) (mark : List ℕ) (old : Seen) (fault : NoMemory)
+pub unlooked : {A : Type 0} (items : A → List KeyLook) (known : List KnownKey) (mark : List ℕ) (old : Seen)
+    (fault : NoMemory)
     → LooksFirst items known mark old (Err fault) old
 unlooked items known mark old fault = record {
   looks = record {
@@ -54,21 +63,26 @@ unlooked items known mark old fault = record {
 }
 
 -- memory ran out after a look, or in it
-pub broken : {A B : Type 0} (items : A → List KeyLook) (others : B → List Looked) (known : List KnownKey) (mark : List ℕ) (old new : Seen)
-    (result : Result B NoMemory) (fault : NoMemory) → Looks others (keys_of known) mark old result new → LooksFirst items known mark old (Err fault) new
+pub broken : {A B : Type 0} (items : A → List KeyLook) (others : B → List Looked) (known : List KnownKey)
+    (mark : List ℕ) (old new : Seen) (result : Result B NoMemory) (fault : NoMemory)
+    → Looks others (keys_of known) mark old result new
+    → LooksFirst items known mark old (Err fault) new
 broken items others known mark old new result fault looks = record {
   looks = record {
     as_many = tt;
     honestly = λ names honest.
         let all = looks.honestly names honest in
         record { still = all.still; asks_looks = all.asks_looks; since = λ fresh. tt };
-    calmly = λ names calm. record { still = (looks.calmly names calm).still; objects = tt; effects = tt; stand = λ distinct. tt };
+    calmly = λ names calm.
+        let still = (looks.calmly names calm).still in
+        record { still = still; objects = tt; effects = tt; stand = λ distinct. tt };
   };
   judged = tt;
 }
 
 -- what a look said is judged
-pub judged : {A B : Type 0} (items : A → List KeyLook) (others : B → List Looked) (known : List KnownKey) (mark : List ℕ) (old new : Seen)
+pub judged : {A B : Type 0} (items : A → List KeyLook) (others : B → List Looked) (known : List KnownKey)
+    (mark : List ℕ) (old new : Seen)
     (value : A) (other : B) → lookeds_of (items value) ≡ others other → items value ≡ looks_judged known (others other)
     → Looks others (keys_of known) mark old (Ok other) new → LooksFirst items known mark old (Ok value) new
 judged items others known mark old new value other same are looks = record {
@@ -96,10 +110,13 @@ judged items others known mark old new value other same are looks = record {
 }
 
 -- the same looks, in another value
-pub moved : {A B : Type 0} (items : A → List KeyLook) (others : B → List KeyLook) (known : List KnownKey) (mark : List ℕ) (old new : Seen)
-    (value : A) (other : B) → items value ≡ others other → LooksFirst others known mark old (Ok other) new → LooksFirst items known mark old (Ok value) new
+pub moved : {A B : Type 0} (items : A → List KeyLook) (others : B → List KeyLook) (known : List KnownKey)
+    (mark : List ℕ) (old new : Seen) (value : A) (other : B) → items value ≡ others other
+    → LooksFirst others known mark old (Ok other) new
+    → LooksFirst items known mark old (Ok value) new
 moved items others known mark old new value other same first =
-    judged items (λ v. lookeds_of (others v)) known mark old new value other (ap lookeds_of same) (same ∙ first.judged) first.looks
+    judged items (λ v. lookeds_of (others v)) known mark old new value other (ap lookeds_of same)
+    (same ∙ first.judged) first.looks
 
 -- ---- what came of it
 
@@ -119,7 +136,8 @@ outcome_of S U M judgements.Agreed NotBegun comes = inl refl
 outcome_of S U M judgements.Agreed (Ran end) comes = inr (end, refl)
 
 -- unless the run was made, nothing more was done
-pub still_unless : (Still : Type 0) (Unmade Made : RunEnd → Type 0) (judgement : Judgement) (outcome : RefreshOutcome) (P : Type 0)
+pub still_unless : (Still : Type 0) (Unmade Made : RunEnd → Type 0) (judgement : Judgement) (outcome : RefreshOutcome)
+    (P : Type 0)
     → ComesOf Still Unmade Made judgement outcome → (Still → P) → UnlessRan outcome P
 still_unless S U M judgements.Contradicted Contradicted P comes next = next comes
 still_unless S U M judgements.Contradicted (Unanswered end) P comes next = absurd comes
@@ -151,7 +169,8 @@ still_or_made S U M judgements.Agreed NotBegun comes = inl comes
 still_or_made S U M judgements.Agreed (Ran end) comes = inr (end, comes)
 
 -- if the run was made, the server agreed
-pub agreed_if : (Still : Type 0) (Unmade Made : RunEnd → Type 0) (judgement : Judgement) (outcome : RefreshOutcome) (P : Type 0)
+pub agreed_if : (Still : Type 0) (Unmade Made : RunEnd → Type 0) (judgement : Judgement) (outcome : RefreshOutcome)
+    (P : Type 0)
     → ComesOf Still Unmade Made judgement outcome → (judgement ≡ judgements.Agreed → P) → IfRan outcome P
 agreed_if S U M judgement Contradicted P comes next = tt
 agreed_if S U M judgement (Unanswered end) P comes next = tt
@@ -170,13 +189,15 @@ made_later : (rest : RestOfCall) (end : RunEnd) → RunsPlan rest.first rest.lim
     → rest.change.before.link.honest (is_planned rest.first.keys)
     → IsLater (is_planned rest.first.keys) rest.change.before.link.past rest.change.after.link.past
 made_later rest end runs honest =
-    let come = ends_come (Came rest.limit rest.change.before rest.change.after rest.first) rest.first.keys rest.limit rest.last
-    end runs.text in
-    come_later rest.limit rest.change.before rest.change.after rest.first come.outcome come.has_come come.in_memory honest
+    let old = rest.change.before in
+    let new = rest.change.after in
+    let come = ends_come (Came rest.limit old new rest.first) rest.first.keys rest.limit rest.last end runs.text in
+    come_later rest.limit old new rest.first come.outcome come.has_come come.in_memory honest
 
 pub all_since : (rest : RestOfCall) (mark : List ℕ) (old : Seen) (refreshed : Refreshed)
     → (rest.untouched → rest.change.after.link ≡ rest.change.before.link)
-    → LooksFirst looks_of (known_first rest) mark old (Ok refreshed) rest.change.before.link → FollowsLook rest (Ok refreshed)
+    → LooksFirst looks_of (known_first rest) mark old (Ok refreshed) rest.change.before.link
+    → FollowsLook rest (Ok refreshed)
     → old.honest (is_planned rest.first.keys) → IsFresh mark old.past
     → AllZip (StoodSince (is_planned rest.first.keys) old.past rest.change.after.link.past) (known_first rest)
     refreshed.looks.items
@@ -191,12 +212,14 @@ all_since rest mark old refreshed same first follows honest fresh =
       | inl still ↦
           subst (λ (s : Seen). AllZip (StoodSince names old.past s.past) known looks) (sym (same still.0)) so
       | inr (end, runs) ↦
-          all_later names old.past between rest.change.after.link.past known looks (made_later rest end runs all.still) so
+          all_later names old.past between rest.change.after.link.past known looks
+          (made_later rest end runs all.still) so
     ]
 
 pub finished_since : PlacesAreWithin → (rest : RestOfCall) (mark : List ℕ) (old : Seen) (refreshed : Refreshed)
     → (rest.untouched → rest.change.after.link ≡ rest.change.before.link)
-    → LooksFirst looks_of (known_first rest) mark old (Ok refreshed) rest.change.before.link → FollowsLook rest (Ok refreshed)
+    → LooksFirst looks_of (known_first rest) mark old (Ok refreshed) rest.change.before.link
+    → FollowsLook rest (Ok refreshed)
     → old.honest (is_planned rest.first.keys) → IsFresh mark old.past
     → IfRan refreshed.outcome (AllZip (FinishedSince (is_planned rest.first.keys) old.past rest.change.after.link.past)
     (known_first rest) refreshed.looks.items)
@@ -206,9 +229,11 @@ finished_since within rest mark old refreshed same first follows honest fresh =
     all_finished within (is_planned rest.first.keys) old.past rest.change.after.link.past (known_first rest) looks
     (agreed_settled looks agreed) (all_since rest mark old refreshed same first follows honest fresh))
 
-pub looks_alone : (names : Names) (rest : RestOfCall) (mark : List ℕ) (old : Seen) (refreshed : Refreshed) (Same : Type 0)
+pub looks_alone : (names : Names) (rest : RestOfCall) (mark : List ℕ) (old : Seen) (refreshed : Refreshed)
+    (Same : Type 0)
     → (rest.untouched → (rest.change.after.link ≡ rest.change.before.link) × Same)
-    → LooksFirst looks_of (known_first rest) mark old (Ok refreshed) rest.change.before.link → FollowsLook rest (Ok refreshed)
+    → LooksFirst looks_of (known_first rest) mark old (Ok refreshed) rest.change.before.link
+    → FollowsLook rest (Ok refreshed)
     → old.honest names
     → UnlessRan refreshed.outcome (Same × LooksAlone names (keys_of (known_first rest)) mark old rest.change.after.link)
 looks_alone names rest mark old refreshed Same same first follows honest =
@@ -252,7 +277,8 @@ broken_look seen items known mark old between result fault Follows first follows
 }
 
 -- what comes of a judgement comes of one that is the same
-pub comes_as : (Still : Type 0) (Unmade Made : RunEnd → Type 0) (judgement other : Judgement) (outcome : RefreshOutcome) → judgement ≡ other
+pub comes_as : (Still : Type 0) (Unmade Made : RunEnd → Type 0) (judgement other : Judgement)
+    (outcome : RefreshOutcome) → judgement ≡ other
     → ComesOf Still Unmade Made other outcome → ComesOf Still Unmade Made judgement outcome
 comes_as S U M judgement other outcome is comes = subst (λ j. ComesOf S U M j outcome) (sym is) comes
 
@@ -264,14 +290,14 @@ known_fit place (key ∷ keys) [] fits = All-nil _
 known_fit place (key ∷ keys) (first ∷ known) fits =
     let (here, left) = and_parts (key_fits key) (list_all key_fits keys) fits in
     let more = known_from (place + 1) keys known in
-    let rest : All (λ (key : Key). key_fits key ≡ true) (keys_of more) = known_fit (place + 1) keys known left in
+    let Fits : Key → Type 0 = λ key. key_fits key ≡ true in
+    let one : KnownKey = record { place = place; key = key; known = first } in
+    let rest : All Fits (keys_of more) = known_fit (place + 1) keys known left in
     elim (cases_Bool (is_some first.identifier)) [
       | inl some ↦
-          subst (λ b. All (λ (key : Key). key_fits key ≡ true) (keys_of (if b then record { place = place; key = key; known = first } ∷ more else more)))
-          (sym some) (All-cons (λ (key : Key). key_fits key ≡ true) key (keys_of more) here rest)
-      | inr none ↦
-          subst (λ b. All (λ (key : Key). key_fits key ≡ true) (keys_of (if b then record { place = place; key = key; known = first } ∷ more else more)))
-          (sym none) rest
+          subst (λ b. All Fits (keys_of (if b then one ∷ more else more))) (sym some)
+          (All-cons Fits key (keys_of more) here rest)
+      | inr none ↦ subst (λ b. All Fits (keys_of (if b then one ∷ more else more))) (sym none) rest
     ]
 
 pub since_any : (rest : RestOfCall) (mark : List ℕ) (old : Seen) (result : Result Refreshed NoMemory)
@@ -284,10 +310,12 @@ since_any rest mark old (Ok refreshed) same first follows honest fresh =
     all_since rest mark old refreshed same first follows honest fresh
 since_any rest mark old (Err fault) same first follows honest fresh = tt
 
-pub finished_any : PlacesAreWithin → (rest : RestOfCall) (mark : List ℕ) (old : Seen) (result : Result Refreshed NoMemory)
+pub finished_any : PlacesAreWithin → (rest : RestOfCall) (mark : List ℕ) (old : Seen)
+    (result : Result Refreshed NoMemory)
     → (rest.untouched → rest.change.after.link ≡ rest.change.before.link)
     → LooksFirst looks_of (known_first rest) mark old result rest.change.before.link → FollowsLook rest result
-    → old.honest (is_planned rest.first.keys) → IsFresh mark old.past → IfOk result (λ refreshed. IfRan refreshed.outcome
+    → old.honest (is_planned rest.first.keys) → IsFresh mark old.past
+    → IfOk result (λ refreshed. IfRan refreshed.outcome
     (AllZip (FinishedSince (is_planned rest.first.keys) old.past rest.change.after.link.past) (known_first rest)
     refreshed.looks.items))
 finished_any within rest mark old (Ok refreshed) same first follows honest fresh =

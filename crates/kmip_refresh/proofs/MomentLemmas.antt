@@ -1,5 +1,6 @@
 -- What was so of the known keys since the call began, and what a run leaves of it.
-use Rattle.std.proofs.Common.{◌≡◌, ◌≢◌, ℕ, true, false, List, [], ◌∷◌, Option, Result, Ok, Err, sym, ap, subst, ◌∙◌, inl, inr}
+use Rattle.std.proofs.Common.{◌≡◌, ◌≢◌, ℕ, true, false, List, [], ◌∷◌, Option, Ok, Err, sym, ap, subst, ◌∙◌}
+use Rattle.std.proofs.Common.{inl, inr}
 use Rattle.std.specs.List.{AllZip}
 use Rattle.kmip_plan.specs.ChainLaws.{PlacesAreWithin}
 use Rattle.kmip_plan.specs.declared.key.Key.{Key}
@@ -34,7 +35,8 @@ abbrev left_of : {A : Type 0} → List A → List A
 left_of [] = []
 left_of (x ∷ xs) = xs
 
-stood_one : (names : Names) (old new : Past) (k : KnownKey) (look : KeyLook) → look ≡ judged_look k look.looked → IsSaid names old new k.key look.looked
+stood_one : (names : Names) (old new : Past) (k : KnownKey) (look : KeyLook) → look ≡ judged_look k look.looked
+    → IsSaid names old new k.key look.looked
     → StoodSince names old new k look
 stood_one names old new k look is (inl (told, so)) = λ agrees.
     let own : agreement k.key k.known look.looked ≡ Agrees = sym (ap (λ l. l.agreement) is) ∙ agrees in
@@ -44,7 +46,8 @@ stood_one names old new k look is (inr (untold, shown)) = λ agrees.
     let all = agreed k.key k.known look.looked own in
     let both : true ≡ false = sym all.told ∙ untold in absurd cc
 
-pub all_stood : (names : Names) (old new : Past) (known : List KnownKey) (looks : List KeyLook) → looks ≡ looks_judged known (lookeds_of looks)
+pub all_stood : (names : Names) (old new : Past) (known : List KnownKey) (looks : List KeyLook)
+    → looks ≡ looks_judged known (lookeds_of looks)
     → AllZip (IsSaid names old new) (keys_of known) (lookeds_of looks) → AllZip (StoodSince names old new) known looks
 all_stood names old new [] [] is said = tt
 all_stood names old new [] (look ∷ looks) is said = absurd said
@@ -54,7 +57,8 @@ all_stood names old new (k ∷ known) (look ∷ looks) is said = (
   all_stood names old new known looks (ap left_of is) said.1,
 )
 
-pub all_later : (names : Names) (old between new : Past) (known : List KnownKey) (looks : List KeyLook) → IsLater names between new
+pub all_later : (names : Names) (old between new : Past) (known : List KnownKey) (looks : List KeyLook)
+    → IsLater names between new
     → AllZip (StoodSince names old between) known looks → AllZip (StoodSince names old new) known looks
 all_later names old between new [] [] on so = tt
 all_later names old between new [] (look ∷ looks) on so = absurd so
@@ -66,7 +70,8 @@ all_later names old between new (k ∷ known) (look ∷ looks) on so = (
   all_later names old between new known looks on so.1,
 )
 
-pub all_finished : PlacesAreWithin → (names : Names) (old new : Past) (known : List KnownKey) (looks : List KeyLook) → AreSettled looks
+pub all_finished : PlacesAreWithin → (names : Names) (old new : Past) (known : List KnownKey) (looks : List KeyLook)
+    → AreSettled looks
     → AllZip (StoodSince names old new) known looks → AllZip (FinishedSince names old new) known looks
 all_finished within names old new [] [] settled so = tt
 all_finished within names old new [] (look ∷ looks) settled so = absurd so
@@ -83,10 +88,12 @@ all_finished within names old new (k ∷ known) (look ∷ looks) settled so = (
 
 -- ---- a run over an honest link
 
-handed_later : (names : Names) (old new : Past) (sent : List ℕ) (answer : Option (List ℕ)) → HandsOver names old sent answer new → IsLater names old new
+handed_later : (names : Names) (old new : Past) (sent : List ℕ) (answer : Option (List ℕ))
+    → HandsOver names old sent answer new → IsLater names old new
 handed_later names old new sent answer hands =
     subst (IsLater names old) (sym hands.is)
-    (moments.onward (moments.asked sent) (moments.onward (moments.delivered hands.delivered) (moments.exchanged sent answer hands.given)))
+    (moments.onward (moments.asked sent)
+    (moments.onward (moments.delivered hands.delivered) (moments.exchanged sent answer hands.given)))
 
 exchanged_later : (names : Names) (questions : List (List ℕ)) (answers : List (Option (List ℕ))) (old new : Past)
     → AreExchanged names questions answers old new → IsLater names old new
@@ -94,7 +101,8 @@ exchanged_later names [] [] old new same = moments.delivered (record { moves = [
 exchanged_later names [] (answer ∷ answers) old new none = absurd none
 exchanged_later names (sent ∷ questions) [] old new none = absurd none
 exchanged_later names (sent ∷ questions) (answer ∷ answers) old new (between, hands, rest) =
-    moments.onward (handed_later names old between sent answer hands) (exchanged_later names questions answers between new rest)
+    moments.onward (handed_later names old between sent answer hands)
+    (exchanged_later names questions answers between new rest)
 
 -- What came of a run that ended.
 pub record HasCome (came : Outcome → Type 0) : Type 0 where
@@ -119,7 +127,8 @@ ends_come came keys limit client Unwritten ends = record {
 }
 
 pub come_later : (limit : ℕ) (old new : RunState) (first : ClientState) (outcome : Outcome)
-    → Came limit old new first outcome → stop_in outcome.result ≢ stops.NoMemory → old.link.honest (is_planned first.keys)
+    → Came limit old new first outcome → stop_in outcome.result ≢ stops.NoMemory
+    → old.link.honest (is_planned first.keys)
     → IsLater (is_planned first.keys) old.link.past new.link.past
 come_later limit old new first outcome came in_memory honest =
     let t = came.turned in

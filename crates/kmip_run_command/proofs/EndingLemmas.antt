@@ -1,5 +1,6 @@
 -- The report of an end that was made in memory is what is printed.
-use Rattle.std.proofs.Common.{◌≡◌, ◌++◌, Bool, true, false, List, ℕ, Option, Some, Result, Ok, Err, IfOk, OnOk, [], ap, subst, ◌∙◌}
+use Rattle.std.proofs.Common.{◌≡◌, ◌++◌, Bool, true, false, List, ℕ, Option, Some, Result, Ok, Err, IfOk, OnOk, [], ap}
+use Rattle.std.proofs.Common.{subst, ◌∙◌}
 use Rattle.std.specs.Io.KnownBytes.{Appends}
 use Rattle.kmip_report.specs.Endings.{IfWhole}
 use Rattle.kmip_report.specs.Pieces.{Piece, report_in}

@@ -1,7 +1,7 @@
 //! The command `run`.
 //!
-//! `run` carries out a plan over a link, has its progress saved, and prints how that ended. `run_to_end` does
-//! the work alone, and `push_run_end` makes the report.
+//! `begin` makes a client that knows what a saved progress says. `run` carries out its plan over a link, has its
+//! progress saved, and prints how that ended. `run_to_end` does the work alone, and `push_run_end` makes the report.
 #![tactic(auto)]
 
 mod batch;

@@ -19,7 +19,8 @@ pub returns-in-Contradicted : goal.returns-in-Contradicted
 returns-in-Contradicted g c =
     let looks = c.in_ok-looks.looks in
     let known = known_keys c.args.client.now.keys (progress c.args.client.now) in
-    let judged = ap judgement_of (sym c.as_slice.ensures.value) ∙ sym c.judgement_of-judgement.ensures ∙ c.in-Contradicted.is in
+    let judged = ap judgement_of (sym c.as_slice.ensures.value) ∙ sym c.judgement_of-judgement.ensures
+    ∙ c.in-Contradicted.is in
     after_look (λ l. g.L.Link.seen l) (λ v. v.items) known c.args.refresh.now.mark.now c.args.link.now c.look.new.link
     looks _ _ refl c.in_ok-looks.ensures
     (comes_as _ _ _ (judgement_of looks.items) judgements.Contradicted _ judged ((refl, refl), refl, refl, refl))
@@ -28,7 +29,8 @@ pub returns-in-Unanswered : goal.returns-in-Unanswered
 returns-in-Unanswered g c =
     let looks = c.in_ok-looks.looks in
     let known = known_keys c.args.client.now.keys (progress c.args.client.now) in
-    let judged = ap judgement_of (sym c.as_slice.ensures.value) ∙ sym c.judgement_of-judgement.ensures ∙ c.in-Unanswered.is in
+    let judged = ap judgement_of (sym c.as_slice.ensures.value) ∙ sym c.judgement_of-judgement.ensures
+    ∙ c.in-Unanswered.is in
     after_look (λ l. g.L.Link.seen l) (λ v. v.items) known c.args.refresh.now.mark.now c.args.link.now c.look.new.link
     looks _ _ refl c.in_ok-looks.ensures
     (comes_as _ _ _ (judgement_of looks.items) judgements.Unanswered _ judged
@@ -38,7 +40,8 @@ pub returns-then-not-begin : goal.returns-then-not-begin
 returns-then-not-begin g c =
     let looks = c.in_ok-looks.looks in
     let known = known_keys c.args.client.now.keys (progress c.args.client.now) in
-    let judged = ap judgement_of (sym c.as_slice.ensures.value) ∙ sym c.judgement_of-judgement.ensures ∙ c.in-Agreed.is in
+    let judged = ap judgement_of (sym c.as_slice.ensures.value) ∙ sym c.judgement_of-judgement.ensures
+    ∙ c.in-Agreed.is in
     after_look (λ l. g.L.Link.seen l) (λ v. v.items) known c.args.refresh.now.mark.now c.args.link.now c.look.new.link
     looks _ _ refl c.in_ok-looks.ensures
     (comes_as _ _ _ (judgement_of looks.items) judgements.Agreed _ judged ((refl, refl), refl, refl, refl))
@@ -54,7 +57,8 @@ pub returns-in-Agreed : goal.returns-in-Agreed
 returns-in-Agreed g c =
     let looks = c.in_ok-looks.looks in
     let known = known_keys c.args.client.now.keys (progress c.args.client.now) in
-    let judged = ap judgement_of (sym c.as_slice.ensures.value) ∙ sym c.judgement_of-judgement.ensures ∙ c.in-Agreed.is in
+    let judged = ap judgement_of (sym c.as_slice.ensures.value) ∙ sym c.judgement_of-judgement.ensures
+    ∙ c.in-Agreed.is in
     after_look (λ l. g.L.Link.seen l) (λ v. v.items) known c.args.refresh.now.mark.now c.args.link.now c.look.new.link
     looks _ _ refl c.in_ok-looks.ensures
     (comes_as _ _ _ (judgement_of looks.items) judgements.Agreed _ judged c.in_ok-end.ensures)

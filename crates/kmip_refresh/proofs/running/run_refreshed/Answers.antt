@@ -5,11 +5,12 @@ use Rattle.kmip_refresh.proofs.running.run_refreshed.Goals as goal
 
 pub returns-clause-since : goal.returns-clause-since
 returns-clause-since g c = λ honest fresh.
-    since_any _ c.args.refresh.now.mark.now (g.L.Link.seen c.args.link.now) c.look_and_run.result
-    (λ still. ap (λ l. g.L.Link.seen l) still.0) c.look_and_run.ensures.looks c.look_and_run.ensures.follows honest fresh
+    let ran = c.look_and_run in
+    since_any _ c.args.refresh.now.mark.now (g.L.Link.seen c.args.link.now) ran.result
+    (λ still. ap (λ l. g.L.Link.seen l) still.0) ran.ensures.looks ran.ensures.follows honest fresh
 
 pub returns-clause-finished : goal.returns-clause-finished
 returns-clause-finished g c = λ honest fresh.
+    let ran = c.look_and_run in
     finished_any c.states_have_places.ensures.within _ c.args.refresh.now.mark.now (g.L.Link.seen c.args.link.now)
-    c.look_and_run.result (λ still. ap (λ l. g.L.Link.seen l) still.0) c.look_and_run.ensures.looks
-    c.look_and_run.ensures.follows honest fresh
+    ran.result (λ still. ap (λ l. g.L.Link.seen l) still.0) ran.ensures.looks ran.ensures.follows honest fresh
