@@ -168,7 +168,15 @@ fn look_until_told<'a, L: Link + Drop>(
         }
         let has_given_up = pace.has_given_up();
         let unbegun = beginning.into_trouble();
-        return refreshing.end(client, input, keeper, &mut observer, has_given_up, ended, unbegun);
+        return refreshing.end(
+            client,
+            input,
+            keeper,
+            &mut observer,
+            has_given_up,
+            ended,
+            unbegun,
+        );
     }
     Ok(ExitStatus::Refused) // the server was silent 2^64 - 1 times
 }

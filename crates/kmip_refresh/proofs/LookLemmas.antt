@@ -242,7 +242,7 @@ looks_alone names rest mark old refreshed Same same first follows honest =
     let (link, kept) = same still.0 in (
       kept,
       subst (LooksAlone names (keys_of (known_first rest)) mark old) (sym link)
-      (record { still = all.still; sends = all.asks_looks }),
+          (record { still = all.still; sends = all.asks_looks }),
     ))
 
 -- unless the run was made, the client is as it was

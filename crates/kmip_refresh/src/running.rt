@@ -23,8 +23,8 @@ use crate::refresh_outcome::RefreshOutcome;
 use crate::refreshed::Refreshed;
 use kmip_client::Client;
 use kmip_look::{Pause, look_at_keys};
-use kmip_plan::chain_laws::states_have_places;
 use kmip_plan::Key;
+use kmip_plan::chain_laws::states_have_places;
 use kmip_progress::Known;
 use kmip_protocol::{ExchangeObserver, Link};
 use kmip_run_command::{RunEnd, RunInput, run_to_end};
@@ -169,15 +169,7 @@ fn look_and_run<
                     outcome: RefreshOutcome::NotBegun,
                 });
             }
-            let end = run_to_end(
-                alloc,
-                client,
-                input.limit,
-                link,
-                keeper,
-                patience,
-                observer,
-            )?;
+            let end = run_to_end(alloc, client, input.limit, link, keeper, patience, observer)?;
             Ok(Refreshed {
                 looks,
                 outcome: RefreshOutcome::Ran(end),

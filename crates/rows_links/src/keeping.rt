@@ -248,9 +248,7 @@ fn run_with<K: Keeper + Unsaved, W: Write>(
         limit: order.limit,
     };
     let (link, patience, count) = (&mut case.link, &mut case.patience, &mut case.count);
-    kmip_run_command::run(
-        alloc, client, &input, link, keeper, patience, count, writer,
-    )
+    kmip_run_command::run(alloc, client, &input, link, keeper, patience, count, writer)
 }
 
 /// Writes that the text of a progress is refused, as the program prints it.

@@ -206,15 +206,7 @@ fn push_stopped(
         exchanges: 20,
     };
     let mut counted = Counted { lost };
-    push_run_end(
-        alloc,
-        input,
-        &client,
-        end,
-        &FullDisk,
-        &mut counted,
-        text,
-    )
+    push_run_end(alloc, input, &client, end, &FullDisk, &mut counted, text)
 }
 
 #[test]
@@ -266,9 +258,17 @@ fn writes_that_a_run_could_not_save(rt: HostRuntime) -> Result<(), Fail> {
         let mut text = Vec::new(alloc);
         let mut counted = Counted { lost: 0 };
         let end = RunEnd::Unwritten;
-        assert!(rt; push_run_end(
-            alloc, &unsaved, &client, end, &FullDisk, &mut counted, &mut text,
-        )?);
+        assert!(rt;
+            push_run_end(
+                alloc,
+                &unsaved,
+                &client,
+                end,
+                &FullDisk,
+                &mut counted,
+                &mut text,
+            )?
+        );
         assert_lines(&rt, alloc, text.as_slice(), &[line])?;
     }
     Ok(())
