@@ -46,19 +46,20 @@ returns-then-not-begin g c =
     looks _ _ refl c.in_ok-looks.ensures
     (comes_as _ _ _ (judgement_of looks.items) judgements.Agreed _ judged ((refl, refl), refl, refl, refl))
 
-pub returns-in_err-end : goal.returns-in_err-end
-returns-in_err-end g c =
-    let fault = err_from_is_err_and c.from_residual-in_err-end.result c.from_residual-in_err-end.ensures.1 in
+pub returns-in_err-end-in-Agreed : goal.returns-in_err-end-in-Agreed
+returns-in_err-end-in-Agreed g c =
+    let residual = c.from_residual-in_err-end-in-Agreed in
+    let fault = err_from_is_err_and residual.result residual.ensures.1 in
     let known = known_keys c.args.client.now.keys (progress c.args.client.now) in
     rw fault.1 (broken_look (λ l. g.L.Link.seen l) (λ v. v.items) known c.args.refresh.now.mark.now c.args.link.now
-    c.look.new.link c.look.result _ _ c.look.ensures (inr c.in_err-end.ensures))
+    c.look.new.link c.look.result _ _ c.look.ensures (inr c.in_err-end-in-Agreed.ensures))
 
-pub returns-in-Agreed : goal.returns-in-Agreed
-returns-in-Agreed g c =
+pub returns-in_ok-end-in-Agreed : goal.returns-in_ok-end-in-Agreed
+returns-in_ok-end-in-Agreed g c =
     let looks = c.in_ok-looks.looks in
     let known = known_keys c.args.client.now.keys (progress c.args.client.now) in
     let judged = ap judgement_of (sym c.as_slice.ensures.value) ∙ sym c.judgement_of-judgement.ensures
     ∙ c.in-Agreed.is in
     after_look (λ l. g.L.Link.seen l) (λ v. v.items) known c.args.refresh.now.mark.now c.args.link.now c.look.new.link
     looks _ _ refl c.in_ok-looks.ensures
-    (comes_as _ _ _ (judgement_of looks.items) judgements.Agreed _ judged c.in_ok-end.ensures)
+    (comes_as _ _ _ (judgement_of looks.items) judgements.Agreed _ judged c.in_ok-end-in-Agreed.ensures)
