@@ -24,7 +24,7 @@ use crate::refreshed::Refreshed;
 use kmip_client::Client;
 use kmip_look::{Pause, look_at_keys};
 use kmip_plan::Key;
-use kmip_plan::chain_laws::states_have_places;
+use kmip_plan::laws::the_laws_of_plans_hold;
 use kmip_progress::Known;
 use kmip_protocol::{ExchangeObserver, Link};
 use kmip_run_command::{RunEnd, RunInput, run_to_end};
@@ -108,7 +108,7 @@ pub fn run_refreshed<
     ensures same { IfOk result (λ refreshed.
         UnlessRan refreshed.outcome (client.new ≡ client.old)) }
 {
-    states_have_places();
+    the_laws_of_plans_hold(); // proof
     look_and_run(
         alloc, client, input, refresh, link, keeper, patience, observer,
     )

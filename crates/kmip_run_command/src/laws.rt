@@ -1,7 +1,7 @@
 //! What holds of runs after a crash, as the contract of a function that does nothing.
 ghost use Rattle.kmip_run_command.specs.Laws.{CrashesLeaveGoodFiles, TheNextRunBeginsWell};
 
-use kmip_client::laws::truth_is_for_good;
+use kmip_client::laws::the_laws_of_clients_hold;
 use kmip_protocol::Link;
 use kmip_runs::Keeper;
 
@@ -13,5 +13,5 @@ pub fn runs_follow_crashes<L: Link, K: Keeper>()
     // The next run begins with it as well as the first one began.
     ensures next { TheNextRunBeginsWell L.seen K.kept }
 {
-    truth_is_for_good();
+    the_laws_of_clients_hold(); // proof
 }

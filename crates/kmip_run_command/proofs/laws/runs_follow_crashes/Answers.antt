@@ -7,7 +7,7 @@ pub returns-clause-good : goal.returns-clause-good
 returns-clause-good g c = λ keys begun ended first last content lawful left.
     ⊎_elim
     (λ before.
-    file_still c.truth_is_for_good.ensures.known keys (g.L.Link.seen begun).past.objects (g.L.Link.seen ended).past.objects content lawful
+    file_still c.the_laws_of_clients_hold.ensures.known_for_good keys (g.L.Link.seen begun).past.objects (g.L.Link.seen ended).past.objects content lawful
     left.safe.went_on.onward (left.were_good content before))
     (λ file. inr file) ((left.any_moment left.lawful).each content left.left)
 
