@@ -12,5 +12,6 @@ returns-clause-since g c = λ honest fresh.
 pub returns-clause-finished : goal.returns-clause-finished
 returns-clause-finished g c = λ honest fresh.
     let ran = c.look_and_run in
-    finished_any c.the_laws_of_plans_hold.ensures.places_within _ c.args.refresh.now.mark.now (g.L.Link.seen c.args.link.now)
+    finished_any c.the_laws_of_plans_hold.ensures.places_within _ c.args.refresh.now.mark.now
+    (g.L.Link.seen c.args.link.now)
     ran.result (λ still. ap (λ l. g.L.Link.seen l) still.0) ran.ensures.looks ran.ensures.follows honest fresh

@@ -7,10 +7,14 @@ pub returns-clause-good : goal.returns-clause-good
 returns-clause-good g c = λ keys begun ended first last content lawful left.
     ⊎_elim
     (λ before.
-    file_still c.the_laws_of_clients_hold.ensures.known_for_good keys (g.L.Link.seen begun).past.objects (g.L.Link.seen ended).past.objects content lawful
+    file_still c.the_laws_of_clients_hold.ensures.known_for_good keys (g.L.Link.seen begun).past.objects
+    (g.L.Link.seen ended).past.objects content lawful
     left.safe.went_on.onward (left.were_good content before))
     (λ file. inr file) ((left.any_moment left.lawful).each content left.left)
 
 pub returns-clause-next : goal.returns-clause-next
-returns-clause-next g c = λ keys begun ended first last content lawful left.
-    (left.safe.stays_good, good_file_is_true keys (g.L.Link.seen ended).past.objects content (returns-clause-good g c keys begun ended first last content lawful left))
+returns-clause-next g c = λ keys begun ended first last content lawful left. (
+  left.safe.stays_good,
+  good_file_is_true keys (g.L.Link.seen ended).past.objects content
+      (returns-clause-good g c keys begun ended first last content lawful left),
+)

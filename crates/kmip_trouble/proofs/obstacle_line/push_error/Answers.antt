@@ -10,6 +10,8 @@ pub returns : goal.returns
 returns c =
     let why = Some c.as_str.result.now in
     let line = ap (λ (fault : List ℕ). fault_at fault (codes " ") c.args.path.now why) c.text.ensures in
-    by_some (λ (words : Option (List ℕ)). c.push_at.new.text.items ≡ c.args.text.now.items ++ line_in c.args.form (fault_at (cannot_word c.args.cannot) (codes " ") c.args.path.now words))
+    by_some (λ (words : Option (List ℕ)). c.push_at.new.text.items ≡ c.args.text.now.items ++ line_in c.args.form
+    (fault_at (cannot_word c.args.cannot) (codes " ") c.args.path.now words))
     c.push_at.result why
-    (subst (λ (said : List Piece). OnOk c.push_at.result (c.push_at.new.text.items ≡ c.args.text.now.items ++ line_in c.args.form said)) line c.push_at.ensures)
+    (subst (λ (said : List Piece). OnOk c.push_at.result
+    (c.push_at.new.text.items ≡ c.args.text.now.items ++ line_in c.args.form said)) line c.push_at.ensures)

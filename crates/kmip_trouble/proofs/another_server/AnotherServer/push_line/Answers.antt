@@ -8,5 +8,7 @@ pub returns : goal.returns
 returns c =
     let words : c.as_str-3.result.now ≡ other_server_words c.args.self.now = search rules in
     let path : c.as_str-4.result.now ≡ string_bytes c.args.self.now.path = search rules in
-    let line = ap₂ (λ (at why : List ℕ). fault_at (codes "progress of another server") (codes ": ") at (Some why)) path words in
-    subst (λ (said : List Piece). OnOk c.push_at.result (c.push_at.new.text.items ≡ c.args.text.now.items ++ line_in c.args.form said)) line c.push_at.ensures
+    let line = ap₂ (λ (at why : List ℕ). fault_at (codes "progress of another server") (codes ": ") at (Some why))
+    path words in
+    subst (λ (said : List Piece). OnOk c.push_at.result
+    (c.push_at.new.text.items ≡ c.args.text.now.items ++ line_in c.args.form said)) line c.push_at.ensures
