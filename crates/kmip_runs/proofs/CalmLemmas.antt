@@ -30,7 +30,7 @@ module _ (keys : List Key) where
   settling_from l b x b_keys calmly held = record {
     calm_for = subst (λ ks. x.calm (is_planned ks)) (sym b_keys) calmly.calm_for;
     ready = subst (λ ks. IsReady x.past.room ks x.past.objects b.knowns) (sym b_keys)
-        (l.ready keys x.past b.knowns calmly.sound (subst (λ ks. Held x.past.objects ks b.knowns) b_keys held)
+        (l.settling.ready keys x.past b.knowns calmly.sound (subst (λ ks. Held x.past.objects ks b.knowns) b_keys held)
         calmly.roomy);
   }
 

@@ -82,8 +82,8 @@ module _ (keys : List Key) (carried : List (List Known)) where
       let now = carried_on l start x lawful went holds in
       let (then, on) = stands standing now in (
         then,
-        on_then l.twice l.joins keys start.past x.past y.past went on,
-        further_then l.twice l.joins keys start x y ⊤ whole (λ is. tt) (before.further good holds)
+        on_then l.client.twice l.amid.joins keys start.past x.past y.past went on,
+        further_then l.client.twice l.amid.joins keys start x y ⊤ whole (λ is. tt) (before.further good holds)
             (further standing now),
       )
 
@@ -161,7 +161,7 @@ module _ (keys : List Key) (carried : List (List Known)) where
         suits = rw none_saved (All-nil (Suits keys));
         stands = λ good holds. opened l keys c x ends saved c_keys (held x.past.objects) no_end none_saved good;
         honest_still = λ names honestly. honestly;
-        further = λ good holds. further_nowhere l.itself l.nothing keys x ⊤;
+        further = λ good holds. further_nowhere l.client.itself l.amid.nothing keys x ⊤;
         each = rw no_end (none_each (IsEnd keys) runs);
         settled = λ calmly holds. (rw no_end (none_each (Settles keys) runs), calmly);
         as_many_ends = ap length no_end;
@@ -177,10 +177,10 @@ module _ (keys : List Key) (carried : List (List Known)) where
   ran_nothing l x whole ends saved no_end none_saved good = (
     record {
       good = good;
-      on = on_nowhere l.itself l.nothing keys x.past;
+      on = on_nowhere l.client.itself l.amid.nothing keys x.past;
       noted = noted_none x.past.objects keys ends saved no_end none_saved;
     },
-    further_nowhere l.itself l.nothing keys x whole,
+    further_nowhere l.client.itself l.amid.nothing keys x whole,
   )
 
   -- a run is begun and driven
