@@ -39,7 +39,7 @@ pub fn look_at_server(rt: &HostRuntime, options: &LookOptions) -> Result<ExitSta
     )?;
     let mut link = link_to(&log, &options.peer, options.timeout)?;
     link.hold_none();
-    look_over(&log, options, &file.plan, link)
+    look_over(&log, options, file.plan(), link)
 }
 
 /// How long `look` waits first before it asks again, in milliseconds. It does not wait for a server in this process.

@@ -27,7 +27,7 @@ pub fn run_plan(rt: &HostRuntime, options: &RunOptions) -> Result<ExitStatus, Tr
     let checked = check_progress(rt, options, &plan)?;
     let (progress, lock) = locked(rt, options.progress.as_str(), options.lock_wait)?;
     let start = progress_to_begin_with(rt, options, &plan, &progress, checked)?;
-    let account = Account::new(rt, options, &plan.plan)?;
+    let account = Account::new(rt, options, plan.plan())?;
     let mut findings = Findings::new(rt.alloc(), start.client())?;
     let link = link_to(account.log(), &options.peer, options.timeout)?;
     let metrics = MetricsFile::of(rt, options, &plan);

@@ -10,7 +10,7 @@ use kmip_plan::{Plan, prolongs};
 use kmip_plan_report::{run_check, run_check_after};
 use kmip_report::ExitStatus;
 use kmip_run_command::batch_of;
-use kmip_run_files::{PlanFile, list_progress, plan_at, plan_text_at, text_at};
+use kmip_run_files::{list_progress, plan_at, plan_text_at, text_at};
 use kmip_sim_command::{SimInput, run_sim};
 use kmip_trouble::{Trouble, plan_name, standard_input, standard_output, tell_of_terminal};
 use std::io;
@@ -117,7 +117,7 @@ fn check_plan_after(
     earlier_path: &str,
     format: Format,
 ) -> Result<ExitStatus, Trouble> {
-    let PlanFile { text, plan } = plan_at(rt, path)?;
+    let (text, plan) = plan_at(rt, path)?.into_parts();
     let earlier = plan_text_at(rt, earlier_path)?;
     let mut output = standard_output(rt);
     let status = run_check_after(
@@ -167,7 +167,7 @@ fn simulate_plan(
     path: &str,
     script_path: &str,
 ) -> Result<ExitStatus, Trouble> {
-    let plan = plan_at(rt, path)?.plan;
+    let (_text, plan) = plan_at(rt, path)?.into_parts();
     let script = text_at(rt, script_path)?;
     simulate(rt, telling, plan, None, script.as_str())
 }
@@ -181,16 +181,16 @@ fn simulate_plans(
     further_path: &str,
     script_path: &str,
 ) -> Result<ExitStatus, Trouble> {
-    let PlanFile { text, plan } = plan_at(rt, path)?;
-    let further = plan_at(rt, further_path)?;
-    if !prolongs(&further.plan, &plan) {
-        let status = simulate(rt, telling, plan, Some(further.plan), "")?;
+    let (text, plan) = plan_at(rt, path)?.into_parts();
+    let (further_text, further) = plan_at(rt, further_path)?.into_parts();
+    if !prolongs(&further, &plan) {
+        let status = simulate(rt, telling, plan, Some(further), "")?;
         let name = plan_name(path);
-        tell_prolonging(rt, further_path, further.text.as_str(), name, text.as_str());
+        tell_prolonging(rt, further_path, further_text.as_str(), name, text.as_str());
         return Ok(status);
     }
     let script = text_at(rt, script_path)?;
-    simulate(rt, telling, plan, Some(further.plan), script.as_str())
+    simulate(rt, telling, plan, Some(further), script.as_str())
 }
 
 /// Simulates a plan, and a further one if there is one, to standard output.

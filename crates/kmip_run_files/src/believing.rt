@@ -80,14 +80,14 @@ pub(crate) fn client_of<'p>(
     file: &'p PlanFile,
     text: &str,
 ) -> Result<Client<'p>, Trouble> {
-    match begin(rt.alloc(), &file.plan, Some(text)) {
+    match begin(rt.alloc(), file.plan(), Some(text)) {
         Ok(client) => Ok(client),
         Err(ProgressFault::NoMemory) => Err(Trouble::from(NoMemory)),
         Err(fault) => {
             let path = options.progress.as_str();
             let refused = RefusedProgress {
                 plan_path: plan_name(options.plan.as_str()),
-                plan: file.text.as_str(),
+                plan: file.text(),
                 path,
                 text,
             };

@@ -69,7 +69,7 @@ impl<'a> Kept<'a> {
 
     /// With nothing known.
     fn fresh(self) -> Result<Start<'a>, Trouble> {
-        let client = Client::fresh(self.rt.alloc(), &self.plan.plan)?;
+        let client = Client::fresh(self.rt.alloc(), self.plan.plan())?;
         self.begins(client, true)
     }
 
@@ -107,7 +107,7 @@ impl<'a> Kept<'a> {
         if !is_here && known_count(client) > 0 {
             return Err(self.another_server(origin, client)?);
         }
-        judge_attributes(self.file, origin, self.plan.plan.keys())
+        judge_attributes(self.file, origin, self.plan.plan().keys())
     }
 
     /// The file was saved against another server.
@@ -138,7 +138,7 @@ impl<'a> Kept<'a> {
             Some(origin) => self.origin_text(origin)?,
             None => String::new(alloc),
         };
-        let keys = match self.plan.plan.count() {
+        let keys = match self.plan.plan().count() {
             1 => String::from_str(alloc, "the key is finished")?,
             count => format!(in alloc; "all {count} keys are finished")?,
         };
@@ -173,7 +173,7 @@ impl<'a> Kept<'a> {
     /// # Errors
     /// If it cannot be written.
     pub fn note_origin(&self) -> Result<(), Trouble> {
-        let text = Origin::text(self.rt, self.server.as_str(), self.plan.plan.keys())?;
+        let text = Origin::text(self.rt, self.server.as_str(), self.plan.plan().keys())?;
         if let Err(error) = self.file.write_origin(text.as_bytes()) {
             let origin = self.file.origin_path()?;
             return Err(self.unwritten(origin, error));

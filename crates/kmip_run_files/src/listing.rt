@@ -27,15 +27,15 @@ pub fn list_progress(rt: &HostRuntime, options: &ListOptions) -> Result<ExitStat
     let path = options.progress.as_str();
     let file = progress_file_at(rt, path)?;
     let saved = text_within(rt, path, MOST_PROGRESS_BYTES)?;
-    let progress = match Progress::read_text(rt.alloc(), &plan.plan, saved.as_str()) {
+    let progress = match Progress::read_text(rt.alloc(), plan.plan(), saved.as_str()) {
         Ok(progress) => progress,
         Err(ProgressFault::NoMemory) => return Err(Trouble::from(NoMemory)),
         Err(fault) => return Ok(refuse(rt, options, &plan, saved.as_str(), fault)),
     };
-    let line = origin_line(&file, plan.plan.keys())?;
+    let line = origin_line(&file, plan.plan().keys())?;
     let form = options.format.form();
     let mut output = standard_output(rt);
-    let status = run_list(rt.alloc(), form, &plan.plan, &progress, &mut output);
+    let status = run_list(rt.alloc(), form, plan.plan(), &progress, &mut output);
     if status == ExitStatus::Done {
         let _ = rt.eprintln(line.as_str());
     }
@@ -58,7 +58,7 @@ fn refuse(
     if status == ExitStatus::Refused {
         let refused = RefusedProgress {
             plan_path: plan_name(options.plan.as_str()),
-            plan: plan.text.as_str(),
+            plan: plan.text(),
             path,
             text: saved,
         };

@@ -109,7 +109,7 @@ fn read(
     place: &MetricsPlace<'_>,
     plan: &PlanFile,
 ) -> io::Result<(String, LastTimes)> {
-    let digest = digest_of(rt.alloc(), plan.text.as_str())?;
+    let digest = digest_of(rt.alloc(), plan.text())?;
     let last = match place.text()? {
         Some(text) => Metrics::last_times(text.as_str()),
         None => Metrics::last_times(""),

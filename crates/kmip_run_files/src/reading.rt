@@ -2,7 +2,7 @@
 
 use crate::plan_file::PlanFile;
 use kmip_files::{MOST_FILE_BYTES, text_of, text_of_input};
-use kmip_plan::{PlanFault, read_plan};
+use kmip_plan::PlanFault;
 use kmip_trouble::{INPUT_PATH, Obstacle, STANDARD_INPUT, Trouble, plan_name, tell_of_terminal};
 use std::io::{Error, ErrorKind};
 
@@ -12,10 +12,10 @@ use std::io::{Error, ErrorKind};
 /// Why the file has no text, or its text is no plan.
 pub fn plan_at(rt: &HostRuntime, path: &str) -> Result<PlanFile, Trouble> {
     let text = plan_text_at(rt, path)?;
-    match read_plan(rt.alloc(), text.as_str()) {
-        Ok(plan) => Ok(PlanFile { text, plan }),
-        Err(PlanFault::NoMemory) => Err(Trouble::Io(Error::from(ErrorKind::OutOfMemory))),
-        Err(fault) => {
+    match PlanFile::read(rt.alloc(), text) {
+        Ok(file) => Ok(file),
+        Err((_text, PlanFault::NoMemory)) => Err(Trouble::Io(Error::from(ErrorKind::OutOfMemory))),
+        Err((text, fault)) => {
             let name = String::from_str(rt.alloc(), plan_name(path))?;
             Err(Trouble::from(Obstacle::NoPlan(name, text, fault)))
         }
