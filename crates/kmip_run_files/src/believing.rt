@@ -120,15 +120,3 @@ pub(crate) fn destroyed_key<'c>(client: &'c Client<'_>) -> Option<&'c str> {
     }
     None
 }
-
-/// Of how many keys an object is known.
-pub(crate) fn known_count(client: &Client<'_>) -> usize {
-    let count = client.plan().count();
-    let mut known = 0usize;
-    for place in 0..count {
-        if client.identifier(place).is_some() {
-            known = known.saturating_add(1);
-        }
-    }
-    known
-}

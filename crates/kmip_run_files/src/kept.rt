@@ -1,16 +1,18 @@
 //! What a run has of its progress.
 
-use crate::believing::{client_of, destroyed_key, known_count, read_progress};
-use crate::origin::{Origin, server_text};
+use crate::believing::{client_of, destroyed_key, read_progress};
+use crate::origin::{Origin, now, server_text};
 use crate::plan_file::PlanFile;
 use crate::read_progress::ReadProgress;
 use crate::recalling::{judge_attributes, origin_of};
 use crate::start::Start;
+use kmip_belief::{Terms, is_believed, known_count, push_origin};
 use kmip_choices::{Peer, RunOptions, Trust};
 use kmip_client::Client;
 use kmip_files::ProgressFile;
 use kmip_run_command::batch_of;
 use kmip_trouble::{AnotherServer, Cannot, Obstacle, Trouble};
+use kmip_ttlv::NoMemory;
 use std::alloc::AllocError;
 use std::io::{self, Error};
 
@@ -45,7 +47,7 @@ impl<'a> Kept<'a> {
         let origin = origin_of(self.file, self.options.trust == Trust::Believe)?;
         self.judge(origin.as_ref(), &client)?;
         let known = known_count(&client);
-        if known > 0 && self.is_to_refresh(origin.is_some()) {
+        if known > 0 && !self.is_believed(&client, origin.as_ref())? {
             return Ok(self.start(client, false, Some(known)));
         }
         if client.working() > 0 {
@@ -73,12 +75,21 @@ impl<'a> Kept<'a> {
         self.begins(client, true)
     }
 
-    /// Whether the server is asked about what the file knows, before the run. It is if that was asked for, or if
-    /// nothing says which server the file is of. A run that may make no exchange asks nothing.
-    fn is_to_refresh(&self, has_origin: bool) -> bool {
-        let is_rehearsal = matches!(self.options.peer, Peer::Loopback);
-        let is_unknown = !has_origin && !is_rehearsal;
-        self.options.limit > 0 && (self.options.is_refreshed || is_unknown)
+    /// Whether what the file knows is believed without asking the server. `--believe` vouches for it if it is known
+    /// where it was saved.
+    ///
+    /// # Errors
+    /// If memory runs out.
+    fn is_believed(&self, client: &Client<'_>, origin: Option<&Origin>) -> Result<bool, NoMemory> {
+        let terms = Terms {
+            server: self.server.as_str(),
+            is_rehearsal: matches!(self.options.peer, Peer::Loopback),
+            limit: self.options.limit as usize,
+            is_vouched_for: self.options.trust == Trust::Believe && origin.is_some(),
+            is_refreshed: self.options.is_refreshed,
+        };
+        let text = origin.map(|origin| origin.text());
+        is_believed(self.rt.alloc(), client, text, &terms)
     }
 
     /// The start of a run with this client, which first looks at this number of keys, if it looks. `is_new` says that
@@ -173,8 +184,11 @@ impl<'a> Kept<'a> {
     /// # Errors
     /// If it cannot be written.
     pub fn note_origin(&self) -> Result<(), Trouble> {
-        let text = Origin::text(self.rt, self.server.as_str(), self.plan.plan().keys())?;
-        if let Err(error) = self.file.write_origin(text.as_bytes()) {
+        let alloc = self.rt.alloc();
+        let mut text = Vec::new(alloc);
+        let keys = self.plan.plan().keys();
+        push_origin(alloc, self.server.as_str(), now(self.rt)?, keys, &mut text)?;
+        if let Err(error) = self.file.write_origin(text.as_slice()) {
             let origin = self.file.origin_path()?;
             return Err(self.unwritten(origin, error));
         }

@@ -1,7 +1,8 @@
 //! Where, when and for which keys a progress was kept: the text of a file beside it.
 
+use kmip_belief::key_words;
 use kmip_choices::Peer;
-use kmip_plan::{Key, algorithm_word};
+use kmip_plan::Key;
 use kmip_run_record::usage_words;
 use kmip_ttlv::{NoMemory, plain_text};
 use std::alloc::{AllocError, Global};
@@ -26,6 +27,8 @@ const DAY: u64 = 24 * HOUR;
 /// Where, when and for which keys a progress was kept.
 #[derive(Drop)]
 pub(crate) struct Origin {
+    /// The text that says so.
+    text: String,
     /// The server, as `server_of` has it.
     server: String,
     /// When, in seconds since the start of 1970.
@@ -35,10 +38,10 @@ pub(crate) struct Origin {
 }
 
 impl Origin {
-    /// What a text says; none where it is no text of an origin.
+    /// What a text says; none if it is no text of an origin.
     ///
     /// # Errors
-    /// Where there is no memory.
+    /// If memory runs out.
     pub(crate) fn read(alloc: Global, text: &str) -> Result<Option<Origin>, AllocError> {
         let mut lines = text.lines();
         if lines.next() != Some(HEAD) {
@@ -57,24 +60,17 @@ impl Origin {
             };
             keys.push(String::from_str(alloc, words)?)?;
         }
-        let server = String::from_str(alloc, server)?;
-        Ok(Some(Origin { server, kept, keys }))
+        Ok(Some(Origin {
+            text: String::from_str(alloc, text)?,
+            server: String::from_str(alloc, server)?,
+            kept,
+            keys,
+        }))
     }
 
-    /// The text of an origin: this server, the time now, and these keys.
-    ///
-    /// # Errors
-    /// Where there is no memory, or no clock.
-    pub(crate) fn text(rt: &HostRuntime, server: &str, keys: &[Key]) -> io::Result<String> {
-        let kept = now(rt)?;
-        let mut text = format!(in rt.alloc(); "{HEAD}\nserver {server}\nkept {kept}\n")?;
-        for key in keys {
-            let words = key_words(rt.alloc(), key)?;
-            text.push_str("key ")?;
-            text.push_str(words.as_str())?;
-            text.push('\n')?;
-        }
-        Ok(text)
+    /// The text that says so.
+    pub(crate) fn text(&self) -> &str {
+        self.text.as_str()
     }
 
     /// Whether a run with `--loopback` saved the progress, whose server is gone.
@@ -236,16 +232,6 @@ pub(crate) fn server_text(alloc: Global, server: &str) -> Result<String, AllocEr
         return Ok(text);
     }
     String::from_str(alloc, "a server in the process of its run (--loopback)")
-}
-
-/// The name of a key and its attributes, as `k1 AES 256 0000000c`.
-fn key_words(alloc: Global, key: &Key) -> Result<String, AllocError> {
-    let name = key.attrs.name.as_str();
-    let algorithm = algorithm_word(key.attrs.algorithm).unwrap_or("");
-    let length = key.attrs.length;
-    let mask = hex::encode(alloc, &key.attrs.usage.to_be_bytes())?;
-    let words = format!(in alloc; "{name} {algorithm} {length} {mask}")?;
-    Ok(words)
 }
 
 /// Which attribute of a key has changed, as `"b": the length is 128, and was 256`; none if none has, or if the names
