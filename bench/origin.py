@@ -221,6 +221,11 @@ class Origins:
                   (0, FINISHED.format(0), ''))
         self.look('and where it is kept is told again', (self.read('progress.origin') or '').splitlines()[1],
                   f'server tcp {where[1]}')
+        for what, key in ('no key', ''), ('a key in other words', 'key  k1 AES 256 0000000c\n'):
+            self.write('progress.origin', f'kmipctl origin 1\nserver tcp {where[1]}\nkept 1\n{key}')
+            self.look(f'all done, by a file that was saved for {what}, as the server agrees', self.run(*where), (0, FINISHED.format(0), ''))
+            self.look('and for which key it is kept is told again', (self.read('progress.origin') or '').splitlines()[3:],
+                      ['key k1 AES 256 0000000c'])
         os.remove(os.path.join(self.folder, 'progress.origin'))
         other = f'127.0.0.1:{self.serve()}'
         self.look('but not at a server that has no such key', self.run('--connect', other),
