@@ -334,8 +334,7 @@ impl<'p> Client<'p> {
     /// How many more exchanges it makes at most until every key is finished, if no more is lost. A
     /// key in conflict counts as one that is not finished. Takes no memory.
     ///
-    /// That it bounds what is left, and never rises, is the law `losing_laws::left_is_bounded` of
-    /// kmip_protocol.
+    /// That it bounds what is left, and never rises, are laws of `losing_laws` of kmip_protocol.
     pub fn most_left(&self) -> usize
         // It is the stated sum over the keys, by the identifiers and the counts alone that are known.
         ensures sum { result ≡ most_left self.now.keys self.now.knowns }

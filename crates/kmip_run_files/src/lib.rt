@@ -4,9 +4,9 @@
 //! (`progress_to_begin_with`). `ProgressKeeper` saves what is known after each exchange. `MetricsFile` has
 //! what a run counts. `list_progress` is the command `list`, which reads such files and asks nobody.
 //!
-//! All is safe and total. Only `ProgressKeeper` has clauses, those of `Keeper`, as std tells a contract
-//! nothing of files. What it calls is proved over every text, disk and writer. The stored runs, `make origin`
-//! and `make causes` try it.
+//! All is safe and total. Only `ProgressKeeper` and `PlanFile` have clauses, as std tells a contract nothing of
+//! files. What it calls is proved over every text, disk and writer, also when a progress is believed
+//! (kmip_belief). The stored runs, `make origin` and `make causes` try it.
 #![tactic(auto)]
 
 mod believing;

@@ -1,13 +1,13 @@
 //! What keeps a command from its work, and how that is told.
 //!
-//! A `Trouble` ends a command before its work is done, and `Trouble::tell` is the one place that prints it.
-//! `Told` is a standard stream that tells why it fails.
+//! A `Trouble` ends a command before its work is done. `Trouble::print` prints it on any printer, and `Trouble::tell`
+//! on standard output. Neither ends with `Done`. `Told` is a standard stream that tells why it fails.
 //!
-//! All is safe and total. The line of an `Obstacle` is proved in both forms (specs/ObstacleLines.antt), but
+//! All is safe and total. The line of an `Obstacle` is proved in both forms (specs/ObstacleLines.antt), except
 //! for the words of the system, and for the line and the words that kmip_explaining finds for a plan.
-//! `Trouble`, `tell_why`, `tell_cause`, `tell_output`, `tell_of_terminal`, `standard_input` and
-//! `standard_output` have no clause, as std says nothing in contracts of the bytes of streams and
-//! of the words of the system. `make causes` wants the lines of files, sockets and streams.
+//! `tell_why`, `tell_cause`, `tell_output`, `tell_of_terminal`, `standard_input` and `standard_output`
+//! have no clause, as std says nothing in contracts of the bytes of streams and of the words of the
+//! system. `make causes` wants the lines of files, sockets and streams.
 #![tactic(auto)]
 
 mod another_server;
