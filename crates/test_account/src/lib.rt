@@ -1,7 +1,9 @@
-//! Tests of kmip_tally and kmip_run_record: what is counted of a run, and the text of metrics.
+//! Tests of kmip_tally, kmip_run_record and kmip_belief: what is counted, metrics, and which progress is believed.
 //!
-//! The counts and the text were worked out by hand.
+//! The counts and the texts were worked out by hand.
 #![tactic(auto)]
 
+#[cfg(test)]
+mod believing;
 #[cfg(test)]
 mod counting;
