@@ -1,4 +1,4 @@
--- The text beside a progress file that says against which server it was saved, and for the attributes of which keys.
+-- The text next to a progress file that says against which server it was saved, and for the attributes of which keys.
 -- Source: own (text): docs/OPERATING.md has the file.
 use Rattle.std.specs.Prelude.{◌≡◌, ◌≢◌, ◌≤◌, ◌<◌, ℕ, List, [], ◌∷◌, ◌++◌, codes, length, take, Option, Some, None, get_or}
 use Rattle.std.specs.Fmt.{signed_decimal}
@@ -8,7 +8,7 @@ use Rattle.kmip_plan.specs.Words.{algorithm_word}
 use Rattle.kmip_plan.specs.declared.key.Key.{Key}
 use Rattle.kmip_report.specs.Pieces.{mask_digits}
 
--- What stands before the time: the name of the format, and the server.
+-- The text before the time: the name of the format, and the server.
 abbrev pub origin_head : List ℕ → List ℕ
 origin_head server = codes "kmipctl origin 1\nserver " ++ server ++ codes "\nkept "
 

@@ -10,7 +10,7 @@ use kmip_ttlv::NoMemory;
 use std::alloc::Global;
 
 /// Whether what the progress file says, which the client knows, is believed without asking the server. `origin` is the
-/// text beside the file that says where it was saved, if there is one.
+/// text next to the file that says where it was saved, if there is one.
 ///
 /// # Errors
 /// If memory runs out.

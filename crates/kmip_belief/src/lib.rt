@@ -1,6 +1,6 @@
 //! Whether a run believes its progress file without asking the server.
 //!
-//! Beside a progress file stands a text that says against which server it was saved, and for the attributes of which
+//! Next to a progress file is a text that says against which server it was saved, and for the attributes of which
 //! keys. `push_origin` writes that text, `keys_saved` reads it, and `is_believed` decides.
 #![tactic(auto)]
 

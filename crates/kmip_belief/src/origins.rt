@@ -116,7 +116,7 @@ fn keys_in(alloc: Global, lines: &[u8], keys: &[Key]) -> Result<Option<usize>, N
     Ok(None)
 }
 
-/// What stands behind these first bytes; none if others stand there.
+/// The bytes after these first ones. None if they begin with others.
 fn behind<'t>(bytes: &'t [u8], front: &[u8]) -> Option<&'t [u8]>
     ensures found { IfSome result (λ rest. bytes.now ≡ front.now ++ rest.now) }
     ensures none { result ≡ None → (rest : List ℕ) → bytes.now ≢ front.now ++ rest }
@@ -127,7 +127,7 @@ fn behind<'t>(bytes: &'t [u8], front: &[u8]) -> Option<&'t [u8]>
     None
 }
 
-/// What stands behind the first line feed; none if there is no line feed.
+/// The bytes after the first line feed. None if there is none.
 fn behind_line(bytes: &[u8]) -> Option<&[u8]>
     ensures found { IfSome result (λ rest. (line : List ℕ) × HasNoLineFeed line
         × (bytes.now ≡ line ++ 10 ∷ rest.now)) }
@@ -142,7 +142,7 @@ fn behind_line(bytes: &[u8]) -> Option<&[u8]>
     None
 }
 
-/// Appends what stands before the time.
+/// Appends the text before the time.
 fn push_head(server: &str, text: &mut Vec<u8>) -> Result<(), NoMemory>
     ensures { OnOk result (text.new.items ≡ text.old.items ++ origin_head server.now) }
 {
