@@ -91,7 +91,7 @@ fn knows_none_from(client: &Client<'_>, first: usize) -> bool
 
 /// Of how many keys an object is known.
 pub fn known_count(client: &Client<'_>) -> usize
-    // It is 0 exactly if no object is known.
+    // If it is 0, no object is known.
     ensures none { result ≡ 0 → KnowsNoneFrom 0 client.now }
 {
     let mut known = 0usize;

@@ -130,8 +130,8 @@ impl Trouble {
             (P.contents printer.old) (P.contents printer.new)) }
         // If it ends with `Failed`, memory ran out, and exactly the line of that is printed; or the printer
         // failed. If the output had failed before, nothing is printed.
-        ensures broken { IfFailed result (λ fault. FailsToTell form self.now fault P.own_fault P.IsWhole
-            (P.contents printer.old) (P.contents printer.new)) }
+        ensures broken { IfFailed result (λ fault. FailsToTell form self.now fault
+            P.own_fault P.IsWhole (P.contents printer.old) (P.contents printer.new)) }
     {
         match self {
             Trouble::Refused(obstacle) => obstacle.tell(rt, form, printer),
