@@ -32,7 +32,7 @@ pub struct ExchangeLog<'a> {
     wire: Wire,
     line: ProgressLine<'a>,
     /// When the command and the exchange began, by the clock.
-    began: Option<Instant>,
+    began: Cell<Option<Instant>>,
     exchange_began: Cell<Option<Instant>>,
     /// When there was news last, or the command began.
     news: Cell<Option<Instant>>,
@@ -64,7 +64,7 @@ impl<'a> ExchangeLog<'a> {
             is_verbose,
             wire: Wire::new(),
             line: ProgressLine::new(rt, is_verbose),
-            began: now,
+            began: Cell::new(now),
             exchange_began: Cell::new(now),
             news: Cell::new(now),
             answered: Cell::new(None),
@@ -116,12 +116,20 @@ impl<'a> ExchangeLog<'a> {
 
     /// How long ago the command began.
     pub fn elapsed(&self) -> Duration {
-        since(self.began, Instant::now(self.rt).ok())
+        since(self.began.get(), Instant::now(self.rt).ok())
     }
 
     /// How long ago that was, in milliseconds.
     pub fn milliseconds(&self) -> u64 {
         millis_of(self.elapsed())
+    }
+
+    /// The command begins now: a run, once it has the lock of its progress file.
+    pub fn begin(&self) {
+        let now = Instant::now(self.rt).ok();
+        self.began.set(now);
+        self.exchange_began.set(now);
+        self.news.set(now);
     }
 
     /// Something new is known: the time after which the command gives up begins again.
@@ -365,7 +373,7 @@ impl<'a> ExchangeLog<'a> {
 
     /// When it is, as `12.310 `: in seconds since the command began.
     pub(crate) fn time_text(&self, now: Option<Instant>) -> Result<String, NoMemory> {
-        let at = since(self.began, now);
+        let at = since(self.began.get(), now);
         let (seconds, millis) = (at.as_secs(), at.subsec_millis());
         let text = format!(in self.rt.alloc(); "{seconds}.{millis:03} ")?;
         Ok(text)

@@ -15,7 +15,7 @@ use std::alloc::Global;
 #[derive(Drop)]
 pub struct RunObserver<'a> {
     account: &'a Account<'a>,
-    findings: &'a mut Findings,
+    findings: Findings,
     /// What the message under way asks.
     asked: Asked,
     /// Why a look before the run got no answer, if it got none.
@@ -23,19 +23,34 @@ pub struct RunObserver<'a> {
 }
 
 impl<'a> RunObserver<'a> {
-    /// One that gives them to these.
-    pub fn new(account: &'a Account<'a>, findings: &'a mut Findings) -> Self {
-        RunObserver {
+    /// One of a run that knows nothing yet.
+    ///
+    /// # Errors
+    /// If memory runs out.
+    pub fn new(account: &'a Account<'a>) -> Result<Self, NoMemory> {
+        let alloc = account.rt().alloc();
+        let client = Client::fresh(alloc, account.plan())?;
+        Ok(RunObserver {
             account,
-            findings,
+            findings: Findings::new(alloc, &client)?,
             asked: Asked::none(),
             unanswered: None,
-        }
+        })
+    }
+
+    /// The run begins now, with what this client knows.
+    ///
+    /// # Errors
+    /// If memory runs out.
+    pub fn begin(&mut self, client: &Client<'_>) -> Result<(), NoMemory> {
+        self.findings = Findings::new(self.account.rt().alloc(), client)?;
+        self.account.log().begin();
+        Ok(())
     }
 
     /// What the run has found out.
     pub fn findings(&self) -> &Findings {
-        self.findings
+        &self.findings
     }
 
     /// Notes why a look before the run got no answer.
@@ -52,7 +67,7 @@ impl<'a> RunObserver<'a> {
             replies,
             silence,
         };
-        account.report(&exchange, self.findings);
+        account.report(&exchange, &self.findings);
         self.findings.hear(account.rt().alloc(), &exchange);
     }
 }
@@ -60,7 +75,7 @@ impl<'a> RunObserver<'a> {
 impl<'a> Counting for RunObserver<'a> {
     fn tally(&mut self, _alloc: Global, client: &Client<'_>) -> Result<RunTally, NoMemory> {
         self.findings.know_all(client);
-        let tally = self.account.tally(self.findings)?;
+        let tally = self.account.tally(&self.findings)?;
         Ok(RunTally {
             unanswered: self.unanswered,
             ..tally

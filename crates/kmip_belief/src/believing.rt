@@ -93,6 +93,8 @@ fn knows_none_from(client: &Client<'_>, first: usize) -> bool
 pub fn known_count(client: &Client<'_>) -> usize
     // If it is 0, no object is known.
     ensures none { result ≡ 0 → KnowsNoneFrom 0 client.now }
+    // If no object is known, it is 0.
+    ensures zero { KnowsNoneFrom 0 client.now → result ≡ 0 }
 {
     let mut known = 0usize;
     for place in 0..client.plan().count() {

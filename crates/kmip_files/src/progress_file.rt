@@ -90,6 +90,11 @@ impl<'a, R: Files + AllocGlobal> ProgressFile<'a, R> {
         }
     }
 
+    /// Whether something stands at its path.
+    pub fn is_there(&self) -> bool {
+        fs::symlink_metadata(self.rt, self.path.as_str()).is_ok()
+    }
+
     /// The text of the file; `None` where there is no file.
     ///
     /// # Errors

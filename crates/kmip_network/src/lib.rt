@@ -9,7 +9,6 @@
 //! exchanges depends on that; `make troubles` and `make peers` want the lines.
 #![tactic(auto)]
 
-mod agreeing;
 mod connection;
 mod disagreeing;
 mod exchange;
@@ -20,12 +19,14 @@ mod logged_dial;
 mod look_pause;
 mod look_watcher;
 mod looking;
+mod machine_watch;
 mod overheard;
 mod pausing;
 mod probe_watcher;
 mod probing;
-mod refreshing;
+mod refusing;
 mod repeating;
+mod run_pace;
 mod running;
 mod saying;
 mod serving;

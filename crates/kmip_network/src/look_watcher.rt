@@ -1,10 +1,10 @@
 //! What a look reports of its exchanges while it works, and when it was answered last.
 
 use crate::last_answer::LastAnswer;
-use crate::looking::MARK_BYTES;
 use kmip_account::ExchangeLog;
 use kmip_batch_items::{Outcome, Reply, Request};
 use kmip_client::{Listener, Verdict};
+use kmip_desk::MARK_BYTES;
 use kmip_look::Looked;
 use kmip_look_command::LookObserver;
 use kmip_plan::Key;

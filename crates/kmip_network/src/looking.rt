@@ -6,22 +6,21 @@ use crate::look_pause::LookPause;
 use crate::look_watcher::LookWatcher;
 use kmip_account::ExchangeLog;
 use kmip_choices::{LookOptions, Peer};
+use kmip_desk::MARK_BYTES;
 use kmip_look_command::{LookInput, run_look};
 use kmip_plan::Plan;
 use kmip_report::ExitStatus;
 use kmip_run_command::batch_of;
 use kmip_run_files::{LookMetricsFile, plan_at};
 use kmip_trouble::{Cannot, Trouble, standard_output};
+use std::io;
 use std::random::RandomSource;
-
-/// How many bytes the ids of a look's questions have after their operation, before the name (own).
-pub(crate) const MARK_BYTES: usize = 8;
 
 /// How long `look` waits first before it asks again, in milliseconds (own).
 const FIRST_WAIT: u64 = 100;
 
 /// What a mark is made of, as a message names it.
-const RANDOM_BYTES: &str = "random bytes of the system";
+pub(crate) const RANDOM_BYTES: &str = "random bytes of the system";
 
 /// The command `look`: the plan is read first, then the server is asked, and the status of each key is printed.
 /// Each message goes over a stream of its own, so a server that closes the stream after each reply answers all.
@@ -58,7 +57,10 @@ fn look_over(
     link: PeerLink<'_>,
 ) -> Result<ExitStatus, Trouble> {
     let rt = log.rt();
-    let mark = new_mark(rt)?;
+    let mark = match new_mark(rt) {
+        Ok(mark) => mark,
+        Err(error) => return Err(Trouble::at(rt, Cannot::Read, RANDOM_BYTES, error)),
+    };
     let metrics = LookMetricsFile::of(rt, options);
     let last = LastAnswer::none_yet(rt);
     let mut link = link;
@@ -89,12 +91,10 @@ fn look_over(
 ///
 /// # Errors
 /// If the system gives none.
-pub(crate) fn new_mark(rt: &HostRuntime) -> Result<[u8; MARK_BYTES], Trouble> {
+pub(crate) fn new_mark(rt: &HostRuntime) -> io::Result<[u8; MARK_BYTES]> {
     let mut mark = [0; MARK_BYTES];
-    match rt.fill_bytes(&mut mark) {
-        Ok(()) => Ok(mark),
-        Err(error) => Err(Trouble::at(rt, Cannot::Read, RANDOM_BYTES, error)),
-    }
+    rt.fill_bytes(&mut mark)?;
+    Ok(mark)
 }
 
 /// Reports on standard error that the look was given up.

@@ -1,6 +1,6 @@
--- What a run promises that first asks the server about the keys that its progress file knows.
+-- What a look at the keys that a progress file knows promises.
 
--- open this first: what the call promises
+-- open this first: what the look promises
 pub mod Refreshing
 -- whether the server agrees with the progress file
 pub mod Agreements

@@ -1,10 +1,10 @@
 //! The command `list`, over files.
 
-use crate::origin::Origin;
-use crate::plan_file::PlanFile;
 use crate::reading::{plan_at, text_within};
 use crate::recalling::{judge_attributes, progress_file_at};
+use crate::saved::saved_text;
 use kmip_choices::ListOptions;
+use kmip_desk::{Origin, PlanFile};
 use kmip_explaining::RefusedProgress;
 use kmip_files::{MOST_PROGRESS_BYTES, ProgressFile};
 use kmip_plan::Key;
@@ -76,7 +76,7 @@ fn origin_line(file: &ProgressFile<'_, HostRuntime>, keys: &[Key]) -> Result<Str
     match known_origin(file)? {
         Known::Origin(origin) => {
             judge_attributes(file, &origin, keys)?;
-            Ok(origin.kept_text(rt)?)
+            Ok(saved_text(rt, &origin)?)
         }
         Known::Nothing => {
             let path = file.given_path();
@@ -106,7 +106,7 @@ fn known_origin(file: &ProgressFile<'_, HostRuntime>) -> io::Result<Known> {
     let path = file.origin_path()?;
     match file.read_origin() {
         Ok(None) => Ok(Known::Nothing),
-        Ok(Some(text)) => match Origin::read(alloc, text.as_str())? {
+        Ok(Some(text)) => match Origin::read(alloc, text)? {
             Some(origin) => Ok(Known::Origin(origin)),
             None => unreadable(
                 alloc,

@@ -1,7 +1,7 @@
 //! The file that a collector of metrics reads of a look.
 
 use crate::metrics_place::MetricsPlace;
-use crate::origin::now;
+use crate::saved::now;
 use kmip_account::ExchangeLog;
 use kmip_choices::LookOptions;
 use kmip_run_record::{LookCounts, LookMetrics};

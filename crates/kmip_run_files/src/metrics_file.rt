@@ -1,10 +1,10 @@
 //! The file that a collector of metrics reads of a run.
 
 use crate::metrics_place::MetricsPlace;
-use crate::origin::now;
-use crate::plan_file::PlanFile;
+use crate::saved::now;
 use kmip_account::Account;
 use kmip_choices::RunOptions;
+use kmip_desk::PlanFile;
 use kmip_run_record::{Findings, LastTimes, Metrics};
 use kmip_ttlv::NoMemory;
 use sha2::{Digest, Sha256};

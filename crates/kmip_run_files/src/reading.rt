@@ -1,6 +1,6 @@
 //! The texts of files and of standard input, and of plans among them.
 
-use crate::plan_file::PlanFile;
+use kmip_desk::PlanFile;
 use kmip_files::{MOST_FILE_BYTES, text_of, text_of_input};
 use kmip_plan::PlanFault;
 use kmip_trouble::{INPUT_PATH, Obstacle, STANDARD_INPUT, Trouble, plan_name, tell_of_terminal};

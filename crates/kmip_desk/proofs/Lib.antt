@@ -1,0 +1,3 @@
+pub mod LookLemmas
+pub mod EndLemmas
+pub mod BeginLemmas
