@@ -1,0 +1,65 @@
+//! A run over a desk, a link and a disk in memory.
+ghost use Rattle.std.specs.Prelude.{◌≡◌, List, None};
+ghost use Rattle.kmip_desk.specs.Memory.{memory_view};
+ghost use Rattle.kmip_plan.specs.declared.key.Key.{Key};
+ghost use Rattle.kmip_protocol.specs.Sound.{Opening};
+ghost use Rattle.kmip_scripted.specs.Scenes.{past_in};
+ghost use Rattle.test_desk.specs.Sentences.{IsDoneSafely};
+
+use crate::quiet_watch::QuietWatch;
+use crate::steady::Steady;
+use crate::wordless_keeper::WordlessKeeper;
+use kmip_desk::{MemoryDesk, RunJob, run_choice};
+use kmip_disk::MemoryDisk;
+use kmip_protocol::laws::the_laws_of_exchanges_hold;
+use kmip_report::{ExitStatus, Printed};
+use kmip_runs::FileKeeper;
+use kmip_scripted::{Script, Scripted};
+use kmip_server::Server;
+use kmip_store::{IndexedStore, MOST_ROOM, SEED};
+use std::alloc::Global;
+
+/// Carries out a plan as `kmip_desk::run_choice` does, at a desk in memory, over a link in memory to a new server, which
+/// follows the script. Its file is on a disk in memory, which stops after so many calls. Returns how it ended, and the
+/// link.
+pub fn run_in_memory(
+    alloc: Global,
+    job: &RunJob<'_>,
+    desk: &mut MemoryDesk,
+    script: Script,
+    calls: usize,
+    watch: &mut QuietWatch,
+    printed: &mut Printed,
+) -> (ExitStatus, Scripted<IndexedStore>)
+    // Let there be no progress when the run takes the lock. If it ends with `Done`, the sentence holds of all that
+    // happened, each step that is reported done took effect, and every key is finished. There is no other premise.
+    ensures sentence { result.0 ≡ ExitStatus.Done
+        → (memory_view desk.new).found_progress ≡ None
+        → IsDoneSafely job.now.plan.now (past_in result.1) }
+{
+    the_laws_of_exchanges_hold(); // proof
+    let mut link = new_link(alloc, script);
+    let mut keeper = WordlessKeeper {
+        keeper: FileKeeper::new(MemoryDisk::new(alloc, calls), true),
+    };
+    let mut steady = Steady;
+    let status = run_choice(
+        alloc,
+        job,
+        desk,
+        &mut link,
+        &mut keeper,
+        &mut steady,
+        watch,
+        printed,
+    );
+    (status, link)
+}
+
+/// A link to a new server with no object, which follows the script.
+fn new_link(alloc: Global, script: Script) -> Scripted<IndexedStore>
+    ensures { (keys : List Key) → Opening keys (past_in result) }
+{
+    let store = IndexedStore::new(alloc, SEED, MOST_ROOM);
+    Scripted::new(alloc, Server::new(store), script)
+}
