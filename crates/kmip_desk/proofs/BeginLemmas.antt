@@ -7,22 +7,23 @@ use Rattle.kmip_belief.specs.Belief.{KnowsNoneFrom}
 use Rattle.kmip_messages.specs.Members.{may_have}
 use Rattle.kmip_desk.specs.Beginnings.{Begins, Knows, MayBegin, StoodOn, progress_for}
 use Rattle.kmip_desk.specs.DeskRuns.{IsNotMade, Parts, RunViews}
-use Rattle.kmip_desk.specs.Desks.{DeskView, IsLocked, KeepsFound}
+use Rattle.kmip_desk.specs.Desks.{DeskView, IsLocked, KeepsProgress}
 use Rattle.kmip_desk.specs.PrivateReading.{IsRead}
 use Rattle.kmip_desk.proofs.LookLemmas.{none_looked}
 
-stood_kept : (trust : Trust) (saved origin : Option (List ℕ)) (old new : DeskView) → KeepsFound old new
+stood_kept : (trust : Trust) (saved origin : Option (List ℕ)) (old new : DeskView) → KeepsProgress old new
     → StoodOn trust saved origin old → StoodOn trust saved origin new
 stood_kept trust saved origin old new kept stood = record {
-  lawful = kept.lawful;
-  held = kept.held ∙ stood.held;
-  saved_is = stood.saved_is ∙ ap (progress_for trust) (sym kept.progress_found);
-  origin_is = elim stood.origin_is [ inl none ↦ inl none | inr found ↦ inr (found ∙ sym kept.origin_found) ];
+  lawful = kept.found.lawful;
+  held = kept.found.held ∙ stood.held;
+  saved_is = stood.saved_is ∙ ap (progress_for trust) (sym kept.found.progress_found);
+  aside = λ is. kept.progress ∙ stood.aside is;
+  origin_is = elim stood.origin_is [ inl none ↦ inl none | inr found ↦ inr (found ∙ sym kept.found.origin_found) ];
 }
 
 -- a run that has begun has begun so still, if the desk keeps what was found
 pub begins_kept : (plan : List ℕ) (options : RunOptions) (server : List ℕ) (lawful : Type 0) (old new : DeskView)
-    (client : ClientState) (looked_at : Option ℕ) → (old.lawful → KeepsFound old new)
+    (client : ClientState) (looked_at : Option ℕ) → (old.lawful → KeepsProgress old new)
     → Begins plan options server lawful old client looked_at → Begins plan options server lawful new client looked_at
 begins_kept plan options server lawful old new client looked_at kept begins = record {
   saved = begins.saved;
@@ -41,7 +42,7 @@ pub begins_from : (plan : List ℕ) (options : RunOptions) (server : List ℕ) (
     (locked read_at new : DeskView) (origin : Option (List ℕ)) (first client : ClientState) (most : ℕ)
     (looked_at : Option ℕ) → client ≡ record first { batch = most }
     → IsRead plan options.trust (IsLocked locked) read_at origin first → (lawful → IsLocked locked)
-    → (read_at.lawful → KeepsFound read_at new) → (IsTrue (may_have options.batch) → most ≡ options.batch)
+    → (read_at.lawful → KeepsProgress read_at new) → (IsTrue (may_have options.batch) → most ≡ options.batch)
     → (looked_at ≡ None → MayBegin options server origin client) → (KnowsNoneFrom 0 client → looked_at ≡ None)
     → Begins plan options server lawful new client looked_at
 begins_from plan options server lawful locked read_at new origin first client most looked_at is read lock kept batch believed unlooked = record {

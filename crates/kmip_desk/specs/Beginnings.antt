@@ -28,19 +28,20 @@ MayBegin options server origin client =
     ⊎ ((options.limit ≡ 0)
     ⊎ (((options.trust ≡ Believe) × (origin ≢ None)) ⊎ IsOfThisServer server origin client)))
 
--- The progress that a run begins with. One that begins afresh has put the file aside.
+-- The progress that a run begins with. One that begins afresh has none.
 abbrev pub progress_for : Trust → Option (List ℕ) → Option (List ℕ)
 progress_for Afresh found = None
 progress_for Checked found = found
 progress_for Believe found = found
 
 -- The run holds the lock. It begins with the progress that the file said when it took the lock, and with the text next
--- to it, unless it did not read that.
+-- to it, unless it did not read that. A run that begins afresh has put the file aside.
 pub record StoodOn (trust : Trust) (saved origin : Option (List ℕ)) (desk : DeskView) : Type 0 where
   pub lawful : desk.lawful
   pub held : desk.is_held ≡ true
   pub saved_is : saved ≡ progress_for trust desk.found_progress
   pub origin_is : (origin ≡ None) ⊎ (origin ≡ desk.found_origin)
+  pub aside : trust ≡ Afresh → desk.progress ≡ None
 
 -- The text says that the progress is saved against this server, for the keys of the plan that this text is.
 pub record IsNoted (plan server : List ℕ) (origin : Option (List ℕ)) : Type 0 where

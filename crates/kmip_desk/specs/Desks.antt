@@ -36,11 +36,14 @@ pub record KeepsFound (old new : DeskView) : Type 0 where
   pub progress_found : new.found_progress ≡ old.found_progress
   pub origin_found : new.found_origin ≡ old.found_origin
 
--- The text was written that says where the progress was saved.
-pub record WritesOrigin {E : Type 0} (old : DeskView) (text : List ℕ) (result : Result (Unit {0}) E) (new : DeskView) : Type 0 where
-  pub kept : KeepsFound old new
-  -- The progress file is as it was, also at a fault.
+-- So it is, and the progress file is as it was.
+pub record KeepsProgress (old new : DeskView) : Type 0 where
+  pub found : KeepsFound old new
   pub progress : new.progress ≡ old.progress
+
+-- The text was written that says where the progress was saved. At a fault, too, all else is as it was.
+pub record WritesOrigin {E : Type 0} (old : DeskView) (text : List ℕ) (result : Result (Unit {0}) E) (new : DeskView) : Type 0 where
+  pub kept : KeepsProgress old new
   pub written : OnOk result (new.origin ≡ Some text)
 
 -- The progress file was put aside.

@@ -2,7 +2,7 @@
 ghost use Rattle.std.specs.Prelude.{◌≡◌, ◌≢◌, IfOk, IfSome, None, Some, option_map, string_bytes};
 ghost use Rattle.kmip_belief.specs.Belief.{KnowsNoneFrom};
 ghost use Rattle.kmip_desk.specs.Beginnings.{Begins, IsNotedFor, Knows, MayBegin};
-ghost use Rattle.kmip_desk.specs.Desks.{IsLocked, KeepsFound};
+ghost use Rattle.kmip_desk.specs.Desks.{IsLocked, KeepsProgress};
 ghost use Rattle.kmip_desk.specs.PrivateReading.{IsRead};
 
 use crate::believing::{judge, may_begin};
@@ -116,7 +116,7 @@ fn looked_at<D: Desk, W: RunWatch>(
     client: &Client<'_>,
     origin: &Option<Origin>,
 ) -> Result<Option<usize>, RunFault>
-    ensures kept { (D.view desk.old).lawful → KeepsFound (D.view desk.old) (D.view desk.new) }
+    ensures kept { (D.view desk.old).lawful → KeepsProgress (D.view desk.old) (D.view desk.new) }
     ensures unlooked { KnowsNoneFrom 0 client.now → IfOk result (λ count. count ≡ None) }
     ensures believed { IfOk result (λ count. count ≡ None → MayBegin job.now.options.now
         job.now.server.now (option_map (λ o. string_bytes o.text) origin.now) client.now) }

@@ -2,7 +2,7 @@
 ghost use Rattle.std.specs.Prelude.{IfErr, IfOk, OnOk, Some};
 ghost use Rattle.kmip_desk.specs.Beginnings.{IsNoted};
 ghost use Rattle.kmip_desk.specs.DeskRuns.{MayFollowLook};
-ghost use Rattle.kmip_desk.specs.Desks.{KeepsFound};
+ghost use Rattle.kmip_desk.specs.Desks.{KeepsProgress};
 
 use crate::desk::Desk;
 use crate::run_fault::RunFault;
@@ -23,7 +23,7 @@ pub(crate) fn note_origin<D: Desk, W: RunWatch>(
     watch: &W,
 ) -> Result<(), RunFault>
     ensures kept { (D.view desk.old).lawful
-        → KeepsFound (D.view desk.old) (D.view desk.new) }
+        → KeepsProgress (D.view desk.old) (D.view desk.new) }
     ensures noted { (D.view desk.old).lawful → OnOk result
         (IsNoted job.now.plan.now job.now.server.now (D.view desk.new).origin) }
     ensures fault { IfErr result MayFollowLook }

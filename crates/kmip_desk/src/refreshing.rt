@@ -3,7 +3,7 @@ ghost use Rattle.std.specs.Prelude.{◌≡◌, IfErr, IfOk, None};
 ghost use Rattle.kmip_refresh.specs.KnownKeys.{keys_of};
 ghost use Rattle.kmip_desk.specs.DeskRuns.{HasAgreed, LastLook, LooksBefore, MayFollowLook, OnlyLooks, known_of};
 ghost use Rattle.kmip_desk.specs.Beginnings.{IsNoted, IsNotedFor};
-ghost use Rattle.kmip_desk.specs.Desks.{KeepsFound};
+ghost use Rattle.kmip_desk.specs.Desks.{KeepsProgress};
 
 use crate::desk::Desk;
 use crate::noting::note_origin;
@@ -32,7 +32,7 @@ pub(crate) fn ask_first<D: Desk, L: Link, W: RunWatch>(
     link: &mut L,
     watch: &mut W,
 ) -> Result<Option<Vec<KeyLook>>, RunFault>
-    ensures kept { (D.view desk.old).lawful → KeepsFound (D.view desk.old) (D.view desk.new) }
+    ensures kept { (D.view desk.old).lawful → KeepsProgress (D.view desk.old) (D.view desk.new) }
     ensures before { IfOk result (λ r. r ≡ None
         → LooksBefore (λ l. L.seen l) link.old client.now looked_at link.new) }
     ensures noted { (D.view desk.old).lawful → (looked_at ≡ None → IsNotedFor job.now.plan.now
@@ -61,7 +61,7 @@ fn unanswered<D: Desk, L: Link, W: RunWatch>(
     link: &mut L,
     watch: &mut W,
 ) -> Result<Option<Vec<KeyLook>>, RunFault>
-    ensures kept { (D.view desk.old).lawful → KeepsFound (D.view desk.old) (D.view desk.new) }
+    ensures kept { (D.view desk.old).lawful → KeepsProgress (D.view desk.old) (D.view desk.new) }
     ensures agreed { IfOk result (λ r. r ≡ None
         → HasAgreed (λ l. L.seen l) client.now link.old link.new) }
     ensures noted { (D.view desk.old).lawful → IfOk result (λ r. r ≡ None
