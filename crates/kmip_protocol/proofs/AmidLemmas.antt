@@ -7,7 +7,6 @@ use Rattle.kmip_messages.specs.Items.{requests_in}
 use Rattle.kmip_objects.specs.Objects.{Object}
 use Rattle.kmip_server.specs.declared.effect.Effect.{Effect}
 use Rattle.kmip_plan.specs.declared.key.Key.{Key}
-use Rattle.kmip_client.specs.Justified.{JustifiedMessage}
 use Rattle.kmip_client.specs.Places.{Onward}
 use Rattle.kmip_protocol.specs.declared.link_fault.LinkFault.{LinkFault}
 use Rattle.kmip_protocol.specs.declared.link_fault.LinkFault.TheVariants.{Io, Frame, NoMemory}
@@ -19,7 +18,7 @@ use Rattle.kmip_protocol.specs.Moves.{AllMayHappen, Changes, Comes, Delivered, M
 use Rattle.kmip_protocol.specs.Moves.{Unanswered, after_move, after_moves}
 use Rattle.kmip_protocol.specs.Past.{Names, Past, is_planned}
 use Rattle.kmip_protocol.specs.PrivateLawbook.{Lawbook}
-use Rattle.kmip_protocol.specs.Sound.{Sound}
+use Rattle.kmip_protocol.specs.Sound.{HarmlessMessage, Sound}
 use Rattle.kmip_protocol.proofs.ExchangeLemmas.{asked_sound, handed_sound}
 use Rattle.kmip_protocol.proofs.KeepingLemmas.{move_keeps}
 use Rattle.kmip_protocol.proofs.MirrorLemmas.{mirrored_asked, mirrored_handed, mirrored_move}
@@ -29,8 +28,8 @@ use Rattle.kmip_protocol.proofs.TurnLemmas.{mirrored_requests}
 
 one_keeps : (l : Lawbook) (keys : List Key) (one : Meanwhile) (p : Past) → Sound keys p → MayBe keys one p
     → Sound keys (after_meanwhile one p) × Onward keys p.objects (after_meanwhile one p).objects
-one_keeps l keys (OthersAsk requests) p sound just =
-    (asked_sound keys p requests sound just, l.client.itself keys p.objects)
+one_keeps l keys (OthersAsk requests) p sound may =
+    (asked_sound keys p requests sound may, l.client.itself keys p.objects)
 one_keeps l keys (Occurs move) p sound may = move_keeps l keys move p sound may
 
 all_keep : (l : Lawbook) (keys : List Key) (more : List Meanwhile) (p : Past) → Sound keys p → AllMayBe keys more p
@@ -52,25 +51,25 @@ passed_keeps l keys old new sound passed =
 
 handed_keeps : (l : Lawbook) (keys : List Key) (old new : Past) (sent : List ℕ) (answer : Option (List ℕ))
     → Sound keys old
-    → JustifiedMessage keys old.objects sent → HandsOverAmid keys old sent answer new → Sound keys new
+    → HarmlessMessage keys old.objects sent → HandsOverAmid keys old sent answer new → Sound keys new
     × Onward keys old.objects new.objects
-handed_keeps l keys old new sent answer sound just hands =
+handed_keeps l keys old new sent answer sound may hands =
     let kept = passed_keeps l keys (with_asked sent old) hands.between
-    (asked_sound keys old (requests_in sent) sound just) hands.passed in
+    (asked_sound keys old (requests_in sent) sound may) hands.passed in
     subst (λ p. Sound keys p × Onward keys old.objects p.objects) (sym hands.is)
     (handed_sound keys hands.between sent answer kept.0, kept.1)
 
 pub exchanged_keeps : (l : Lawbook) (keys : List Key) (old new : Past) (sent : List ℕ)
     (answer : Result (Option (List ℕ)) LinkFault) → Sound keys old
-    → JustifiedMessage keys old.objects sent → ExchangedAmid keys old sent answer new → Sound keys new
+    → HarmlessMessage keys old.objects sent → ExchangedAmid keys old sent answer new → Sound keys new
     × Onward keys old.objects new.objects
-exchanged_keeps l keys old new sent (Ok answer) sound just done =
-    handed_keeps l keys old new sent answer sound just done
-exchanged_keeps l keys old new sent (Err Io) sound just done = handed_keeps l keys old new sent None sound just done
-exchanged_keeps l keys old new sent (Err Frame) sound just done = handed_keeps l keys old new sent None sound just done
-exchanged_keeps l keys old new sent (Err NoMemory) sound just done = elim done [
+exchanged_keeps l keys old new sent (Ok answer) sound may done =
+    handed_keeps l keys old new sent answer sound may done
+exchanged_keeps l keys old new sent (Err Io) sound may done = handed_keeps l keys old new sent None sound may done
+exchanged_keeps l keys old new sent (Err Frame) sound may done = handed_keeps l keys old new sent None sound may done
+exchanged_keeps l keys old new sent (Err NoMemory) sound may done = elim done [
   | inl before ↦ passed_keeps l keys old new sound before
-  | inr later ↦ passed_keeps l keys (with_asked sent old) new (asked_sound keys old (requests_in sent) sound just) later
+  | inr later ↦ passed_keeps l keys (with_asked sent old) new (asked_sound keys old (requests_in sent) sound may) later
 ]
 
 -- ---- what is an image
@@ -78,7 +77,7 @@ exchanged_keeps l keys old new sent (Err NoMemory) sound just done = elim done [
 one_mirrors : (l : Lawbook) (keys : List Key) (one : Meanwhile) (p : Past) → Sound keys p → IsMirrored keys p
     → MayBe keys one p
     → IsMirrored keys (after_meanwhile one p)
-one_mirrors l keys (OthersAsk requests) p sound image just = mirrored_requests keys p requests image just
+one_mirrors l keys (OthersAsk requests) p sound image may = mirrored_requests keys p requests image may
 one_mirrors l keys (Occurs move) p sound image may = mirrored_move l keys move p sound image may
 
 all_mirror : (l : Lawbook) (keys : List Key) (more : List Meanwhile) (p : Past) → Sound keys p → IsMirrored keys p
@@ -95,31 +94,31 @@ passed_mirrors l keys old new sound image passed =
     subst (IsMirrored keys) (sym passed.is) (all_mirror l keys passed.meanwhile old sound image passed.may)
 
 later_mirrors : (l : Lawbook) (keys : List Key) (old new : Past) (sent : List ℕ) → Sound keys old → IsMirrored keys old
-    → JustifiedMessage keys old.objects sent → PassedAmid keys (with_asked sent old) new → IsMirrored keys new
-later_mirrors l keys old new sent sound image just later =
-    passed_mirrors l keys (with_asked sent old) new (asked_sound keys old (requests_in sent) sound just)
-    (mirrored_asked keys old sent image just) later
+    → HarmlessMessage keys old.objects sent → PassedAmid keys (with_asked sent old) new → IsMirrored keys new
+later_mirrors l keys old new sent sound image may later =
+    passed_mirrors l keys (with_asked sent old) new (asked_sound keys old (requests_in sent) sound may)
+    (mirrored_asked keys old sent image may) later
 
 handed_mirrors : (l : Lawbook) (keys : List Key) (old new : Past) (sent : List ℕ) (answer : Option (List ℕ))
     → Sound keys old → IsMirrored keys old
-    → JustifiedMessage keys old.objects sent → HandsOverAmid keys old sent answer new → IsMirrored keys new
-handed_mirrors l keys old new sent answer sound image just hands =
+    → HarmlessMessage keys old.objects sent → HandsOverAmid keys old sent answer new → IsMirrored keys new
+handed_mirrors l keys old new sent answer sound image may hands =
     subst (IsMirrored keys) (sym hands.is) (mirrored_handed keys hands.between sent answer
-    (later_mirrors l keys old hands.between sent sound image just hands.passed))
+    (later_mirrors l keys old hands.between sent sound image may hands.passed))
 
 pub exchanged_mirrors : (l : Lawbook) (keys : List Key) (old new : Past) (sent : List ℕ)
     (answer : Result (Option (List ℕ)) LinkFault) → Sound keys old
-    → IsMirrored keys old → JustifiedMessage keys old.objects sent → ExchangedAmid keys old sent answer new
+    → IsMirrored keys old → HarmlessMessage keys old.objects sent → ExchangedAmid keys old sent answer new
     → IsMirrored keys new
-exchanged_mirrors l keys old new sent (Ok answer) sound image just done =
-    handed_mirrors l keys old new sent answer sound image just done
-exchanged_mirrors l keys old new sent (Err Io) sound image just done =
-    handed_mirrors l keys old new sent None sound image just done
-exchanged_mirrors l keys old new sent (Err Frame) sound image just done =
-    handed_mirrors l keys old new sent None sound image just done
-exchanged_mirrors l keys old new sent (Err NoMemory) sound image just done = elim done [
+exchanged_mirrors l keys old new sent (Ok answer) sound image may done =
+    handed_mirrors l keys old new sent answer sound image may done
+exchanged_mirrors l keys old new sent (Err Io) sound image may done =
+    handed_mirrors l keys old new sent None sound image may done
+exchanged_mirrors l keys old new sent (Err Frame) sound image may done =
+    handed_mirrors l keys old new sent None sound image may done
+exchanged_mirrors l keys old new sent (Err NoMemory) sound image may done = elim done [
   | inl before ↦ passed_mirrors l keys old new sound image before
-  | inr later ↦ later_mirrors l keys old new sent sound image just later
+  | inr later ↦ later_mirrors l keys old new sent sound image may later
 ]
 
 -- ---- one after the other
@@ -223,29 +222,29 @@ passed_blind keys sent handed old new passed = record {
 
 -- ---- an exchange is one of those of others
 
-later_passes : (keys : List Key) (old new : Past) (sent : List ℕ) → JustifiedMessage keys old.objects sent
+later_passes : (keys : List Key) (old new : Past) (sent : List ℕ) → HarmlessMessage keys old.objects sent
     → PassedAmid keys (with_asked sent old) new
     → PassedAmid keys (seen_by_others old) (seen_by_others new)
-later_passes keys old new sent just later =
+later_passes keys old new sent may later =
     let blind = passed_blind keys [] [] (with_asked sent old) new later in
-    record { meanwhile = OthersAsk (requests_in sent) ∷ blind.meanwhile; may = (just, blind.may); is = blind.is }
+    record { meanwhile = OthersAsk (requests_in sent) ∷ blind.meanwhile; may = (may, blind.may); is = blind.is }
 
 handed_passes : (keys : List Key) (old new : Past) (sent : List ℕ) (answer : Option (List ℕ))
-    → JustifiedMessage keys old.objects sent
+    → HarmlessMessage keys old.objects sent
     → HandsOverAmid keys old sent answer new → PassedAmid keys (seen_by_others old) (seen_by_others new)
-handed_passes keys old new sent answer just hands =
+handed_passes keys old new sent answer may hands =
     subst (λ p. PassedAmid keys (seen_by_others old) (seen_by_others p)) (sym hands.is)
-    (later_passes keys old hands.between sent just hands.passed)
+    (later_passes keys old hands.between sent may hands.passed)
 
 pub exchanged_passes : (keys : List Key) (old new : Past) (sent : List ℕ)
-    (answer : Result (Option (List ℕ)) LinkFault) → JustifiedMessage keys old.objects sent
+    (answer : Result (Option (List ℕ)) LinkFault) → HarmlessMessage keys old.objects sent
     → ExchangedAmid keys old sent answer new → PassedAmid keys (seen_by_others old) (seen_by_others new)
-exchanged_passes keys old new sent (Ok answer) just done = handed_passes keys old new sent answer just done
-exchanged_passes keys old new sent (Err Io) just done = handed_passes keys old new sent None just done
-exchanged_passes keys old new sent (Err Frame) just done = handed_passes keys old new sent None just done
-exchanged_passes keys old new sent (Err NoMemory) just done = elim done [
+exchanged_passes keys old new sent (Ok answer) may done = handed_passes keys old new sent answer may done
+exchanged_passes keys old new sent (Err Io) may done = handed_passes keys old new sent None may done
+exchanged_passes keys old new sent (Err Frame) may done = handed_passes keys old new sent None may done
+exchanged_passes keys old new sent (Err NoMemory) may done = elim done [
   | inl before ↦ passed_blind keys [] [] old new before
-  | inr later ↦ later_passes keys old new sent just later
+  | inr later ↦ later_passes keys old new sent may later
 ]
 
 -- ---- where nobody else asks

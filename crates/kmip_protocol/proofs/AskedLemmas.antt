@@ -22,17 +22,18 @@ use Rattle.kmip_plan.specs.Chains.{step_place}
 use Rattle.kmip_plan.specs.declared.key.Key.{Key}
 use Rattle.kmip_plan.specs.Plans.{IsPlanned}
 use Rattle.kmip_client.specs.Hearing.{step_of}
-use Rattle.kmip_client.specs.Justified.{Justified, MayAsk}
+use Rattle.kmip_client.specs.Justified.{MayAsk}
 use Rattle.kmip_client.specs.Places.{position, uid_of}
 use Rattle.kmip_client.specs.Questions.{id_of, step_ask}
 use Rattle.kmip_server.specs.Again.{has_failed}
 use Rattle.kmip_server.specs.Effects.{effect_asked, effect_of, effect_on}
 use Rattle.kmip_protocol.specs.Past.{Past}
 use Rattle.kmip_protocol.specs.Headline.{step_of_ask}
-use Rattle.kmip_protocol.specs.Sound.{Sound}
+use Rattle.kmip_protocol.specs.Sound.{IsHarmless, Sound}
 use Rattle.kmip_server.specs.declared.effect.Effect.{Effect}
 use Rattle.kmip_protocol.specs.PrivateSettlingLawbook.{Lawbook}
 use Rattle.kmip_protocol.specs.Losing.{is_id, step_id, was_asked}
+use Rattle.kmip_protocol.proofs.BesideLemmas.{not_own}
 use Rattle.kmip_protocol.proofs.SettlingChangeLemmas.{same_key}
 use Rattle.kmip_protocol.proofs.FilterLemmas.{same_text}
 
@@ -103,9 +104,11 @@ same_parts a b xs ys is = (cc, cc)
 
 not_beyond : (keys : List Key) (key : Key) (objects : List Object) (step : Step) (request : Request)
     → IsPlanned keys key
-    → position key objects + 1 < step_place key.target step → Justified keys objects request
+    → position key objects + 1 < step_place key.target step → IsHarmless keys objects request
     → is_id (step_id key step) request ≡ false
-not_beyond keys key objects step request planned beyond just =
+not_beyond keys key objects step request planned beyond (inr beside) =
+    not_own (step_id key step) request.id (beside.no_key (operation_of (step_ask key [] step)) key (inl planned))
+not_beyond keys key objects step request planned beyond (inl just) =
     elim (cases_Bool (pointwise nat_eq (step_id key step) (id_of (operation_of request.ask) just.key))) [
       | inl same ↦
           let parts = same_parts (operation_of (step_ask key [] step)) (operation_of request.ask) key.attrs.name
@@ -124,8 +127,8 @@ pub none_beyond : (keys : List Key) (p : Past) (key : Key) (step : Step) → Sou
     → position key p.objects + 1 < step_place key.target step → was_asked key p.requests step ≡ false
 none_beyond keys p key step sound planned beyond =
     list_any_none (is_id (step_id key step)) p.requests
-    (All-weaker (Justified keys p.objects) (λ request. is_id (step_id key step) request ≡ false)
-    (λ request just. not_beyond keys key p.objects step request planned beyond just) p.requests sound.requests)
+    (All-weaker (IsHarmless keys p.objects) (λ request. is_id (step_id key step) request ≡ false)
+    (λ request may. not_beyond keys key p.objects step request planned beyond may) p.requests sound.requests)
 
 -- ---- each step that takes effect was
 
@@ -180,19 +183,34 @@ has_effect objects ask outcome effect does = elim (cases_Bool (has_failed outcom
   | inr done ↦ rw done at does
 ]
 
+-- what asks for no step has no effect
+no_effect : (objects : List Object) (ask : Ask) (effect : Effect) → step_of_ask ask ≡ None
+    → effect_asked objects ask ≡ Some effect → ⊥
+no_effect objects (asks.Create attrs) effect none does = absurd cc
+no_effect objects (asks.Locate mask filter) effect none does = absurd cc
+no_effect objects (asks.GetAttributes uid) effect none does = absurd cc
+no_effect objects (asks.Activate uid) effect none does = absurd cc
+no_effect objects (asks.Revoke uid code) effect none does = absurd cc
+no_effect objects (asks.Destroy uid) effect none does = absurd cc
+
 pub effect_was_asked : (l : Lawbook) (keys : List Key) (p : Past) (key : Key) (request : Request) (outcome : Outcome)
     (effect : Effect) → Sound keys p
     → IsPlanned keys key → Contains p.requests request → effect_of p.objects request.ask outcome ≡ Some effect
     → key.attrs.name ≡ effect.name
     → was_asked key p.requests effect.step ≡ true
 effect_was_asked l keys p key request outcome effect sound planned asked does named =
-    let just = All-contains (Justified keys p.objects) p.requests request sound.requests asked in
-    let own = effect_named l just.key p.objects request.ask effect sound.uids just.may
-    (has_effect p.objects request.ask outcome effect does) in
-    let one : key ≡ just.key = same_key keys key just.key planned just.is_planned (own.0 ∙ sym named) in
-    let id : step_id key effect.step ≡ id_of (operation_of request.ask) just.key =
-    ap (λ operation. id_of operation key) (sym (step_operation key request.ask effect.step own.1))
-    ∙ ap (id_of (operation_of request.ask)) one in
-    one_passes (is_id (step_id key effect.step)) p.requests request asked
-    (ap (λ id. option_map_or (pointwise nat_eq (step_id key effect.step)) id false) just.id_is
-    ∙ same_text (step_id key effect.step) (id_of (operation_of request.ask) just.key) id)
+    by (All-contains (IsHarmless keys p.objects) p.requests request sound.requests asked) where
+      by : IsHarmless keys p.objects request → was_asked key p.requests effect.step ≡ true
+      by (inr beside) =
+          absurd (no_effect p.objects request.ask effect beside.no_step
+          (has_effect p.objects request.ask outcome effect does))
+      by (inl just) =
+          let own = effect_named l just.key p.objects request.ask effect sound.uids just.may
+          (has_effect p.objects request.ask outcome effect does) in
+          let one : key ≡ just.key = same_key keys key just.key planned just.is_planned (own.0 ∙ sym named) in
+          let id : step_id key effect.step ≡ id_of (operation_of request.ask) just.key =
+          ap (λ operation. id_of operation key) (sym (step_operation key request.ask effect.step own.1))
+          ∙ ap (id_of (operation_of request.ask)) one in
+          one_passes (is_id (step_id key effect.step)) p.requests request asked
+          (ap (λ id. option_map_or (pointwise nat_eq (step_id key effect.step)) id false) just.id_is
+          ∙ same_text (step_id key effect.step) (id_of (operation_of request.ask) just.key) id)

@@ -31,7 +31,6 @@ use Rattle.kmip_client.specs.declared.phase.Phase.{Phase}
 use Rattle.kmip_client.specs.declared.phase.Phase.TheVariants as phases
 use Rattle.kmip_client.specs.Held.{Held, IsHeld}
 use Rattle.kmip_client.specs.Hearing.{step_of}
-use Rattle.kmip_client.specs.Justified.{Justified}
 use Rattle.kmip_client.specs.Places.{position}
 use Rattle.kmip_client.specs.Questions.{ask_about, id_of, next_ask, phase_ask, request_about, step_ask}
 use Rattle.kmip_client.specs.declared.question.Question.{Question}
@@ -46,7 +45,7 @@ use Rattle.kmip_protocol.specs.Exchanges.{with_asked, with_requests}
 use Rattle.kmip_protocol.specs.Moves.{Delivered, Serve, after_move}
 use Rattle.kmip_protocol.specs.Past.{Past, is_planned}
 use Rattle.kmip_protocol.specs.Headline.{step_of_ask}
-use Rattle.kmip_protocol.specs.Sound.{Sound}
+use Rattle.kmip_protocol.specs.Sound.{IsHarmless, Sound}
 use Rattle.kmip_protocol.specs.PrivateSettlingLawbook.{Lawbook}
 use Rattle.kmip_protocol.specs.Losing.{is_id, is_under_way, left_of, left_all, step_id, was_asked}
 use Rattle.kmip_protocol.specs.Needs.{need_in, need_of}
@@ -232,8 +231,8 @@ request_less l keys before served knowns place w reply lawful sound held one has
     let works : known.done < chain_length key = ltb-true known.done (chain_length key)
     (and_parts (nat_lt known.done (chain_length key)) (not (is_some known.clash)) w.works).0 in
     let sound_asked = l.exchanges.asking keys before (request ∷ []) sound
-    (All-cons (Justified keys before.objects) request [] (one_justified l keys before knowns place w lawful held)
-    (All-nil (Justified keys before.objects))) in
+    (All-cons (IsHarmless keys before.objects) request [] (inl (one_justified l keys before knowns place w lawful held))
+    (All-nil (IsHarmless keys before.objects))) in
     let delivered : Delivered (is_planned keys) asked served =
     record { moves = Serve request reply one.objects one.joined ∷ []; may = (one.serves, tt); is = one.is } in
     let sound_served = l.exchanges.deliveries keys asked served sound_asked delivered in

@@ -35,6 +35,7 @@ use Rattle.kmip_protocol.specs.Turns.{known_then, is_unanswered, lost_each, taug
 use Rattle.kmip_protocol.specs.PrivateSettlingLawbook.{Lawbook}
 use Rattle.kmip_protocol.specs.Losing.{left_of, left_all}
 use Rattle.kmip_protocol.proofs.AskingLemmas.{names_apart, one_justified, request_left}
+use Rattle.kmip_protocol.proofs.BesideLemmas.{all_harmless}
 use Rattle.kmip_protocol.proofs.FilterLemmas.{other_text}
 use Rattle.kmip_protocol.proofs.HearLemmas.{place_found}
 use Rattle.kmip_protocol.proofs.HeardLemmas.{WasHeard}
@@ -329,8 +330,9 @@ disturbed_leaves l keys old new knowns places question answer lawful sound held 
     let asked = with_asked question.bytes old in
     let p = hands.between in
     let sound_asked = l.exchanges.asking keys old (requests_in question.bytes) sound
+    (all_harmless keys old.objects (requests_in question.bytes)
     (subst (All (Justified keys old.objects)) (sym about.asks)
-    (all_justified l keys old knowns places lawful held about.works)) in
+    (all_justified l keys old knowns places lawful held about.works))) in
     let sound_now = l.exchanges.deliveries keys asked p sound_asked hands.delivered in
     let held_now = held_late l keys asked p knowns lawful sound_asked held hands.delivered in
     let first = subst (λ rs. left_all keys knowns (with_requests rs old) ≤ left_all keys knowns old + length places)

@@ -8,7 +8,6 @@ use Rattle.kmip_batch_items.specs.declared.reply.Reply.{Reply}
 use Rattle.kmip_batch_items.specs.declared.request.Request.{Request}
 use Rattle.kmip_plan.specs.Chains.{chain}
 use Rattle.kmip_plan.specs.declared.key.Key.{Key}
-use Rattle.kmip_client.specs.Justified.{Justified, JustifiedMessage}
 use Rattle.kmip_client.specs.Places.{Onward}
 use Rattle.kmip_client.specs.Truth.{TrueMessage, TrueReply}
 use Rattle.kmip_server.specs.declared.effect.Effect.{Effect}
@@ -17,7 +16,7 @@ use Rattle.kmip_protocol.specs.declared.link_fault.LinkFault.TheVariants.{Io, Fr
 use Rattle.kmip_protocol.specs.Exchanges.{AreGiven, Exchanged, HandsOver, with_asked, with_exchange, with_requests}
 use Rattle.kmip_protocol.specs.PrivateLawbook.{Lawbook}
 use Rattle.kmip_protocol.specs.Past.{Past, is_planned, steps_on}
-use Rattle.kmip_protocol.specs.Sound.{Opening, Sound, TrueAnswer}
+use Rattle.kmip_protocol.specs.Sound.{HarmlessMessage, IsHarmless, Opening, Sound, TrueAnswer}
 use Rattle.kmip_protocol.proofs.ChangeLemmas.{place_in}
 use Rattle.kmip_protocol.proofs.KeepingLemmas.{delivered_keeps}
 
@@ -36,14 +35,14 @@ answer_more keys objects requests more reply answer = record {
   ];
 }
 
-pub asked_sound : (keys : List Key) (p : Past) (requests : List Request) → Sound keys p → All (Justified keys p.objects) requests
+pub asked_sound : (keys : List Key) (p : Past) (requests : List Request) → Sound keys p → All (IsHarmless keys p.objects) requests
     → Sound keys (with_requests requests p)
-asked_sound keys p requests sound just = record {
+asked_sound keys p requests sound may = record {
   names = sound.names;
   uids = sound.uids;
   objects = sound.objects;
   effects = record { planned = sound.effects.planned; no_others = sound.effects.no_others };
-  requests = All-append (Justified keys p.objects) p.requests requests sound.requests just;
+  requests = All-append (IsHarmless keys p.objects) p.requests requests sound.requests may;
   replies = All-weaker (TrueAnswer keys p.objects p.requests) (TrueAnswer keys p.objects (p.requests ++ requests))
       (λ reply answer. answer_more keys p.objects p.requests requests reply answer) p.replies sound.replies;
 }
@@ -59,19 +58,19 @@ handed_sound keys p sent answer sound = record {
 }
 
 hands_over_sound : (l : Lawbook) (keys : List Key) (old new : Past) (sent : List ℕ) (answer : Option (List ℕ)) → Sound keys old
-    → JustifiedMessage keys old.objects sent → HandsOver (is_planned keys) old sent answer new → Sound keys new × Onward keys old.objects new.objects
-hands_over_sound l keys old new sent answer sound just hands =
-    let (kept, on) = delivered_keeps l keys (with_asked sent old) hands.between (asked_sound keys old (requests_in sent) sound just) hands.delivered in
+    → HarmlessMessage keys old.objects sent → HandsOver (is_planned keys) old sent answer new → Sound keys new × Onward keys old.objects new.objects
+hands_over_sound l keys old new sent answer sound may hands =
+    let (kept, on) = delivered_keeps l keys (with_asked sent old) hands.between (asked_sound keys old (requests_in sent) sound may) hands.delivered in
     subst (λ p. Sound keys p × Onward keys old.objects p.objects) (sym hands.is) (handed_sound keys hands.between sent answer kept, on)
 
 pub exchanged_sound : (l : Lawbook) (keys : List Key) (old new : Past) (sent : List ℕ) (answer : Result (Option (List ℕ)) LinkFault) → Sound keys old
-    → JustifiedMessage keys old.objects sent → Exchanged (is_planned keys) old sent answer new → Sound keys new × Onward keys old.objects new.objects
-exchanged_sound l keys old new sent (Ok answer) sound just done = hands_over_sound l keys old new sent answer sound just done
-exchanged_sound l keys old new sent (Err Io) sound just done = hands_over_sound l keys old new sent None sound just done
-exchanged_sound l keys old new sent (Err Frame) sound just done = hands_over_sound l keys old new sent None sound just done
-exchanged_sound l keys old new sent (Err NoMemory) sound just done = elim done [
+    → HarmlessMessage keys old.objects sent → Exchanged (is_planned keys) old sent answer new → Sound keys new × Onward keys old.objects new.objects
+exchanged_sound l keys old new sent (Ok answer) sound may done = hands_over_sound l keys old new sent answer sound may done
+exchanged_sound l keys old new sent (Err Io) sound may done = hands_over_sound l keys old new sent None sound may done
+exchanged_sound l keys old new sent (Err Frame) sound may done = hands_over_sound l keys old new sent None sound may done
+exchanged_sound l keys old new sent (Err NoMemory) sound may done = elim done [
   | inl before ↦ delivered_keeps l keys old new sound before
-  | inr later ↦ delivered_keeps l keys (with_asked sent old) new (asked_sound keys old (requests_in sent) sound just) later
+  | inr later ↦ delivered_keeps l keys (with_asked sent old) new (asked_sound keys old (requests_in sent) sound may) later
 ]
 
 pub given_true : (keys : List Key) (p : Past) (given : List ℕ) → Sound keys p → AreGiven p given → TrueMessage keys p.objects given
@@ -92,6 +91,6 @@ opening_sound keys p opening = record {
         ∙ ap (λ found. take (place_in key found) (chain key.target)) (sym (opening.no_object key planned));
     no_others = λ name none. none_done name p.effects opening.no_effect;
   };
-  requests = subst (All (Justified keys p.objects)) (sym opening.no_request) (All-nil (Justified keys p.objects));
+  requests = subst (All (IsHarmless keys p.objects)) (sym opening.no_request) (All-nil (IsHarmless keys p.objects));
   replies = subst (All (TrueAnswer keys p.objects p.requests)) (sym opening.no_reply) (All-nil (TrueAnswer keys p.objects p.requests));
 }

@@ -9,16 +9,16 @@ use Rattle.kmip_objects.specs.Objects.{Object, object_named}
 use Rattle.kmip_batch_items.specs.declared.reply.Reply.{Reply}
 use Rattle.kmip_batch_items.specs.declared.request.Request.{Request}
 use Rattle.kmip_plan.specs.declared.key.Key.{Key}
-use Rattle.kmip_client.specs.Justified.{Justified}
 use Rattle.kmip_client.specs.Places.{Onward}
 use Rattle.kmip_server.specs.declared.effect.Effect.{Effect}
 use Rattle.kmip_protocol.specs.PrivateLawbook.{Lawbook}
 use Rattle.kmip_protocol.specs.Moves.{Move, Serve, Unanswered, Refuse, Comes, Changes, after_move, MayHappen}
-use Rattle.kmip_protocol.specs.Moves.{AllMayHappen, after_moves, Delivered, Serves}
+use Rattle.kmip_protocol.specs.Moves.{AllMayHappen, after_moves, Delivered, Joins, Serves}
 use Rattle.kmip_protocol.specs.Past.{Past, is_planned, steps_on}
-use Rattle.kmip_protocol.specs.Sound.{EffectsAreFirst, Sound, TrueAnswer}
+use Rattle.kmip_protocol.specs.Sound.{EffectsAreFirst, IsHarmless, Sound, TrueAnswer}
+use Rattle.kmip_protocol.proofs.BesideLemmas.{harmless_on, look_leaves}
 use Rattle.kmip_protocol.proofs.ChangeLemmas.{goes_onward, steps_join, stays_its_own}
-use Rattle.kmip_protocol.proofs.MovingLemmas.{ObjectsMove, serve_moves, comes_moves, foreign_moves}
+use Rattle.kmip_protocol.proofs.MovingLemmas.{ObjectsMove, nothing_moves, serve_moves, comes_moves, foreign_moves}
 use Rattle.kmip_protocol.proofs.ReplyLemmas.{failed_answer, served_answer}
 
 pub moves_onward : (keys : List Key) (old new : List Object) (joined : Option Effect)
@@ -85,10 +85,9 @@ sound_after l keys p q joined sound moves more same replies =
           (steps_on key.attrs.name (option_to_list joined)) o (moves.each key planned)
           (λ x was. sound.objects key x planned was) is;
       effects = effects_stay_first l keys p q joined sound.effects moves more;
-      requests = subst (All (Justified keys q.objects)) (sym same)
-          (All-weaker (Justified keys p.objects) (Justified keys q.objects)
-          (λ request just. l.client.asked_for_good keys p.objects q.objects request on just) p.requests
-          sound.requests);
+      requests = subst (All (IsHarmless keys q.objects)) (sym same)
+          (All-weaker (IsHarmless keys p.objects) (IsHarmless keys q.objects)
+          (λ request may. harmless_on l keys p.objects q.objects request on may) p.requests sound.requests);
       replies = replies;
     }
 
@@ -96,10 +95,16 @@ pub served_moves : (l : Lawbook) (keys : List Key) (p : Past) (request : Request
     (objects : List Object) (joined : Option Effect)
     → Sound keys p → Serves p request reply objects joined → ObjectsMove keys p.objects objects joined
 served_moves l keys p request reply objects joined sound serves =
-    let just = All-contains (Justified keys p.objects) p.requests request sound.requests serves.asked in
-    serve_moves l keys just.key p.room p.objects objects request.ask reply.outcome joined just.is_planned
-    sound.objects sound.names sound.uids just.may
-    serves.step serves.effects
+    by (All-contains (IsHarmless keys p.objects) p.requests request sound.requests serves.asked) where
+      by : IsHarmless keys p.objects request → ObjectsMove keys p.objects objects joined
+      by (inl just) =
+          serve_moves l keys just.key p.room p.objects objects request.ask reply.outcome joined just.is_planned
+          sound.objects sound.names sound.uids just.may
+          serves.step serves.effects
+      by (inr beside) =
+          subst (λ new. Joins p.objects new joined → ObjectsMove keys p.objects new joined)
+          (sym (look_leaves p.room p.objects objects request.ask reply.outcome beside.no_step serves.step))
+          (λ joins. nothing_moves keys p.objects joined sound.names sound.uids joins) serves.effects
 
 pub move_keeps : (l : Lawbook) (keys : List Key) (move : Move) (p : Past) → Sound keys p
     → MayHappen (is_planned keys) move p
@@ -107,12 +112,12 @@ pub move_keeps : (l : Lawbook) (keys : List Key) (move : Move) (p : Past) → So
 move_keeps l keys (Serve request reply objects joined) p sound serves =
     let moves = served_moves l keys p request reply objects joined sound serves in
     let on = moves_onward keys p.objects objects joined moves in
-    let just = All-contains (Justified keys p.objects) p.requests request sound.requests serves.asked in (
+    let may = All-contains (IsHarmless keys p.objects) p.requests request sound.requests serves.asked in (
       sound_after l keys p (after_move (Serve request reply objects joined) p) joined sound moves
           (λ name. steps_more name p.effects (option_to_list joined)) refl
           (All-push (TrueAnswer keys objects p.requests) p.replies reply
           (answers_on l keys p.objects objects p.requests p.replies on sound.replies)
-          (served_answer l keys p request reply objects joined sound.objects sound.names sound.uids just serves)),
+          (served_answer l keys p request reply objects joined sound.objects sound.names sound.uids may serves)),
       on,
     )
 move_keeps l keys (Unanswered request reply objects joined) p sound serves =

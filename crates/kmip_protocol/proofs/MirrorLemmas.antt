@@ -8,7 +8,6 @@ use Rattle.kmip_batch_items.specs.declared.request.Request.{Request}
 use Rattle.kmip_objects.specs.declared.step.Step.{Step}
 use Rattle.kmip_plan.specs.Plans.{IsPlanned}
 use Rattle.kmip_plan.specs.declared.key.Key.{Key}
-use Rattle.kmip_client.specs.Justified.{Justified, JustifiedMessage}
 use Rattle.kmip_client.specs.Places.{position}
 use Rattle.kmip_server.specs.declared.effect.Effect.{Effect}
 use Rattle.kmip_protocol.specs.declared.link_fault.LinkFault.{LinkFault}
@@ -18,7 +17,8 @@ use Rattle.kmip_protocol.specs.PrivateLawbook.{Lawbook}
 use Rattle.kmip_protocol.specs.Machine.{IsMirrored, pair_asked}
 use Rattle.kmip_protocol.specs.Moves.{Move, Serve, Unanswered, Refuse, Comes, Changes, after_move, MayHappen, AllMayHappen, after_moves, Delivered, Serves}
 use Rattle.kmip_protocol.specs.Past.{Past, is_planned, steps_on}
-use Rattle.kmip_protocol.specs.Sound.{Sound}
+use Rattle.kmip_protocol.specs.Sound.{HarmlessMessage, IsHarmless, Sound}
+use Rattle.kmip_protocol.proofs.BesideLemmas.{look_leaves}
 use Rattle.kmip_protocol.proofs.ChangeLemmas.{KeyChange, stays, comes, advances, place_in}
 use Rattle.kmip_protocol.proofs.ExchangeLemmas.{asked_sound}
 use Rattle.kmip_protocol.proofs.KeepingLemmas.{move_keeps}
@@ -39,15 +39,19 @@ stands_still keys old new key planned moves =
 mirrored_serve : (l : Lawbook) (keys : List Key) (p q : Past) (request : Request) (reply : Reply) (joined : Option Effect) → Sound keys p → IsMirrored keys p
     → Serves p request reply q.objects joined → p.requests ≡ q.requests → p.effects ++ option_to_list joined ≡ q.effects → IsMirrored keys q
 mirrored_serve l keys p q request reply joined sound image serves same more =
-    let just = All-contains (Justified keys p.objects) p.requests request sound.requests serves.asked in
-    elim (serve_does l keys just.key p.room p.objects q.objects request.ask reply.outcome just.is_planned sound.objects sound.names sound.uids just.may serves.step) [
-      | inl kept ↦
+    by (All-contains (IsHarmless keys p.objects) p.requests request sound.requests serves.asked) where
+      stood : q.objects ≡ p.objects → IsMirrored keys q
+      stood kept =
           let none : joined ≡ None =
           none_joined joined (λ name. nothing_joins p.objects q.objects joined name serves.effects (ap (object_named name) kept)) in
           no_more keys p q image (λ key planned. ap (position key) (sym kept)) (ap (filter_map (pair_asked keys)) same)
           (sym (append-nil p.effects) ∙ ap (λ j. p.effects ++ option_to_list j) (sym none) ∙ more)
-      | inr steps ↦ mirrored_step keys p q request joined just image serves.asked serves.effects steps same more
-    ]
+      by : IsHarmless keys p.objects request → IsMirrored keys q
+      by (inl just) = elim (serve_does l keys just.key p.room p.objects q.objects request.ask reply.outcome just.is_planned sound.objects sound.names sound.uids just.may serves.step) [
+        | inl kept ↦ stood kept
+        | inr steps ↦ mirrored_step keys p q request joined just image serves.asked serves.effects steps same more
+      ]
+      by (inr beside) = stood (look_leaves p.room p.objects q.objects request.ask reply.outcome beside.no_step serves.step)
 
 pub mirrored_move : (l : Lawbook) (keys : List Key) (move : Move) (p : Past) → Sound keys p → IsMirrored keys p → MayHappen (is_planned keys) move p
     → IsMirrored keys (after_move move p)
@@ -74,26 +78,26 @@ pub mirrored_delivered : (l : Lawbook) (keys : List Key) (old new : Past) → So
 mirrored_delivered l keys old new sound image delivered =
     subst (IsMirrored keys) (sym delivered.is) (mirrored_moves l keys delivered.moves old sound image delivered.may)
 
-pub mirrored_asked : (keys : List Key) (p : Past) (sent : List ℕ) → IsMirrored keys p → JustifiedMessage keys p.objects sent → IsMirrored keys (with_asked sent p)
-mirrored_asked keys p sent image just = mirrored_requests keys p (requests_in sent) image just
+pub mirrored_asked : (keys : List Key) (p : Past) (sent : List ℕ) → IsMirrored keys p → HarmlessMessage keys p.objects sent → IsMirrored keys (with_asked sent p)
+mirrored_asked keys p sent image may = mirrored_requests keys p (requests_in sent) image may
 
 -- an exchange that is noted moves nothing
 pub mirrored_handed : (keys : List Key) (p : Past) (sent : List ℕ) (answer : Option (List ℕ)) → IsMirrored keys p → IsMirrored keys (with_exchange sent answer p)
 mirrored_handed keys p sent answer image = no_more keys p (with_exchange sent answer p) image (λ key planned. refl) refl refl
 
 mirrored_over : (l : Lawbook) (keys : List Key) (old new : Past) (sent : List ℕ) (answer : Option (List ℕ)) → Sound keys old → IsMirrored keys old
-    → JustifiedMessage keys old.objects sent → HandsOver (is_planned keys) old sent answer new → IsMirrored keys new
-mirrored_over l keys old new sent answer sound image just hands =
-    let between = mirrored_delivered l keys (with_asked sent old) hands.between (asked_sound keys old (requests_in sent) sound just) (mirrored_asked keys old sent image just) hands.delivered in
+    → HarmlessMessage keys old.objects sent → HandsOver (is_planned keys) old sent answer new → IsMirrored keys new
+mirrored_over l keys old new sent answer sound image may hands =
+    let between = mirrored_delivered l keys (with_asked sent old) hands.between (asked_sound keys old (requests_in sent) sound may) (mirrored_asked keys old sent image may) hands.delivered in
     subst (IsMirrored keys) (sym hands.is) (mirrored_handed keys hands.between sent answer between)
 
 pub mirrored_exchange : (l : Lawbook) (keys : List Key) (old new : Past) (sent : List ℕ) (answer : Result (Option (List ℕ)) LinkFault) → Sound keys old
-    → IsMirrored keys old → JustifiedMessage keys old.objects sent → Exchanged (is_planned keys) old sent answer new → IsMirrored keys new
-mirrored_exchange l keys old new sent (Ok answer) sound image just done = mirrored_over l keys old new sent answer sound image just done
-mirrored_exchange l keys old new sent (Err Io) sound image just done = mirrored_over l keys old new sent None sound image just done
-mirrored_exchange l keys old new sent (Err Frame) sound image just done = mirrored_over l keys old new sent None sound image just done
-mirrored_exchange l keys old new sent (Err NoMemory) sound image just done = elim done [
+    → IsMirrored keys old → HarmlessMessage keys old.objects sent → Exchanged (is_planned keys) old sent answer new → IsMirrored keys new
+mirrored_exchange l keys old new sent (Ok answer) sound image may done = mirrored_over l keys old new sent answer sound image may done
+mirrored_exchange l keys old new sent (Err Io) sound image may done = mirrored_over l keys old new sent None sound image may done
+mirrored_exchange l keys old new sent (Err Frame) sound image may done = mirrored_over l keys old new sent None sound image may done
+mirrored_exchange l keys old new sent (Err NoMemory) sound image may done = elim done [
   | inl before ↦ mirrored_delivered l keys old new sound image before
   | inr later ↦
-      mirrored_delivered l keys (with_asked sent old) new (asked_sound keys old (requests_in sent) sound just) (mirrored_asked keys old sent image just) later
+      mirrored_delivered l keys (with_asked sent old) new (asked_sound keys old (requests_in sent) sound may) (mirrored_asked keys old sent image may) later
 ]

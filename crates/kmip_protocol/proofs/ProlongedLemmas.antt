@@ -7,19 +7,20 @@ use Rattle.std.proofs.lemmas.Option.{same_Some}
 use Rattle.kmip_objects.specs.Objects.{Object, object_named}
 use Rattle.kmip_objects.specs.States.{state_number}
 use Rattle.kmip_batch_items.specs.declared.reply.Reply.{Reply}
+use Rattle.kmip_batch_items.specs.declared.request.Request.{Request}
 use Rattle.kmip_plan.specs.Chains.{chain, or_zero, place_of, place_reached}
 use Rattle.kmip_plan.specs.Laws.{FoundKeysStand}
-use Rattle.kmip_plan.specs.Plans.{IsLawful, IsPlanned, key_named}
+use Rattle.kmip_plan.specs.Plans.{IsLawful, IsPlanned, key_fits, key_named}
 use Rattle.kmip_plan.specs.Prolonging.{GoesOn, Prolongs}
 use Rattle.kmip_plan.specs.Chains.{LeadsOn}
 use Rattle.kmip_plan.specs.declared.key.Key.{Key}
 use Rattle.kmip_plan.specs.declared.target.Target.{Target}
-use Rattle.kmip_client.specs.Justified.{Justified}
 use Rattle.kmip_client.specs.Places.{position}
 use Rattle.kmip_client.specs.Truth.{TrueOutcome}
 use Rattle.kmip_protocol.specs.PrivateLawbook.{Lawbook}
 use Rattle.kmip_protocol.specs.Past.{Past, steps_on, is_planned, AreAmong}
-use Rattle.kmip_protocol.specs.Sound.{IsObjectOf, NoneIsFurther, Sound, TrueAnswer}
+use Rattle.kmip_protocol.specs.Sound.{IsHarmless, IsObjectOf, NoneIsFurther, Sound, TrueAnswer}
+use Rattle.kmip_protocol.proofs.BesideLemmas.{beside_of, planned_fits}
 use Rattle.kmip_protocol.proofs.ChangeLemmas.{place_in}
 use Rattle.kmip_protocol.proofs.ReplyLemmas.{failed_true, same_name, some_place}
 
@@ -134,18 +135,21 @@ others_of l new old name lawful on is =
 holds_of : (l : Lawbook) (old : List Key) (p : Past) (reply : Reply) (operation : ℕ) (name : List ℕ) (key : Key)
     → Sound old p
     → TrueAnswer old p.objects p.requests reply → reply.id ≡ Some (operation ∷ name) → name ≡ key.attrs.name
-    → Origin old key
+    → key_fits key ≡ true → Origin old key
     → TrueOutcome p.objects key reply.outcome
-holds_of l old p reply operation name key sound answer id own (goes_on was named had same on) =
+holds_of l old p reply operation name key sound answer id own fits (goes_on was named had same on) =
     l.client.told_of_prolonged p.objects key was reply.outcome on
     (answer.holds operation name was id (ap (λ n. key_named n old) own ∙ named))
-holds_of l old p reply operation name key sound answer id own (is_further not) = elim (answer.echoes) [
+holds_of l old p reply operation name key sound answer id own fits (is_further not) = elim (answer.echoes) [
   | inl failed ↦ failed_true p.objects key reply.outcome failed
-  | inr echo ↦
-      let just = All-contains (Justified old p.objects) p.requests echo.request sound.requests echo.asked in
-      let asked : name ≡ just.key.attrs.name = same_name _ _ _ _ (sym id ∙ echo.id_is ∙ just.id_is) in
-      let t : None ≡ Some just.key = sym not ∙ ap (λ n. key_named n old) (sym own ∙ asked)
-      ∙ just.is_planned in absurd cc
+  | inr echo ↦ elim (All-contains (IsHarmless old p.objects) p.requests echo.request sound.requests echo.asked) [
+    | inl just ↦
+        let asked : name ≡ just.key.attrs.name = same_name _ _ _ _ (sym id ∙ echo.id_is ∙ just.id_is) in
+        let t : None ≡ Some just.key = sym not ∙ ap (λ n. key_named n old) (sym own ∙ asked)
+        ∙ just.is_planned in absurd cc
+    | inr beside ↦
+        absurd (beside.no_key operation key (inr fits) (sym echo.id_is ∙ id ∙ ap (λ n. Some (operation ∷ n)) own))
+  ]
 ]
 
 answer_of : (l : Lawbook) (new old : List Key) (p : Past) (reply : Reply) → IsLawful new → Prolongs new old
@@ -153,10 +157,17 @@ answer_of : (l : Lawbook) (new old : List Key) (p : Past) (reply : Reply) → Is
     → TrueAnswer old p.objects p.requests reply → TrueAnswer new p.objects p.requests reply
 answer_of l new old p reply lawful on sound answer = record {
   holds = λ operation name key id named.
+      let planned = planned_as l.plan.stand new name key named in
       holds_of l old p reply operation name key sound answer id (sym (l.plan.stand new name key named).0)
-      (origin l new old key lawful on (planned_as l.plan.stand new name key named));
+      (planned_fits new key lawful planned) (origin l new old key lawful on planned);
   echoes = answer.echoes;
 }
+
+harmless_of : (l : Lawbook) (new old : List Key) (objects : List Object) (request : Request) → IsLawful new
+    → Prolongs new old → IsHarmless old objects request → IsHarmless new objects request
+harmless_of l new old objects request lawful on (inl just) =
+    inl (l.client.asked_of_prolonged objects new old request lawful on just)
+harmless_of l new old objects request lawful on (inr beside) = inr (beside_of new old request lawful beside)
 
 pub prolonged_sound : (l : Lawbook) (new old : List Key) (p : Past) → IsLawful new → Prolongs new old
     → NoneIsFurther new old p.objects → Sound old p → Sound new p
@@ -169,8 +180,8 @@ prolonged_sound l new old p lawful on none sound = record {
     planned = λ key planned. steps_of l new old p key sound none planned (origin l new old key lawful on planned);
     no_others = λ name is. sound.effects.no_others name (others_of l new old name lawful on is);
   };
-  requests = All-weaker (Justified old p.objects) (Justified new p.objects)
-      (λ request just. l.client.asked_of_prolonged p.objects new old request lawful on just) p.requests sound.requests;
+  requests = All-weaker (IsHarmless old p.objects) (IsHarmless new p.objects)
+      (λ request may. harmless_of l new old p.objects request lawful on may) p.requests sound.requests;
   replies = All-weaker (TrueAnswer old p.objects p.requests) (TrueAnswer new p.objects p.requests)
       (λ reply answer. answer_of l new old p reply lawful on sound answer) p.replies sound.replies;
 }

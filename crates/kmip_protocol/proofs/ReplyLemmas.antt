@@ -30,7 +30,7 @@ use Rattle.kmip_server.specs.declared.effect.Effect.{Effect}
 use Rattle.kmip_protocol.specs.PrivateLawbook.{Lawbook}
 use Rattle.kmip_protocol.specs.Moves.{HasFailed, Serves}
 use Rattle.kmip_protocol.specs.Past.{Past}
-use Rattle.kmip_protocol.specs.Sound.{HasItsObjects, TrueAnswer}
+use Rattle.kmip_protocol.specs.Sound.{HasItsObjects, IsBeside, IsHarmless, TrueAnswer}
 use Rattle.kmip_protocol.proofs.ChangeLemmas.{place_in, uid_in}
 use Rattle.kmip_protocol.proofs.MovingLemmas.{due_of, own_object, own_named, takes}
 
@@ -159,18 +159,29 @@ named_one : (l : Lawbook) (keys : List Key) (key other : Key) (name : List ℕ) 
 named_one l keys key other name planned named same =
     same_Some _ _ (sym planned ∙ ap (λ n. key_named n keys) (sym same) ∙ named)
 
+answered_true : (l : Lawbook) (keys : List Key) (p : Past) (request : Request) (reply : Reply) (objects : List Object)
+    (operation : ℕ) (name : List ℕ) (other : Key)
+    → HasItsObjects keys p.objects → DistinctNames p.objects → DistinctUids p.objects → IsHarmless keys p.objects request
+    → ServerStep p.room p.objects request.ask reply.outcome objects
+    → request.id ≡ Some (operation ∷ name) → key_named name keys ≡ Some other → TrueOutcome objects other reply.outcome
+answered_true l keys p request reply objects operation name other its names uids (inl just) step id named =
+    let one : just.key ≡ other = named_one l keys just.key other name just.is_planned named
+    (same_name _ _ _ _ (sym id ∙ just.id_is)) in
+    subst (λ k. TrueOutcome objects k reply.outcome) one
+    (outcome_true l keys just.key p.room p.objects objects request.ask reply.outcome just.is_planned its names
+    uids just.may step)
+answered_true l keys p request reply objects operation name other its names uids (inr beside) step id named =
+    let own : name ≡ other.attrs.name = sym (l.plan.stand keys name other named).0 in
+    absurd (beside.no_key operation other (inl (ap (λ n. key_named n keys) (sym own) ∙ named))
+    (id ∙ ap (λ n. Some (operation ∷ n)) own))
+
 pub served_answer : (l : Lawbook) (keys : List Key) (p : Past) (request : Request) (reply : Reply)
     (objects : List Object) (joined : Option Effect)
-    → HasItsObjects keys p.objects → DistinctNames p.objects → DistinctUids p.objects → Justified keys p.objects request
+    → HasItsObjects keys p.objects → DistinctNames p.objects → DistinctUids p.objects → IsHarmless keys p.objects request
     → Serves p request reply objects joined → TrueAnswer keys objects p.requests reply
-served_answer l keys p request reply objects joined its names uids just serves = record {
+served_answer l keys p request reply objects joined its names uids may serves = record {
   holds = λ operation name other id named. elim (serves.id_is) [
-    | inl same ↦
-        let one : just.key ≡ other = named_one l keys just.key other name just.is_planned named
-        (same_name _ _ _ _ (sym id ∙ same ∙ just.id_is)) in
-        subst (λ k. TrueOutcome objects k reply.outcome) one
-        (outcome_true l keys just.key p.room p.objects objects request.ask reply.outcome just.is_planned its names
-        uids just.may serves.step)
+    | inl same ↦ answered_true l keys p request reply objects operation name other its names uids may serves.step (sym same ∙ id) named
     | inr bare ↦ failed_true objects other reply.outcome bare.1
   ];
   echoes = elim (serves.id_is) [

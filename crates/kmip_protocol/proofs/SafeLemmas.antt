@@ -4,19 +4,21 @@ use Rattle.std.proofs.Common.{Option, Some, None, refl, sym, ap, subst, ◌∙�
 use Rattle.std.specs.List.{All, Contains}
 use Rattle.std.proofs.lemmas.List.Elements.{All-contains, All-weaker, Contains-append_cases, Contains-append_left}
 use Rattle.std.proofs.lemmas.List.Elements.{Contains-append_right, Contains-push, Contains-push_cases}
-use Rattle.kmip_objects.specs.Objects.{object_named}
+use Rattle.kmip_objects.specs.Objects.{Object, object_named}
 use Rattle.kmip_objects.specs.declared.step.Step.{Step}
+use Rattle.kmip_batch_items.specs.declared.outcome.Outcome.{Outcome}
+use Rattle.kmip_batch_items.specs.declared.request.Request.{Request}
 use Rattle.kmip_plan.specs.Chains.{chain, step_at, step_place}
 use Rattle.kmip_plan.specs.declared.key.Key.{Key}
 use Rattle.kmip_plan.specs.declared.target.Target.{Target}
-use Rattle.kmip_client.specs.Justified.{Justified}
 use Rattle.kmip_client.specs.Places.{position}
+use Rattle.kmip_server.specs.ServerStep.{ServerStep}
 use Rattle.kmip_server.specs.declared.effect.Effect.{Effect}
 use Rattle.kmip_protocol.specs.PrivateLawbook.{Lawbook}
 use Rattle.kmip_protocol.specs.Laws.{IsReached}
 use Rattle.kmip_protocol.specs.Past.{Past, steps_on}
-use Rattle.kmip_protocol.specs.Headline.{Safe, AgainChangesNothing, all_named}
-use Rattle.kmip_protocol.specs.Sound.{Sound}
+use Rattle.kmip_protocol.specs.Headline.{Safe, AgainChangesNothing, all_named, step_of_ask}
+use Rattle.kmip_protocol.specs.Sound.{IsHarmless, Sound}
 use Rattle.kmip_protocol.proofs.ReplyLemmas.{same_name}
 use Rattle.kmip_protocol.proofs.ServedLemmas.{serve_does}
 
@@ -99,9 +101,14 @@ reached_true l keys p effect sound (key, planned, named, from, within) =
 pub same_step : (a b : Step) → Some a ≡ Some b → a ≡ b
 same_step a b is = cc
 
-pub nothing_again : (l : Lawbook) (keys : List Key) (p : Past) → Sound keys p → AgainChangesNothing p
-nothing_again l keys p sound = λ request operation name step outcome objects asked id is_step has served.
-    let just = All-contains (Justified keys p.objects) p.requests request sound.requests asked in
+again : (l : Lawbook) (keys : List Key) (p : Past) → Sound keys p → (request : Request) (operation : ℕ) (name : List ℕ)
+    (step : Step) (outcome : Outcome) (objects : List Object)
+    → request.id ≡ Some (operation ∷ name) → step_of_ask request.ask ≡ Some step
+    → Contains (steps_on name p.effects) step → ServerStep p.room p.objects request.ask outcome objects
+    → IsHarmless keys p.objects request → objects ≡ p.objects
+again l keys p sound request operation name step outcome objects id is_step has served (inr beside) =
+    let t : None ≡ Some step = sym beside.no_step ∙ is_step in absurd cc
+again l keys p sound request operation name step outcome objects id is_step has served (inl just) =
     let key = just.key in
     let named : name ≡ key.attrs.name = same_name _ _ _ _ (sym id ∙ just.id_is) in
     let first : Contains (take (position key p.objects) (chain key.target)) step =
@@ -117,6 +124,11 @@ nothing_again l keys p sound = λ request operation name step outcome objects as
           ∙ steps.place in
           absurd (omega (arith, within, place))
     ]
+
+pub nothing_again : (l : Lawbook) (keys : List Key) (p : Past) → Sound keys p → AgainChangesNothing p
+nothing_again l keys p sound = λ request operation name step outcome objects asked id is_step has served.
+    again l keys p sound request operation name step outcome objects id is_step has served
+    (All-contains (IsHarmless keys p.objects) p.requests request sound.requests asked)
 
 pub sound_safe : (l : Lawbook) (keys : List Key) (p : Past) (reported : List Effect) → Sound keys p
     → All (IsReached keys p) reported → Safe keys p reported

@@ -36,7 +36,7 @@ pub record Steps (key : Key) (old new : List Object) (ask : Ask) : Type 0 where
   pub others : (name : List ℕ) → name ≢ key.attrs.name → object_named name new ≡ object_named name old
   pub changes : change (object_named key.attrs.name old) (object_named key.attrs.name new) ≡ Some step
 
-step_agrees : (ask : Ask) (step : Step) (uid : List ℕ) → step_asked ask ≡ Some (step, uid) → step_of_ask ask ≡ Some step
+pub step_agrees : (ask : Ask) (step : Step) (uid : List ℕ) → step_asked ask ≡ Some (step, uid) → step_of_ask ask ≡ Some step
 step_agrees (asks.Create attrs) step uid asked = absurd cc
 step_agrees (asks.Locate mask filter) step uid asked = absurd cc
 step_agrees (asks.GetAttributes own) step uid asked = absurd cc

@@ -23,7 +23,7 @@ use Rattle.kmip_protocol.specs.Machine.{IsMirrored, Machine, Mirrors, MayTurn, A
 use Rattle.kmip_protocol.specs.Moves.{Joins}
 use Rattle.kmip_protocol.specs.Past.{Past, steps_on}
 use Rattle.kmip_protocol.specs.Headline.{step_of_ask}
-use Rattle.kmip_protocol.specs.Sound.{Opening}
+use Rattle.kmip_protocol.specs.Sound.{IsHarmless, Opening}
 use Rattle.kmip_protocol.proofs.ChangeLemmas.{place_in}
 use Rattle.kmip_protocol.proofs.MovingLemmas.{same_key}
 use Rattle.kmip_protocol.proofs.SafeLemmas.{first_or_later, same_step}
@@ -90,15 +90,16 @@ asked_push : (keys : List Key) (requests : List Request) (request : Request)
     → filter_map (pair_asked keys) (requests ++ request ∷ []) ≡ filter_map (pair_asked keys) requests ++ cons_option (pair_asked keys request) []
 asked_push keys requests request = filter_map-append (pair_asked keys) requests (request ∷ [])
 
-mirrored_for : (keys : List Key) (p : Past) (request : Request) (found : Option Step) → IsMirrored keys p → Justified keys p.objects request
+mirrored_for : (keys : List Key) (p : Past) (request : Request) (found : Option Step) → IsMirrored keys p → IsHarmless keys p.objects request
     → step_of_ask request.ask ≡ found → IsMirrored keys (with_request request p)
-mirrored_for keys p request None image just is =
+mirrored_for keys p request None image may is =
     no_more keys p (with_request request p) image (λ key planned. refl)
     (sym (asked_push keys p.requests request
     ∙ ap (λ found. filter_map (pair_asked keys) p.requests ++ cons_option found []) (pair_none keys request is)
     ∙ append-nil (filter_map (pair_asked keys) p.requests)))
     refl
-mirrored_for keys p request (Some step) image just is =
+mirrored_for keys p request (Some step) image (inr beside) is = let t : None ≡ Some step = sym beside.no_step ∙ is in absurd cc
+mirrored_for keys p request (Some step) image (inl just) is =
     let key = just.key in
     let m = after_turns image.turns at_start in
     let mirrors = image.image in
@@ -114,13 +115,13 @@ mirrored_for keys p request (Some step) image just is =
       moved = mirrors.moved;
     })
 
-pub mirrored_requests : (keys : List Key) (p : Past) (more : List Request) → IsMirrored keys p → All (Justified keys p.objects) more
+pub mirrored_requests : (keys : List Key) (p : Past) (more : List Request) → IsMirrored keys p → All (IsHarmless keys p.objects) more
     → IsMirrored keys (record p { requests = p.requests ++ more })
-mirrored_requests keys p [] image just =
+mirrored_requests keys p [] image may =
     no_more keys p (record p { requests = p.requests ++ [] }) image (λ key planned. refl) (ap (filter_map (pair_asked keys)) (sym (append-nil p.requests))) refl
-mirrored_requests keys p (request ∷ more) image just =
-    let one = mirrored_for keys p request (step_of_ask request.ask) image (All-head (Justified keys p.objects) request more just) refl in
-    let all = mirrored_requests keys (with_request request p) more one (All-tail (Justified keys p.objects) request more just) in
+mirrored_requests keys p (request ∷ more) image may =
+    let one = mirrored_for keys p request (step_of_ask request.ask) image (All-head (IsHarmless keys p.objects) request more may) refl in
+    let all = mirrored_requests keys (with_request request p) more one (All-tail (IsHarmless keys p.objects) request more may) in
     no_more keys (record p { requests = (p.requests ++ request ∷ []) ++ more }) (record p { requests = p.requests ++ request ∷ more }) all (λ key planned. refl)
     (ap (filter_map (pair_asked keys)) (append_assoc p.requests (request ∷ []) more)) refl
 

@@ -1,15 +1,16 @@
--- What happens over a link among other clients of the plan: between two moments they may ask what is justified.
+-- What happens over a link among other clients of the plan: between two moments they may ask what is justified,
+-- or look.
 -- Source: own (view), over KMIP 2.1, Operations. What others may do is own (choice).
 use Rattle.std.specs.Prelude.{[], ◌∷◌, ◌≡◌, ◌⊎◌, Err, IfSome, List, None, Ok, Option, Result, ⊤, ℕ}
 use Rattle.std.specs.List.{All}
 use Rattle.kmip_batch_items.specs.declared.request.Request.{Request}
-use Rattle.kmip_client.specs.Justified.{Justified}
 use Rattle.kmip_plan.specs.declared.key.Key.{Key}
 use Rattle.kmip_protocol.specs.declared.link_fault.LinkFault.{LinkFault}
 use Rattle.kmip_protocol.specs.declared.link_fault.LinkFault.TheVariants.{Frame, Io, NoMemory}
 use Rattle.kmip_protocol.specs.Exchanges.{AreGiven, with_asked, with_exchange, with_requests}
 use Rattle.kmip_protocol.specs.Moves.{MayHappen, Move, after_move}
 use Rattle.kmip_protocol.specs.Past.{Past, is_planned}
+use Rattle.kmip_protocol.specs.Sound.{IsHarmless}
 
 -- What may happen meanwhile.
 pub data Meanwhile : Type 0 where
@@ -23,9 +24,9 @@ abbrev pub after_meanwhile : Meanwhile → Past → Past
 after_meanwhile (OthersAsk requests) p = with_requests requests p
 after_meanwhile (Occurs move) p = after_move move p
 
--- When it may happen. Others ask what may be asked, as a client that knows the truth does.
+-- When it may happen. Others ask what may be asked, as a client that knows the truth does, or they look.
 abbrev pub MayBe : List Key → Meanwhile → Past → Type 0
-MayBe keys (OthersAsk requests) p = All (Justified keys p.objects) requests
+MayBe keys (OthersAsk requests) p = All (IsHarmless keys p.objects) requests
 MayBe keys (Occurs move) p = MayHappen (is_planned keys) move p
 
 -- All of it may happen, one after the other.

@@ -1,7 +1,6 @@
 -- What holds of all that may happen over a link among other clients of the plan.
 -- Source: own (law).
 use Rattle.std.specs.Prelude.{List, Option, Result, ℕ}
-use Rattle.kmip_client.specs.Justified.{JustifiedMessage}
 use Rattle.kmip_client.specs.Places.{Onward}
 use Rattle.kmip_plan.specs.declared.key.Key.{Key}
 use Rattle.kmip_protocol.specs.declared.link_fault.LinkFault.{LinkFault}
@@ -10,7 +9,7 @@ use Rattle.kmip_protocol.specs.Exchanges.{Exchanged}
 use Rattle.kmip_protocol.specs.Machine.{IsMirrored}
 use Rattle.kmip_protocol.specs.Moves.{Delivered}
 use Rattle.kmip_protocol.specs.Past.{Past, is_planned}
-use Rattle.kmip_protocol.specs.Sound.{Sound}
+use Rattle.kmip_protocol.specs.Sound.{HarmlessMessage, Sound}
 
 -- from a sound past, whatever happens and others ask, the past after it is sound, and the objects go onward
 abbrev pub PassingAmidKeepsSound : Type 0
@@ -27,14 +26,14 @@ PassingAmidKeepsTheImage =
 abbrev pub ExchangesAmidKeepSound : Type 0
 ExchangesAmidKeepSound =
     (keys : List Key) (old new : Past) (sent : List ℕ) (answer : Result (Option (List ℕ)) LinkFault) → Sound keys old
-    → JustifiedMessage keys old.objects sent → ExchangedAmid keys old sent answer new
+    → HarmlessMessage keys old.objects sent → ExchangedAmid keys old sent answer new
     → Sound keys new × Onward keys old.objects new.objects
 
 -- an exchange among others keeps a sound past an image, where its requests may be asked
 abbrev pub ExchangesAmidKeepTheImage : Type 0
 ExchangesAmidKeepTheImage =
     (keys : List Key) (old new : Past) (sent : List ℕ) (answer : Result (Option (List ℕ)) LinkFault) → Sound keys old
-    → IsMirrored keys old → JustifiedMessage keys old.objects sent → ExchangedAmid keys old sent answer new
+    → IsMirrored keys old → HarmlessMessage keys old.objects sent → ExchangedAmid keys old sent answer new
     → IsMirrored keys new
 
 -- nothing may pass among others
@@ -57,7 +56,7 @@ PassingIsBlind =
 abbrev pub ExchangesPass : Type 0
 ExchangesPass =
     (keys : List Key) (old new : Past) (sent : List ℕ) (answer : Result (Option (List ℕ)) LinkFault)
-    → JustifiedMessage keys old.objects sent → ExchangedAmid keys old sent answer new
+    → HarmlessMessage keys old.objects sent → ExchangedAmid keys old sent answer new
     → PassedAmid keys (seen_by_others old) (seen_by_others new)
 
 -- what may happen where nobody else asks, may happen among others

@@ -11,7 +11,6 @@ use Rattle.kmip_plan.specs.Chains.{step_place}
 use Rattle.kmip_plan.specs.Plans.{IsLawful, IsPlanned}
 use Rattle.kmip_plan.specs.Prolonging.{Prolongs}
 use Rattle.kmip_plan.specs.declared.key.Key.{Key}
-use Rattle.kmip_client.specs.Justified.{Justified, JustifiedMessage}
 use Rattle.kmip_client.specs.Places.{Onward, position}
 use Rattle.kmip_client.specs.Truth.{TrueMessage}
 use Rattle.kmip_batch_items.specs.declared.refusal.Refusal.{Refusal}
@@ -25,7 +24,7 @@ use Rattle.kmip_server.specs.Effects.{effect_of}
 use Rattle.kmip_protocol.specs.Moves.{Delivered, Joins}
 use Rattle.kmip_protocol.specs.Past.{AreAmong, Past, Names, is_planned}
 use Rattle.kmip_protocol.specs.Headline.{Safe}
-use Rattle.kmip_protocol.specs.Sound.{NoneIsFurther, Sound, Opening}
+use Rattle.kmip_protocol.specs.Sound.{HarmlessMessage, IsHarmless, NoneIsFurther, Sound, Opening}
 
 -- from a sound past, whatever happens, the objects go onward for each key
 abbrev pub ObjectsGoOnward : Type 0
@@ -38,10 +37,10 @@ abbrev pub DeliveriesKeepSound : Type 0
 DeliveriesKeepSound =
     (keys : List Key) (old new : Past) → Sound keys old → Delivered (is_planned keys) old new → Sound keys new
 
--- a past stays sound when requests join those asked, where each of them may be asked
+-- a past stays sound when requests join those asked, if each of them may be asked or is beside the plan
 abbrev pub AskingKeepsSound : Type 0
 AskingKeepsSound =
-    (keys : List Key) (p : Past) (requests : List Request) → Sound keys p → All (Justified keys p.objects) requests
+    (keys : List Key) (p : Past) (requests : List Request) → Sound keys p → All (IsHarmless keys p.objects) requests
     → Sound keys (with_requests requests p)
 
 -- an exchange over an honest link keeps a past sound where its requests may be asked, whether it has an
@@ -49,7 +48,7 @@ AskingKeepsSound =
 abbrev pub ExchangesKeepSound : Type 0
 ExchangesKeepSound =
     (keys : List Key) (old new : Past) (sent : List ℕ) (answer : Result (Option (List ℕ)) LinkFault) → Sound keys old
-    → JustifiedMessage keys old.objects sent → Exchanged (is_planned keys) old sent answer new
+    → HarmlessMessage keys old.objects sent → Exchanged (is_planned keys) old sent answer new
     → Sound keys new × Onward keys old.objects new.objects
 
 -- of a sound past, a message whose replies were all given is true
@@ -79,7 +78,7 @@ OpeningIsMirrored = (keys : List Key) (p : Past) → Opening keys p → IsMirror
 -- an image stays one when the requests of a message join those asked, where each of them may be asked
 abbrev pub AskingKeepsTheImage : Type 0
 AskingKeepsTheImage =
-    (keys : List Key) (p : Past) (sent : List ℕ) → IsMirrored keys p → JustifiedMessage keys p.objects sent
+    (keys : List Key) (p : Past) (sent : List ℕ) → IsMirrored keys p → HarmlessMessage keys p.objects sent
     → IsMirrored keys (with_asked sent p)
 
 -- from a sound past that is an image, whatever happens, the past after it is an image
@@ -92,7 +91,7 @@ DeliveriesKeepTheImage =
 abbrev pub ExchangesKeepTheImage : Type 0
 ExchangesKeepTheImage =
     (keys : List Key) (old new : Past) (sent : List ℕ) (answer : Result (Option (List ℕ)) LinkFault) → Sound keys old
-    → IsMirrored keys old → JustifiedMessage keys old.objects sent → Exchanged (is_planned keys) old sent answer new
+    → IsMirrored keys old → HarmlessMessage keys old.objects sent → Exchanged (is_planned keys) old sent answer new
     → IsMirrored keys new
 
 -- what may happen in turn may happen in one

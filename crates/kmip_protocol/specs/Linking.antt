@@ -1,7 +1,6 @@
 -- What an exchange over a link and the end of a run promise.
 -- Source: own (view).
 use Rattle.std.specs.Prelude.{Err, IfErr, List, None, Ok, Option, Result, length, ℕ, ◌<◌, ◌≡◌, ◌≤◌}
-use Rattle.kmip_client.specs.Justified.{JustifiedMessage}
 use Rattle.kmip_plan.specs.declared.key.Key.{Key}
 use Rattle.kmip_protocol.specs.Amid.{ExchangedAmid, PassedAmid}
 use Rattle.kmip_protocol.specs.Calm.{CalmlyEnded, CalmlyExchanged}
@@ -13,7 +12,7 @@ use Rattle.kmip_protocol.specs.Losses.{IsInMemory}
 use Rattle.kmip_protocol.specs.Moves.{Delivered}
 use Rattle.kmip_protocol.specs.Past.{Names}
 use Rattle.kmip_protocol.specs.Seen.{Seen}
-use Rattle.kmip_protocol.specs.Sound.{Sound}
+use Rattle.kmip_protocol.specs.Sound.{HarmlessMessage, Sound}
 use Rattle.kmip_protocol.specs.declared.link_fault.LinkFault.{LinkFault}
 use Rattle.kmip_protocol.specs.declared.link_fault.LinkFault.TheVariants as faults
 
@@ -56,7 +55,7 @@ pub record MakesExchange {A : Type 0} (bytes : A → List ℕ) (old : Seen) (req
   -- happen and be asked by others happens. Then nothing is handed over, or a message whose replies were all given
   -- some time. Where memory ran out, it is a beginning of this. The link is honest among others after it. The
   -- others rely on whoever sends: all of this is so where the past is sound, and the message may be asked.
-  pub amid : (keys : List Key) → old.amid keys → Sound keys old.past → JustifiedMessage keys old.past.objects request
+  pub amid : (keys : List Key) → old.amid keys → Sound keys old.past → HarmlessMessage keys old.past.objects request
       → new.amid keys × ExchangedAmid keys old.past request (answer_in bytes answered) new.past
   -- Over a link that is calm for some names, both of this hold.
   pub calmly : (names : Names) → old.calm names

@@ -1,7 +1,7 @@
 -- What holds of all that was ever asked, answered and done, for the keys of a plan; and where nothing of the
 -- plan has happened.
--- Source: own (law); `NoneIsFurther` and `Opening` are own (view).
-use Rattle.std.specs.Prelude.{◌≡◌, ◌⊎◌, ◌≤◌, ℕ, List, [], take, Some, None, IsTrue}
+-- Source: own (law); `IsBeside`, `NoneIsFurther` and `Opening` are own (view).
+use Rattle.std.specs.Prelude.{◌≡◌, ◌≢◌, ◌⊎◌, ◌≤◌, ℕ, true, List, [], ◌∷◌, take, Some, None, IsTrue}
 use Rattle.std.specs.List.{All, Contains}
 use Rattle.kmip_objects.specs.Objects.{Object, object_named, DistinctNames, DistinctUids}
 use Rattle.kmip_batch_items.specs.Operations.{operation_of}
@@ -9,11 +9,13 @@ use Rattle.kmip_objects.specs.Ranges.{is_identifier}
 use Rattle.kmip_batch_items.specs.declared.reply.Reply.{Reply}
 use Rattle.kmip_batch_items.specs.declared.request.Request.{Request}
 use Rattle.kmip_plan.specs.Chains.{chain, place_reached}
-use Rattle.kmip_plan.specs.Plans.{IsPlanned, key_named}
+use Rattle.kmip_plan.specs.Plans.{IsPlanned, key_fits, key_named}
 use Rattle.kmip_plan.specs.declared.key.Key.{Key}
 use Rattle.kmip_client.specs.Justified.{Justified}
 use Rattle.kmip_client.specs.Places.{position}
 use Rattle.kmip_client.specs.Truth.{TrueReply}
+use Rattle.kmip_messages.specs.Items.{requests_in}
+use Rattle.kmip_protocol.specs.Headline.{step_of_ask}
 use Rattle.kmip_protocol.specs.Moves.{HasFailed}
 use Rattle.kmip_protocol.specs.Past.{Past, steps_on}
 
@@ -35,6 +37,21 @@ pub record EffectsAreFirst (keys : List Key) (p : Past) : Type 0 where
   pub planned : (key : Key) → IsPlanned keys key → steps_on key.attrs.name p.effects ≡ take (position key p.objects) (chain key.target)
   pub no_others : (name : List ℕ) → key_named name keys ≡ None → steps_on name p.effects ≡ []
 
+-- The request asks for no step, and its id is that of no key: neither of one of this plan, nor of one that any
+-- plan may have. The questions of a look are such requests.
+pub record IsBeside (keys : List Key) (request : Request) : Type 0 where
+  pub no_step : step_of_ask request.ask ≡ None
+  pub no_key : (operation : ℕ) (key : Key) → IsPlanned keys key ⊎ (key_fits key ≡ true)
+      → request.id ≢ Some (operation ∷ key.attrs.name)
+
+-- The request may be asked of a key of the plan, or it is beside the plan.
+abbrev pub IsHarmless : List Key → List Object → Request → Type 0
+IsHarmless keys objects request = Justified keys objects request ⊎ IsBeside keys request
+
+-- So may each request in a message.
+abbrev pub HarmlessMessage : List Key → List Object → List ℕ → Type 0
+HarmlessMessage keys objects sent = All (IsHarmless keys objects) (requests_in sent)
+
 -- The reply has the operation and the id of a request that was ever asked.
 pub record Echoes (requests : List Request) (reply : Reply) : Type 0 where
   pub request : Request
@@ -48,14 +65,14 @@ pub record TrueAnswer (keys : List Key) (objects : List Object) (requests : List
   pub echoes : HasFailed reply.outcome ⊎ Echoes requests reply
 
 -- Names and identifiers are distinct, and the object of each planned name is the plan's. The effects on it
--- are the first steps of its chain. Each request ever asked may be asked still, and each reply ever given is
--- true.
+-- are the first steps of its chain. Each request ever asked may be asked still, or is beside the plan. Each
+-- reply ever given is true.
 pub record Sound (keys : List Key) (p : Past) : Type 0 where
   pub names : DistinctNames p.objects
   pub uids : DistinctUids p.objects
   pub objects : HasItsObjects keys p.objects
   pub effects : EffectsAreFirst keys p
-  pub requests : All (Justified keys p.objects) p.requests
+  pub requests : All (IsHarmless keys p.objects) p.requests
   pub replies : All (TrueAnswer keys p.objects p.requests) p.replies
 
 -- No name that only the new plan has is on an object.
