@@ -6,12 +6,11 @@ use Rattle.std.specs.List.{All}
 use Rattle.std.specs.Option.{is_none, option_map_or}
 use Rattle.std.proofs.lemmas.List.Folds.{list_any-append}
 use Rattle.kmip_batch_items.specs.declared.request.Request.{Request}
-use Rattle.kmip_client.specs.Asking.{IsAbout}
+use Rattle.kmip_client.specs.Asking.{IsAbout, requests_at}
 use Rattle.kmip_client.specs.Clients.{changed_at, fresh, lost_working, one_if, verdict_at}
 use Rattle.kmip_client.specs.Hearing.{hear}
 use Rattle.kmip_client.specs.Held.{Held}
 use Rattle.kmip_client.specs.Known.{knowns_heard}
-use Rattle.kmip_client.specs.Justified.{Justified, JustifiedMessage}
 use Rattle.kmip_client.specs.Knowledge.{chain_length}
 use Rattle.kmip_client.specs.Places.{position}
 use Rattle.kmip_client.specs.declared.hear_fault.HearFault.{HearFault}
@@ -33,13 +32,13 @@ use Rattle.kmip_protocol.specs.Losing.{is_id, is_under_way, left_all, left_of, s
 use Rattle.kmip_protocol.specs.Moves.{Delivered}
 use Rattle.kmip_protocol.specs.Needs.{need_of}
 use Rattle.kmip_protocol.specs.Past.{Names, Past, is_planned}
-use Rattle.kmip_protocol.specs.Sound.{Opening, Sound}
+use Rattle.kmip_protocol.specs.Sound.{HarmlessMessage, IsHarmless, Opening, Sound}
 use Rattle.kmip_protocol.specs.Turns.{is_unanswered, known_then, lost_each, taught_by}
 use Rattle.kmip_company.specs.Amid.{AllMayPass, Arrives, Exchanges, MayPass, OthersAsk, Passing, StandsWell, Standing}
 use Rattle.kmip_company.specs.Amid.{after_passing, after_passings, all_cost, left_amid, unasked, unasked_of, went_well}
 use Rattle.kmip_company.specs.PrivateLawbook.{Lawbook}
 use Rattle.kmip_company.proofs.EventLemmas.{held_read}
-use Rattle.kmip_company.proofs.TruthLemmas.{all_justified, held_fresh}
+use Rattle.kmip_company.proofs.TruthLemmas.{all_harmless, all_justified, held_fresh}
 
 -- ---- what nobody asked
 
@@ -205,12 +204,13 @@ asked_then l names old new sent answer handed =
     ap (λ p. p.requests) handed.is ∙ (l.exchanges.requests_stay names (with_asked sent old) handed.between
     handed.delivered).requests
 
-message_justified : Lawbook → (keys : List Key) (s : Standing) (places : List ℕ) (question : Question) → IsLawful keys
+message_harmless : Lawbook → (keys : List Key) (s : Standing) (places : List ℕ) (question : Question) → IsLawful keys
     → StandsWell keys s → IsAbout keys s.knowns places question
-    → JustifiedMessage keys s.past.objects question.bytes
-message_justified l keys s places question lawful well about =
-    subst (λ requests. All (Justified keys s.past.objects) requests) (sym about.asks)
-    (all_justified l keys s.past.objects s.knowns places lawful well.held about.works)
+    → HarmlessMessage keys s.past.objects question.bytes
+message_harmless l keys s places question lawful well about =
+    subst (λ requests. All (IsHarmless keys s.past.objects) requests) (sym about.asks)
+    (all_harmless keys s.past.objects (requests_at keys s.knowns places)
+    (all_justified l keys s.past.objects s.knowns places lawful well.held about.works))
 
 stands_well : Lawbook → (keys : List Key) (passing : Passing) (s : Standing) → IsLawful keys → StandsWell keys s
     → MayPass keys passing s → StandsWell keys (after_passing keys passing s)
@@ -223,7 +223,7 @@ stands_well l keys (Arrives past) s lawful well may = record {
 }
 stands_well l keys (Exchanges is_well places question answer past) s lawful well may =
     let kept = l.exchanges.exchanges keys s.past past question.bytes (Ok answer) well.sound
-    (message_justified l keys s places question lawful well may.0) may.1 in
+    (message_harmless l keys s places question lawful well may.0) may.1 in
     let held = l.client.known_for_good keys s.knowns s.past.objects past.objects lawful kept.1 well.held in
     record {
       sound = kept.0;

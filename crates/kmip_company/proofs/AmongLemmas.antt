@@ -8,7 +8,7 @@ use Rattle.kmip_company.specs.Companies.{AllMayOccur, Asks, Company, Event, Happ
 use Rattle.kmip_company.specs.Companies.{Reports, Resumes, Saves, SetsBatch, Starts, after_event, after_events}
 use Rattle.kmip_company.specs.PrivateLawbook.{Lawbook}
 use Rattle.kmip_company.specs.Safety.{IsGoodCompany, IsMember}
-use Rattle.kmip_company.proofs.EventLemmas.{about_there, good_event, justified_message, there}
+use Rattle.kmip_company.proofs.EventLemmas.{about_there, good_event, harmless_message, there}
 use Rattle.kmip_company.proofs.ListLemmas.{all_at}
 
 -- an event of whomever
@@ -29,7 +29,7 @@ passes_event l keys (Asks place question) w lawful may good =
     record {
       meanwhile = OthersAsk (requests_in question.bytes) ∷ [];
       may = (
-        justified_message l keys w.past.objects c question lawful m
+        harmless_message l keys w.past.objects c question lawful m
             (about_there (slice_get w.clients place) question c may is),
         tt,
       );

@@ -5,11 +5,10 @@ use Rattle.std.specs.List.{All}
 use Rattle.std.proofs.lemmas.List.Elements.{All-append, All-contains, All-nil, All-weaker}
 use Rattle.kmip_batch_items.specs.declared.message_fault.MessageFault.{MessageFault}
 use Rattle.kmip_batch_items.specs.declared.reply.Reply.{Reply}
-use Rattle.kmip_client.specs.Asking.{IsAbout, after_ask, next_places}
+use Rattle.kmip_client.specs.Asking.{IsAbout, after_ask, next_places, requests_at}
 use Rattle.kmip_client.specs.Clients.{ClientState, fresh, lost_at, verdict_at}
 use Rattle.kmip_client.specs.Hearing.{hear_all}
 use Rattle.kmip_client.specs.Held.{Held, TrueProgress}
-use Rattle.kmip_client.specs.Justified.{Justified, JustifiedMessage}
 use Rattle.kmip_client.specs.Known.{heard, knowns_heard}
 use Rattle.kmip_client.specs.Places.{Onward}
 use Rattle.kmip_client.specs.Saving.{progress, resume}
@@ -32,7 +31,7 @@ use Rattle.kmip_protocol.specs.Moves.{Delivered, MayHappen, Move, after_move}
 use Rattle.kmip_protocol.specs.Needs.{missing}
 use Rattle.kmip_protocol.specs.Past.{Past, is_planned}
 use Rattle.kmip_protocol.specs.Ready.{IsReady}
-use Rattle.kmip_protocol.specs.Sound.{Sound}
+use Rattle.kmip_protocol.specs.Sound.{HarmlessMessage, IsHarmless, Sound}
 use Rattle.kmip_runs.specs.Headline.{reported_by}
 use Rattle.kmip_server.specs.declared.effect.Effect.{Effect}
 use Rattle.kmip_company.specs.Companies.{AllMayOccur, Asks, Company, Event, Happens, Hears, Leaves, Loses, MayAskNext}
@@ -41,7 +40,7 @@ use Rattle.kmip_company.specs.Companies.{after_events, if_there, joined_by, nobo
 use Rattle.kmip_company.specs.PrivateLawbook.{Lawbook}
 use Rattle.kmip_company.specs.Safety.{IsGoodCompany, IsMember, IsSafeCompany, all_reported}
 use Rattle.kmip_company.proofs.ListLemmas.{all_and, all_at, all_flat, all_set, all_without}
-use Rattle.kmip_company.proofs.TruthLemmas.{all_justified, all_reached, counts_reached, held_again, held_fresh}
+use Rattle.kmip_company.proofs.TruthLemmas.{all_harmless, all_justified, all_reached, counts_reached, held_again, held_fresh}
 use Rattle.kmip_company.proofs.TruthLemmas.{saved_reached, true_of_held, true_still}
 
 -- ---- the objects go onward
@@ -105,14 +104,15 @@ there P (Some a) f w none some = some a refl
 
 -- ---- what is asked
 
-pub justified_message : Lawbook → (keys : List Key) (objects : List Object) (c : ClientState) (question : Question)
+pub harmless_message : Lawbook → (keys : List Key) (objects : List Object) (c : ClientState) (question : Question)
     → IsLawful keys → IsMember keys objects c
-    → IsAbout c.keys c.knowns (next_places c) question → JustifiedMessage keys objects question.bytes
-justified_message l keys objects c question lawful m about =
+    → IsAbout c.keys c.knowns (next_places c) question → HarmlessMessage keys objects question.bytes
+harmless_message l keys objects c question lawful m about =
     let about : IsAbout keys c.knowns (next_places c) question = subst
     (λ ks. IsAbout ks c.knowns (next_places c) question) m.keys_are about in
-    subst (λ requests. All (Justified keys objects) requests) (sym about.asks)
-    (all_justified l keys objects c.knowns (next_places c) lawful m.held about.works)
+    subst (λ requests. All (IsHarmless keys objects) requests) (sym about.asks)
+    (all_harmless keys objects (requests_at keys c.knowns (next_places c))
+    (all_justified l keys objects c.knowns (next_places c) lawful m.held about.works))
 
 abbrev some_client : ClientState → Option ClientState
 some_client x = Some x
@@ -133,7 +133,7 @@ good_asked : Lawbook → (keys : List Key) (w : Company) (place : ℕ) (c : Clie
 good_asked l keys w place c question lawful good is about =
     let m = all_at (IsMember keys w.past.objects) w.clients place c good.members is in
     let sound = l.exchanges.asking keys w.past (requests_in question.bytes) good.sound
-    (justified_message l keys w.past.objects c question lawful m about) in
+    (harmless_message l keys w.past.objects c question lawful m about) in
     let asked = good_on l keys w (with_asked question.bytes w.past) lawful sound (l.client.itself keys w.past.objects)
     good in
     good_client keys (record w { past = with_asked question.bytes w.past }) place (after_ask c) asked
@@ -285,7 +285,7 @@ image_event l keys (Asks place question) w lawful may good image =
     (λ c is.
     let m = all_at (IsMember keys w.past.objects) w.clients place c good.members is in
     l.exchanges.image_asked keys w.past question.bytes image
-    (justified_message l keys w.past.objects c question lawful m
+    (harmless_message l keys w.past.objects c question lawful m
     (about_there (slice_get w.clients place) question c may is)))
 image_event l keys (Happens move) w lawful may good image =
     l.exchanges.image_delivered keys w.past (after_move move w.past) good.sound image (one_move keys move w.past may)

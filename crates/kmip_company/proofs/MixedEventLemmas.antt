@@ -4,10 +4,9 @@ use Rattle.std.proofs.Common.{slice_get, Some, subst, sym, true, ℕ, if◌then�
 use Rattle.std.specs.List.{All}
 use Rattle.std.specs.Option.{option_map_or}
 use Rattle.std.proofs.lemmas.List.Elements.{All-append, All-contains, All-nil, All-weaker}
-use Rattle.kmip_client.specs.Asking.{IsAbout, after_ask, next_places}
+use Rattle.kmip_client.specs.Asking.{IsAbout, after_ask, next_places, requests_at}
 use Rattle.kmip_client.specs.Clients.{ClientState, fresh, lost_at, verdict_at}
 use Rattle.kmip_client.specs.Held.{TrueOf}
-use Rattle.kmip_client.specs.Justified.{Justified, JustifiedMessage}
 use Rattle.kmip_client.specs.Known.{heard}
 use Rattle.kmip_client.specs.Knowledge.{chain_length, clash_verdict, verdict_of}
 use Rattle.kmip_client.specs.Places.{Onward}
@@ -30,7 +29,7 @@ use Rattle.kmip_protocol.specs.Laws.{IsReached}
 use Rattle.kmip_protocol.specs.Machine.{IsMirrored}
 use Rattle.kmip_protocol.specs.Moves.{MayHappen, Move, after_move}
 use Rattle.kmip_protocol.specs.Past.{Past, is_planned}
-use Rattle.kmip_protocol.specs.Sound.{Sound}
+use Rattle.kmip_protocol.specs.Sound.{HarmlessMessage, IsHarmless, Sound}
 use Rattle.kmip_runs.specs.Headline.{reported_by}
 use Rattle.kmip_server.specs.declared.effect.Effect.{Effect}
 use Rattle.kmip_company.specs.Companies.{Asks, Company, Event, Happens, Hears, Leaves, Loses, MayOccur, Reports}
@@ -42,6 +41,7 @@ use Rattle.kmip_company.specs.Safety.{all_reported}
 use Rattle.kmip_company.proofs.EventLemmas.{about_there, one_move, reached_on, there}
 use Rattle.kmip_company.proofs.ListLemmas.{all_and, all_at, all_flat, all_set, all_without}
 use Rattle.kmip_company.proofs.MixedAskLemmas.{counts_reached, known_counted, older_justified, saved_counted}
+use Rattle.kmip_company.proofs.TruthLemmas.{all_harmless}
 use Rattle.kmip_company.proofs.MixedMemberLemmas.{knows_again, knows_lost, knows_nothing, knows_on, knows_read}
 use Rattle.kmip_company.proofs.MixedMemberLemmas.{saved_on, saves_true}
 
@@ -88,12 +88,13 @@ member_at keys w place c good is = all_at (IsOlderMember keys w.past.objects) w.
 
 -- ---- what is asked
 
-message_justified : Lawbook → (keys : List Key) (objects : List Object) (c : ClientState) (question : Question)
+harmless_message : Lawbook → (keys : List Key) (objects : List Object) (c : ClientState) (question : Question)
     → IsLawful keys → IsOlderMember keys objects c
-    → IsAbout c.keys c.knowns (next_places c) question → JustifiedMessage keys objects question.bytes
-message_justified l keys objects c question lawful m about =
-    subst (λ requests. All (Justified keys objects) requests) (sym about.asks)
-    (older_justified l keys objects c.keys c.knowns (next_places c) lawful m about.works)
+    → IsAbout c.keys c.knowns (next_places c) question → HarmlessMessage keys objects question.bytes
+harmless_message l keys objects c question lawful m about =
+    subst (λ requests. All (IsHarmless keys objects) requests) (sym about.asks)
+    (all_harmless keys objects (requests_at c.keys c.knowns (next_places c))
+    (older_justified l keys objects c.keys c.knowns (next_places c) lawful m about.works))
 
 good_asked : Lawbook → (keys : List Key) (w : Company) (place : ℕ) (c : ClientState) (question : Question)
     → IsLawful keys → IsGoodMixed keys w
@@ -102,7 +103,7 @@ good_asked : Lawbook → (keys : List Key) (w : Company) (place : ℕ) (c : Clie
 good_asked l keys w place c question lawful good is about =
     let m = member_at keys w place c good is in
     let sound = l.exchanges.asking keys w.past (requests_in question.bytes) good.sound
-    (message_justified l keys w.past.objects c question lawful m about) in
+    (harmless_message l keys w.past.objects c question lawful m about) in
     let asked = good_on l keys w (with_asked question.bytes w.past) lawful sound (l.client.itself keys w.past.objects)
     good in
     good_client keys (record w { past = with_asked question.bytes w.past }) place (after_ask c) asked m
@@ -235,7 +236,7 @@ image_event l keys e w lawful may good image =
     past_event keys e w (IsMirrored keys) may image
     (λ c question place is about.
     l.exchanges.image_asked keys w.past question.bytes image
-    (message_justified l keys w.past.objects c question lawful (member_at keys w place c good is) about))
+    (harmless_message l keys w.past.objects c question lawful (member_at keys w place c good is) about))
     (λ move happens. l.exchanges.image_delivered keys w.past (after_move move w.past) good.sound image
     (one_move keys move w.past happens))
 
@@ -246,7 +247,7 @@ passes_event l keys e w lawful may good =
     past_event keys e w (PassedAmid keys w.past) may (l.amid.nothing keys w.past)
     (λ c question place is about. record {
       meanwhile = OthersAsk (requests_in question.bytes) ∷ [];
-      may = (message_justified l keys w.past.objects c question lawful (member_at keys w place c good is) about, tt);
+      may = (harmless_message l keys w.past.objects c question lawful (member_at keys w place c good is) about, tt);
       is = refl;
     })
     (λ move happens. record { meanwhile = Occurs move ∷ []; may = (happens, tt); is = refl })

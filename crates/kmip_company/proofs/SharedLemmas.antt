@@ -7,7 +7,6 @@ use Rattle.std.specs.Prelude.{⊤}
 use Rattle.kmip_batch_items.specs.declared.reply.Reply.{Reply}
 use Rattle.kmip_client.specs.Clients.{ClientState, NoneWorks}
 use Rattle.kmip_client.specs.Held.{Held}
-use Rattle.kmip_client.specs.Justified.{JustifiedMessage}
 use Rattle.kmip_client.specs.Laws.{HeldForGood}
 use Rattle.kmip_client.specs.Places.{Onward}
 use Rattle.kmip_client.specs.Verdicts.{counts_of}
@@ -26,7 +25,7 @@ use Rattle.kmip_protocol.specs.Moves.{Changes, Comes, Refuse, Serve, Unanswered}
 use Rattle.kmip_protocol.specs.Headline.{Safe}
 use Rattle.kmip_protocol.specs.Past.{Names, Past, is_planned, steps_on}
 use Rattle.kmip_protocol.specs.Seen.{Seen}
-use Rattle.kmip_protocol.specs.Sound.{Sound}
+use Rattle.kmip_protocol.specs.Sound.{HarmlessMessage, Sound}
 use Rattle.kmip_protocol.specs.declared.link_fault.LinkFault.TheVariants.{NoMemory}
 use Rattle.kmip_runs.specs.Driving.{IsBorneOut, IsGood}
 use Rattle.kmip_runs.specs.Headline.{reported_by}
@@ -156,16 +155,16 @@ pub record BothPassed (keys : List Key) (request : List ℕ) (answer : Option (L
 pub both_passed : HeldForGood → ExchangesAmidKeepSound → PassingIsBlind → PassingJoins
     → (keys : List Key) (old mid new : Sharing) (request : List ℕ) (answer : Option (List ℕ))
     → IsLawful keys → AreTogether keys old → Sound keys (past_of old)
-    → JustifiedMessage keys (past_of old).objects request
+    → HarmlessMessage keys (past_of old).objects request
     → HandsOverAmid keys (past_in old.scene) request answer (past_in mid.scene) → mid.other ≡ old.other
     → mid.sent ≡ old.sent → mid.handed ≡ old.handed
     → (AreTogether keys mid → Sound keys (past_of mid) → AreTogether keys new)
     → (AreTogether keys mid → Sound keys (past_of mid) → PassedAmid keys (past_of mid) (past_of new))
     → BothPassed keys request answer old new
-both_passed for_good keeps blind joins keys old mid new request answer lawful together sound just hands other_stays
+both_passed for_good keeps blind joins keys old mid new request answer lawful together sound may hands other_stays
     sent_stays handed_stays still passes =
     let first = own_passed blind keys old mid request answer sent_stays handed_stays hands in
-    let kept = keeps keys (past_of old) (past_of mid) request (Err NoMemory) sound just (inr first) in
+    let kept = keeps keys (past_of old) (past_of mid) request (Err NoMemory) sound may (inr first) in
     let meanwhile = together_on for_good keys old mid lawful kept.1 other_stays together in
     let second = passes meanwhile kept.0 in
     let given : IfSome answer (AreGiven (past_of mid)) = subst (λ p. IfSome answer (AreGiven p)) (sym hands.is)

@@ -1,8 +1,8 @@
 -- What is known and saved is true, and stays so; and what is counted was reached.
 use Rattle.std.proofs.Common.{◌≡◌, ◌<◌, ◌≤◌, List, None, Option, Some, [], ◌∷◌, arith, map, refl, slice_get, subst, suc}
-use Rattle.std.proofs.Common.{take, zero, ℕ}
+use Rattle.std.proofs.Common.{take, zero, ℕ, inl}
 use Rattle.std.specs.List.{All, AllZip}
-use Rattle.std.proofs.lemmas.List.Elements.{All-append, All-cons, All-head, All-nil, All-tail}
+use Rattle.std.proofs.lemmas.List.Elements.{All-append, All-cons, All-head, All-nil, All-tail, All-weaker}
 use Rattle.kmip_client.specs.Asking.{at_place, requests_at}
 use Rattle.kmip_client.specs.Clients.{WorksAt, fresh}
 use Rattle.kmip_client.specs.Held.{Held, IsHeld, TrueProgress}
@@ -23,6 +23,7 @@ use Rattle.kmip_plan.specs.declared.target.Target.{Target}
 use Rattle.kmip_progress.specs.declared.known.Known.{Known}
 use Rattle.kmip_protocol.specs.Laws.{IsReached}
 use Rattle.kmip_protocol.specs.Past.{Past}
+use Rattle.kmip_protocol.specs.Sound.{IsHarmless}
 use Rattle.kmip_runs.specs.Headline.{reported_by, steps_counted}
 use Rattle.kmip_company.specs.PrivateLawbook.{Lawbook}
 
@@ -175,6 +176,12 @@ held_at objects (k ∷ keys) (x ∷ knowns) (suc place) key known held here ther
 pub asked_there : (keys : List Key) (knowns : List Knowledge) (place : ℕ) (w : WorksAt keys knowns place)
     → at_place (λ place key known. request_about key known) keys knowns place ≡ Some (request_about w.key w.known)
 asked_there keys knowns place w = rw (w.key_is, w.known_is) refl
+
+-- what may be asked does no harm
+pub all_harmless : (keys : List Key) (objects : List Object) (requests : List Request) → All (Justified keys objects) requests
+    → All (IsHarmless keys objects) requests
+all_harmless keys objects requests just =
+    All-weaker (Justified keys objects) (IsHarmless keys objects) (λ request one. inl one) requests just
 
 -- what a client that knows the truth asks may be asked
 pub all_justified : Lawbook → (keys : List Key) (objects : List Object) (knowns : List Knowledge) (places : List ℕ)

@@ -6,7 +6,6 @@ use Rattle.std.specs.List.{All}
 use Rattle.kmip_batch_items.specs.declared.request.Request.{Request}
 use Rattle.kmip_client.specs.Asking.{IsAbout}
 use Rattle.kmip_client.specs.Held.{Held}
-use Rattle.kmip_client.specs.Justified.{Justified}
 use Rattle.kmip_client.specs.declared.knowledge.Knowledge.{Knowledge}
 use Rattle.kmip_client.specs.declared.question.Question.{Question}
 use Rattle.kmip_plan.specs.Chains.{chain}
@@ -16,7 +15,7 @@ use Rattle.kmip_protocol.specs.Exchanges.{HandsOver, with_requests}
 use Rattle.kmip_protocol.specs.Losing.{left_all, was_asked}
 use Rattle.kmip_protocol.specs.Moves.{Delivered}
 use Rattle.kmip_protocol.specs.Past.{Past, is_planned}
-use Rattle.kmip_protocol.specs.Sound.{Sound}
+use Rattle.kmip_protocol.specs.Sound.{IsHarmless, Sound}
 use Rattle.kmip_protocol.specs.Turns.{known_then}
 
 -- What one client knows at a moment, and all that has happened by then.
@@ -44,9 +43,9 @@ abbrev pub IsWell : Bool → Type 0 → Type 0
 IsWell true clean = clean
 IsWell false clean = ⊤
 
--- When it may pass. Others ask what may be asked. An exchange is one over an honest link.
+-- When it may pass. Others ask what may be asked, or look. An exchange is one over an honest link.
 abbrev pub MayPass : List Key → Passing → Standing → Type 0
-MayPass keys (OthersAsk requests) s = All (Justified keys s.past.objects) requests
+MayPass keys (OthersAsk requests) s = All (IsHarmless keys s.past.objects) requests
 MayPass keys (Arrives past) s = Delivered (is_planned keys) s.past past
 MayPass keys (Exchanges well places question answer past) s =
     IsAbout keys s.knowns places question

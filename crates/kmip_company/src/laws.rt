@@ -64,7 +64,7 @@ pub fn good_companies_stay_good()
     ensures safe { GoodIsSafe }
     // What anybody of a good company saved suits the plan, so that a client may begin from it.
     ensures suits { WhatIsSavedSuits }
-    // Whatever was asked by anybody may be asked still.
+    // Whatever was asked by anybody may be asked still, or is beside the plan.
     ensures justified { WhatWasAskedMayBe }
     // With room for the objects that are missing, each client is ready to come to its end over a calm link.
     ensures ready { ClientsAreReady }

@@ -25,7 +25,7 @@ use Rattle.kmip_look.proofs.HeardLemmas.{told_is_not_asked, unheard_not_told}
 
 -- ---- in their ranges
 
-name_of : (key : Key) → key_fits key ≡ true → is_name key.attrs.name ≡ true
+pub name_of : (key : Key) → key_fits key ≡ true → is_name key.attrs.name ≡ true
 name_of key fits =
     (and_parts (is_name key.attrs.name) (is_algorithm key.attrs.algorithm)
     (and_parts (is_name key.attrs.name && is_algorithm key.attrs.algorithm) (is_length key.attrs.algorithm key.attrs.length)

@@ -7,3 +7,4 @@ pub mod PastLemmas
 pub mod AloneLemmas
 pub mod GroupLemmas
 pub mod TriedLemmas
+pub mod SoundLemmas

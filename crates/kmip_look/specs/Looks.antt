@@ -8,6 +8,7 @@ use Rattle.std.specs.Option.{option_map_or}
 use Rattle.kmip_ttlv.specs.declared.no_memory.NoMemory.{NoMemory}
 use Rattle.kmip_objects.specs.Attributes.{by_name}
 use Rattle.kmip_objects.specs.Objects.{Object, DistinctUids}
+use Rattle.kmip_objects.specs.Ranges.{is_name}
 use Rattle.kmip_objects.specs.Searching.{every_state}
 use Rattle.kmip_batch_items.specs.Operations.{operation_of}
 use Rattle.kmip_batch_items.specs.declared.ask.Ask.{Ask}
@@ -15,9 +16,12 @@ use Rattle.kmip_batch_items.specs.declared.ask.Ask.TheVariants.{GetAttributes, L
 use Rattle.kmip_batch_items.specs.declared.reply.Reply.{Reply}
 use Rattle.kmip_batch_items.specs.declared.request.Request.{Request}
 use Rattle.kmip_messages.specs.Items.{requests_in}
+use Rattle.kmip_plan.specs.Plans.{IsLawful}
 use Rattle.kmip_plan.specs.declared.key.Key.{Key}
+use Rattle.kmip_client.specs.Places.{Onward}
 use Rattle.kmip_protocol.specs.Past.{Names, Past}
 use Rattle.kmip_protocol.specs.Seen.{Seen}
+use Rattle.kmip_protocol.specs.Sound.{Sound}
 use Rattle.kmip_look.specs.Moments.{WasSo}
 use Rattle.kmip_look.specs.Standings.{StandsSo, is_told}
 use Rattle.kmip_look.specs.declared.looked.Looked.{Looked}
@@ -81,6 +85,25 @@ IsTried mark old new key looked =
 -- It is told how the key stands over these objects.
 abbrev pub IsToldOf : List Object → Key → Looked → Type 0
 IsToldOf objects key looked = (is_told looked.known ≡ true) × StandsSo objects key looked
+
+-- No name of a key begins with the mark. So an id with the mark is that of no key.
+abbrev pub BeginsNoName : List ℕ → Type 0
+BeginsNoName mark = (rest : List ℕ) → is_name (mark ++ rest) ≡ false
+
+-- The past is still sound for a plan.
+pub record StaysSound (plan : List Key) (old new : Seen) : Type 0 where
+  -- The link is honest among others of the plan after it.
+  pub still : new.amid plan
+  -- The past is sound after it.
+  pub sound : Sound plan new.past
+  -- The objects of the plan's names go onward.
+  pub onward : Onward plan old.past.objects new.past.objects
+
+-- A past that is sound for a plan stays sound, if the link is honest among others of the plan, and no name begins
+-- with the mark.
+abbrev pub KeepsSound : List ℕ → Seen → Seen → Type 0
+KeepsSound mark old new =
+    (plan : List Key) → IsLawful plan → BeginsNoName mark → old.amid plan → Sound plan old.past → StaysSound plan old new
 
 -- What a look promises over a link that is honest for some names.
 pub record LooksHonestly {A : Type 0} (items : A → List Looked) (names : Names) (keys : List Key) (mark : List ℕ) (old : Seen) (result : Result A NoMemory) (new : Seen) : Type 0 where

@@ -7,6 +7,7 @@ use Rattle.kmip_messages.specs.Members.{may_have}
 use Rattle.kmip_plan.specs.declared.key.Key.{Key}
 use Rattle.kmip_protocol.specs.Past.{Names, Past}
 use Rattle.kmip_protocol.specs.Seen.{Seen}
+use Rattle.kmip_look.specs.Looks.{KeepsSound}
 use Rattle.kmip_look.specs.PrivateKeeping.{AreFit, AreShaped, Goes, GoesCalmly, GoesThrough, Parts, SendsLooks}
 use Rattle.kmip_look.specs.PrivateTrying.{IsTriedAt}
 use Rattle.kmip_look.specs.declared.looked.Looked.{Looked}
@@ -56,6 +57,8 @@ pub record AsksOnce (part : Part) (about : About) (olds : List Looked) (old : Se
   -- Over a link that is calm for some names, all of this holds, with what a message of the part does.
   pub calmly : (names : Names) → old.calm names
       → AsksCalmly names result new (λ done. GoesCalmly part about.keys olds news old.past new.past)
+  -- However it ends, a past that is sound stays sound.
+  pub sound : KeepsSound about.mark old new
   -- Over a link that is honest for some names, unless memory ran out, one message more asked about each key that
   -- is not told and was not refused.
   pub tried : (names : Names) → old.honest names → OnOk result ((start : Past) (count : ℕ)
@@ -73,6 +76,8 @@ pub record AsksParts (parts : Parts) (about : About) (olds : List Looked) (old :
   -- Over a link that is calm for some names, all of this holds, with what these parts come to.
   pub calmly : (names : Names) → old.calm names
       → AsksCalmly names result new (λ goes_on. GoesThrough parts about.keys olds news goes_on old.past new.past)
+  -- However it ends, a past that is sound stays sound.
+  pub sound : KeepsSound about.mark old new
   -- Over a link that is honest for some names, if more may be asked, each try was made for each key that is not
   -- told and was not refused.
   pub tried : (names : Names) → old.honest names → IfOk result (λ goes_on. goes_on ≡ true → (start : Past)

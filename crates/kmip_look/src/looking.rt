@@ -6,7 +6,7 @@ ghost use Rattle.kmip_messages.specs.Written.{requests_fit};
 ghost use Rattle.kmip_plan.specs.Plans.{key_fits};
 ghost use Rattle.kmip_plan.specs.declared.key.Key.{Key};
 ghost use Rattle.kmip_protocol.specs.Past.{Names};
-ghost use Rattle.kmip_look.specs.Looks.{IsTried, Looks};
+ghost use Rattle.kmip_look.specs.Looks.{IsTried, KeepsSound, Looks};
 ghost use Rattle.kmip_look.specs.PrivateAsking.{requests_of};
 ghost use Rattle.kmip_look.specs.PrivateGroups.{AsksOnce, AsksParts, IsGroup};
 ghost use Rattle.kmip_look.specs.PrivateKeeping.{AreFit, AreShaped, GroupsCalmly, LookLaws, LooksAt, SendsLooks, both_parts, one_part, unasked};
@@ -66,6 +66,8 @@ pub fn look<L: Link, P: Pause, O: ExchangeObserver>(
     ensures tried { (names : Names) → (L.seen link.old).honest names
         → P.has_given_up pause.new ≡ false → IfOk result (λ v. AllZip
         (IsTried mark.now (L.seen link.old).past (L.seen link.new).past) plan.now v.items) }
+    // However it ends, a past that is sound stays sound, if no name begins with the mark.
+    ensures sound { KeepsSound mark.now (L.seen link.old) (L.seen link.new) }
 {
     look_at_keys(alloc, plan.keys(), link, mark, batch, pause, observer)
 }
@@ -98,6 +100,8 @@ pub fn look_at_keys<L: Link, P: Pause, O: ExchangeObserver>(
     ensures tried { (names : Names) → (L.seen link.old).honest names
         → P.has_given_up pause.new ≡ false → IfOk result (λ v. AllZip
         (IsTried mark.now (L.seen link.old).past (L.seen link.new).past) keys.now v.items) }
+    // However it ends, a past that is sound stays sound, if no name begins with the mark.
+    ensures sound { KeepsSound mark.now (L.seen link.old) (L.seen link.new) }
 {
     let mut lookeds = Vec::with_capacity(alloc, keys.len())?;
     let mut goes_on = true;
@@ -139,6 +143,7 @@ fn look_group<L: Link, P: Pause, O: ExchangeObserver>(
     ensures tried { (names : Names) → (L.seen link.old).honest names → goes_on.new ≡ true
         → IfOk result (λ lookeds. AllZip (IsTriedAt Part.Tell MOST_TRIES mark.now
         (L.seen link.old).past (L.seen link.new).past) keys.now lookeds.items) }
+    ensures sound { KeepsSound mark.now (L.seen link.old) (L.seen link.new) }
     ensures onward { goes_on.new ≡ true → goes_on.old ≡ true }
     ensures stops { (goes_on.old ≡ false → P.has_given_up pause.old ≡ true)
         → OnOk result (goes_on.new ≡ false → P.has_given_up pause.new ≡ true) }

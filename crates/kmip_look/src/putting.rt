@@ -1,10 +1,13 @@
 //! A message that is put over a link, and what comes of it.
-ghost use Rattle.std.specs.Prelude.{◌≡◌, [], IfOk, IsTrue, option_map, false};
+ghost use Rattle.std.specs.Prelude.{◌≡◌, [], IfOk, IsTrue, List, option_map, false};
 ghost use Rattle.std.specs.List.{All};
 ghost use Rattle.kmip_batch_items.specs.BatchItems.{answer_fits};
 ghost use Rattle.kmip_batch_items.specs.Faults.{is_no_memory};
 ghost use Rattle.kmip_messages.specs.Written.{requests_fit};
+ghost use Rattle.kmip_plan.specs.declared.key.Key.{Key};
 ghost use Rattle.kmip_protocol.specs.Past.{Names};
+ghost use Rattle.kmip_protocol.specs.Sound.{IsBeside, Sound};
+ghost use Rattle.kmip_look.specs.Looks.{StaysSound};
 ghost use Rattle.kmip_look.specs.PrivateAsking.{is_refused};
 ghost use Rattle.kmip_look.specs.PrivatePutting.{HasPut, HasServed, Puts, said};
 
@@ -12,6 +15,7 @@ use crate::heard::Heard;
 use crate::why::Why;
 use kmip_batch_items::{MessageFault, Request};
 use kmip_messages::{read_reply, write_request};
+use kmip_protocol::amid_laws::the_laws_amid_others_hold;
 use kmip_protocol::laws::the_laws_of_exchanges_hold;
 use kmip_protocol::{ExchangeObserver, Link, LinkFault, NoReplyReason, answer_or_loss};
 use kmip_ttlv::NoMemory;
@@ -39,8 +43,11 @@ pub(crate) fn put<L: Link, O: ExchangeObserver>(
     ensures calmly { (names : Names) → (L.seen link.old).calm names → (L.seen link.new).calm names
         × IfOk result (λ heard. HasServed requests.now heard.replies.items
         (L.seen link.old).past (L.seen link.new).past) }
+    ensures sound { (plan : List Key) → All (IsBeside plan) requests.now → (L.seen link.old).amid plan
+        → Sound plan (L.seen link.old).past → StaysSound plan (L.seen link.old) (L.seen link.new) }
 {
     the_laws_of_exchanges_hold(); // proof
+    the_laws_amid_others_hold(); // proof
     let bytes = write_request(alloc, requests)?;
     observer.asking(requests);
     let answered = link.exchange(alloc, bytes.as_slice());

@@ -89,3 +89,14 @@ beside_of new old request lawful beside = record {
     | inr fits ↦ inr fits
   ]);
 }
+
+pub strange_beside : (keys : List Key) (request : Request) → IsLawful keys → step_of_ask request.ask ≡ None
+    → ((operation : ℕ) (key : Key) → key_fits key ≡ true → request.id ≢ Some (operation ∷ key.attrs.name))
+    → IsBeside keys request
+strange_beside keys request lawful none strange = record {
+  no_step = none;
+  no_key = λ operation key which. strange operation key (elim which [
+    | inl planned ↦ planned_fits keys key lawful planned
+    | inr fits ↦ fits
+  ]);
+}

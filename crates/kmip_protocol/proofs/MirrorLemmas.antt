@@ -46,6 +46,7 @@ mirrored_serve l keys p q request reply joined sound image serves same more =
           none_joined joined (λ name. nothing_joins p.objects q.objects joined name serves.effects (ap (object_named name) kept)) in
           no_more keys p q image (λ key planned. ap (position key) (sym kept)) (ap (filter_map (pair_asked keys)) same)
           (sym (append-nil p.effects) ∙ ap (λ j. p.effects ++ option_to_list j) (sym none) ∙ more)
+
       by : IsHarmless keys p.objects request → IsMirrored keys q
       by (inl just) = elim (serve_does l keys just.key p.room p.objects q.objects request.ask reply.outcome just.is_planned sound.objects sound.names sound.uids just.may serves.step) [
         | inl kept ↦ stood kept

@@ -1,6 +1,6 @@
 -- What holds of all that may happen between a client and its server.
 -- Source: own (law).
-use Rattle.std.specs.Prelude.{◌≡◌, ◌≤◌, ℕ, Bool, List, ◌++◌, Option, Result}
+use Rattle.std.specs.Prelude.{◌≡◌, ◌≢◌, ◌≤◌, ℕ, Bool, true, List, ◌∷◌, ◌++◌, None, Option, Result, Some}
 use Rattle.std.specs.List.{All, Contains}
 use Rattle.kmip_batch_items.specs.declared.reply.Reply.{Reply}
 use Rattle.kmip_objects.specs.Objects.{Object, DistinctNames, DistinctUids}
@@ -8,7 +8,7 @@ use Rattle.kmip_batch_items.specs.declared.outcome.Outcome.{Outcome}
 use Rattle.kmip_batch_items.specs.declared.ask.Ask.{Ask}
 use Rattle.kmip_server.specs.ServerStep.{ServerStep}
 use Rattle.kmip_plan.specs.Chains.{step_place}
-use Rattle.kmip_plan.specs.Plans.{IsLawful, IsPlanned}
+use Rattle.kmip_plan.specs.Plans.{IsLawful, IsPlanned, key_fits}
 use Rattle.kmip_plan.specs.Prolonging.{Prolongs}
 use Rattle.kmip_plan.specs.declared.key.Key.{Key}
 use Rattle.kmip_client.specs.Places.{Onward, position}
@@ -23,8 +23,8 @@ use Rattle.kmip_protocol.specs.Machine.{IsMirrored}
 use Rattle.kmip_server.specs.Effects.{effect_of}
 use Rattle.kmip_protocol.specs.Moves.{Delivered, Joins}
 use Rattle.kmip_protocol.specs.Past.{AreAmong, Past, Names, is_planned}
-use Rattle.kmip_protocol.specs.Headline.{Safe}
-use Rattle.kmip_protocol.specs.Sound.{HarmlessMessage, IsHarmless, NoneIsFurther, Sound, Opening}
+use Rattle.kmip_protocol.specs.Headline.{Safe, step_of_ask}
+use Rattle.kmip_protocol.specs.Sound.{HarmlessMessage, IsBeside, IsHarmless, NoneIsFurther, Sound, Opening}
 
 -- from a sound past, whatever happens, the objects go onward for each key
 abbrev pub ObjectsGoOnward : Type 0
@@ -141,6 +141,12 @@ SoundBetween =
     (last next keys : List Key) (p : Past) → IsLawful keys → IsLawful next → IsLawful last → Prolongs next keys → Prolongs last next
     → Sound keys p → Sound last p → Sound next p
 
+-- what asks for no step, under an id that no key may have, is beside each plan
+abbrev pub StrangeIsBeside : Type 0
+StrangeIsBeside =
+    (keys : List Key) (request : Request) → IsLawful keys → step_of_ask request.ask ≡ None
+    → ((operation : ℕ) (key : Key) → key_fits key ≡ true → request.id ≢ Some (operation ∷ key.attrs.name)) → IsBeside keys request
+
 -- what a calm link does, an honest one may do
 abbrev pub CalmExchangesAreHonest : Type 0
 CalmExchangesAreHonest =
@@ -179,6 +185,7 @@ pub record ExchangeLaws : Type 0 where
   pub names_of_prolonged : NamesOfProlonged
   pub sound_of_prolonged : SoundOfProlonged
   pub sound_between : SoundBetween
+  pub beside : StrangeIsBeside
   pub calm_is_honest : CalmExchangesAreHonest
   pub taken : TakenIsDelivered
   pub joins : WhatIsDoneJoins

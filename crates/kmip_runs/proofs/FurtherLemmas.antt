@@ -14,7 +14,7 @@ use Rattle.kmip_protocol.specs.Calm.{CalmlyExchanged}
 use Rattle.kmip_protocol.specs.Amid.{ExchangedAmid, PassedAmid}
 use Rattle.kmip_protocol.specs.Past.{Names, Past, is_planned}
 use Rattle.kmip_protocol.specs.Seen.{Seen}
-use Rattle.kmip_protocol.specs.Sound.{Sound}
+use Rattle.kmip_protocol.specs.Sound.{HarmlessMessage, Sound}
 use Rattle.kmip_protocol.specs.declared.link_fault.LinkFault.{LinkFault}
 use Rattle.kmip_protocol.specs.Needs.{missing}
 use Rattle.kmip_runs.specs.PrivateLawbook.{Lawbook}
@@ -23,6 +23,7 @@ use Rattle.kmip_runs.specs.Headline.{GoodLink}
 use Rattle.kmip_runs.specs.Driving.{IsGood, KeepsFurther, WentOn}
 use Rattle.kmip_protocol.specs.Losses.{or_loss}
 use Rattle.kmip_protocol.specs.AmidLaws.{NothingPasses, PassingJoins}
+use Rattle.kmip_runs.proofs.GoodLemmas.{harmless_message}
 use Rattle.kmip_runs.proofs.OnLemmas.{on_nowhere, on_then}
 use Rattle.kmip_runs.proofs.SettleLemmas.{calmly}
 
@@ -58,14 +59,15 @@ calm_good keys x calmly = record {
 asked_further : Lawbook → (keys further : List Key) (x y : Seen) (sent : List ℕ)
     (answered : Result (Option (List ℕ)) LinkFault) → IsLawful further
     → Prolongs further keys → JustifiedMessage keys x.past.objects sent
-    → ((keys : List Key) → x.amid keys → Sound keys x.past → JustifiedMessage keys x.past.objects sent
+    → ((keys : List Key) → x.amid keys → Sound keys x.past → HarmlessMessage keys x.past.objects sent
     → y.amid keys × ExchangedAmid keys x.past sent answered y.past)
     → GoodLink further x → GoodLink further y × WentOn further x.past y.past
 asked_further l keys further x y sent answered lawful prolongs just goes good =
     let asked =
-    All-weaker (Justified keys x.past.objects) (Justified further x.past.objects)
+    harmless_message further x.past.objects sent
+    (All-weaker (Justified keys x.past.objects) (Justified further x.past.objects)
     (λ request may. l.client.asked_of_prolonged x.past.objects further keys request lawful prolongs may)
-    (requests_in sent) just in
+    (requests_in sent) just) in
     let step = goes further good.amid_for good.sound asked in
     let kept = l.amid.exchanges further x.past y.past sent answered good.sound asked step.1 in (
       record { amid_for = step.0; sound = kept.0 },
@@ -80,7 +82,7 @@ asked_further l keys further x y sent answered lawful prolongs just goes good =
 pub further_asked : Lawbook → (c : ClientState) (x y : Seen) (sent : List ℕ)
     (answered : Result (Option (List ℕ)) LinkFault) (places : List ℕ) (question : Question)
     (whole : Type 0) → IsLawful c.keys → IsAbout c.keys c.knowns places question → sent ≡ question.bytes
-    → ((keys : List Key) → x.amid keys → Sound keys x.past → JustifiedMessage keys x.past.objects sent
+    → ((keys : List Key) → x.amid keys → Sound keys x.past → HarmlessMessage keys x.past.objects sent
     → y.amid keys × ExchangedAmid keys x.past sent answered y.past)
     → ((names : Names) → x.calm names → y.calm names × CalmlyExchanged names x.past sent answered y.past)
     → (whole → (answer : Option (List ℕ)) × (or_loss answered ≡ Some answer))

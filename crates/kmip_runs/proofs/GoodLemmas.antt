@@ -1,14 +1,16 @@
 -- What is good stays so over an exchange.
 use Rattle.std.proofs.Common.{◌≡◌, ℕ, List, [], ◌∷◌, Option, Some, None, Result, Ok, Err, IfSome, option_map, sym}
-use Rattle.std.proofs.Common.{subst, refl, ◌∙◌, arith}
+use Rattle.std.proofs.Common.{subst, refl, ◌∙◌, arith, inl}
 use Rattle.std.specs.List.{AllZip}
+use Rattle.std.proofs.lemmas.List.Elements.{All-weaker}
 use Rattle.kmip_objects.specs.Objects.{Object}
+use Rattle.kmip_messages.specs.Items.{requests_in}
 use Rattle.kmip_plan.specs.Plans.{IsLawful}
 use Rattle.kmip_plan.specs.declared.key.Key.{Key}
 use Rattle.kmip_client.specs.Asking.{after_ask}
 use Rattle.kmip_client.specs.Clients.{ClientState}
 use Rattle.kmip_client.specs.Held.{Held}
-use Rattle.kmip_client.specs.Justified.{JustifiedMessage}
+use Rattle.kmip_client.specs.Justified.{Justified, JustifiedMessage}
 use Rattle.kmip_client.specs.Shapes.{IsKept}
 use Rattle.kmip_client.specs.Truth.{TrueMessage}
 use Rattle.kmip_client.specs.declared.knowledge.Knowledge.{Knowledge}
@@ -17,7 +19,7 @@ use Rattle.kmip_protocol.specs.Amid.{ExchangedAmid, HandsOverAmid}
 use Rattle.kmip_protocol.specs.Exchanges.{AreGiven}
 use Rattle.kmip_protocol.specs.Past.{Past}
 use Rattle.kmip_protocol.specs.Seen.{Seen}
-use Rattle.kmip_protocol.specs.Sound.{Sound}
+use Rattle.kmip_protocol.specs.Sound.{HarmlessMessage, IsHarmless, Sound}
 use Rattle.kmip_protocol.specs.declared.link_fault.LinkFault.{LinkFault}
 use Rattle.kmip_protocol.specs.declared.link_fault.LinkFault.TheVariants.{Io, Frame, NoMemory}
 use Rattle.kmip_runs.specs.Driving.{IsGood, Keeps, WentOn}
@@ -91,6 +93,12 @@ good_asked c next link asked question is some may good =
 answer_is : (x y : Option (List ℕ)) → Some x ≡ Some y → x ≡ y
 answer_is x y is = cc
 
+-- what may be asked does no harm
+pub harmless_message : (keys : List Key) (objects : List Object) (sent : List ℕ) → JustifiedMessage keys objects sent
+    → HarmlessMessage keys objects sent
+harmless_message keys objects sent just =
+    All-weaker (Justified keys objects) (IsHarmless keys objects) (λ request one. inl one) (requests_in sent) just
+
 -- what an exchange leaves: all is sound still, and what was known is true still
 pub record Left (c : ClientState) (old new : Seen) : Type 0 where
   pub amid_for : new.amid c.keys
@@ -101,19 +109,20 @@ pub record Left (c : ClientState) (old new : Seen) : Type 0 where
 pub left : (l : Lawbook) (c : ClientState) (old new : Seen) (sent : List ℕ)
     (answered : Result (Option (List ℕ)) LinkFault) → IsLawful c.keys
     → IsGood c old → JustifiedMessage c.keys old.past.objects sent
-    → ((keys : List Key) → old.amid keys → Sound keys old.past → JustifiedMessage keys old.past.objects sent
+    → ((keys : List Key) → old.amid keys → Sound keys old.past → HarmlessMessage keys old.past.objects sent
     → new.amid keys × ExchangedAmid keys old.past sent answered new.past) → Left c old new
 left l c old new sent answered lawful good just goes =
-    let step = goes c.keys good.amid_for good.sound just in
-    let kept = l.amid.exchanges c.keys old.past new.past sent answered good.sound just step.1 in
+    let may = harmless_message c.keys old.past.objects sent just in
+    let step = goes c.keys good.amid_for good.sound may in
+    let kept = l.amid.exchanges c.keys old.past new.past sent answered good.sound may step.1 in
     record {
       amid_for = step.0;
       sound = kept.0;
       held = l.client.known_for_good c.keys c.knowns old.past.objects new.past.objects lawful kept.1 good.held;
       on = record {
         onward = kept.1;
-        mirrored = λ image. l.amid.image_exchanged c.keys old.past new.past sent answered good.sound image just step.1;
-        passed = l.amid.exchanges_pass c.keys old.past new.past sent answered just step.1;
+        mirrored = λ image. l.amid.image_exchanged c.keys old.past new.past sent answered good.sound image may step.1;
+        passed = l.amid.exchanges_pass c.keys old.past new.past sent answered may step.1;
       };
     }
 

@@ -1,6 +1,7 @@
 -- The message is put, and its replies are heard.
 use Rattle.std.proofs.lemmas.Result.{err_from_is_err_and}
 use Rattle.kmip_look.proofs.PastLemmas.{calmly_by, goes_by, on_ok, sends_looks, shaped_by, shaped_many, when_ok}
+use Rattle.kmip_look.proofs.SoundLemmas.{sound_by}
 use Rattle.kmip_look.proofs.TriedLemmas.{tried_by}
 use Rattle.kmip_look.proofs.looking.ask.Goals as goal
 
@@ -22,6 +23,9 @@ returns-in_err-heard g c =
             goes = tt;
           };
       calmly = λ names calm. record { still = (c.put.ensures.calmly names calm).0; comes = tt };
+      sound = sound_by c.the_laws_below_hold.ensures.exchanges.beside c.args.mark.now c.args.part c.args.keys.now
+          c.args.lookeds.now.items c.args.requests.now (g.L.Link.seen c.args.link.now) (g.L.Link.seen c.put.new.link)
+          c.requires.asks c.put.ensures.sound;
       tried = λ names honest. tt;
     })
 
@@ -58,6 +62,8 @@ returns g c =
                 (λ done is. calmly_by c.the_laws_below_hold.ensures part mark why requests replies keys olds news old
                 new c.requires.asks fits is served) c.hear_each.ensures;
           };
+      sound = sound_by c.the_laws_below_hold.ensures.exchanges.beside mark part keys olds requests
+          (g.L.Link.seen c.args.link.now) (g.L.Link.seen c.put.new.link) c.requires.asks c.in_ok-heard.ensures.sound;
       tried = λ names honest.
           let (still, puts, has) = c.in_ok-heard.ensures.honestly names honest in
           on_ok c.hear_each.result

@@ -5,6 +5,7 @@ use Rattle.kmip_look.specs.PrivateKeeping.{GoesThrough, one_part}
 use Rattle.kmip_look.specs.declared.part.Part.TheVariants.{Find}
 use Rattle.kmip_look.specs.declared.looking.TheConstants.{MOST_TRIES}
 use Rattle.kmip_look.proofs.PastLemmas.{goes_on, if_ok, on_ok, sends_on, sends_within, through_both, through_first}
+use Rattle.kmip_look.proofs.SoundLemmas.{keeps_twice}
 use Rattle.kmip_look.proofs.looking.ask_group.Goals as goal
 
 -- memory ran out in the first part
@@ -24,6 +25,7 @@ returns-in_err-goes_on g c =
           };
       calmly = λ names calm. record { still = (c.ask_part.ensures.calmly names calm).still; comes = tt };
       stops = λ no. absurd cc;
+      sound = c.ask_part.ensures.sound;
       tried = λ names honest. tt;
     })
 
@@ -52,6 +54,7 @@ returns-then-not-goes_on g c =
                 (subst (λ b. GoesThrough (one_part Find) keys olds news b old new) c.if-not-goes_on.true first.comes);
           };
       stops = λ no. c.ask_part.ensures.stops (c.in_ok-goes_on.was ∙ ap Ok c.if-not-goes_on.true);
+      sound = c.in_ok-goes_on.ensures.sound;
       tried = λ names honest goes. absurd cc;
     }
 
@@ -88,6 +91,8 @@ returns g c =
                 second.comes;
           };
       stops = c.ask_part-2.ensures.stops;
+      sound = keeps_twice mark (g.L.Link.seen c.args.link.now) (g.L.Link.seen c.ask_part.new.link)
+          (g.L.Link.seen c.ask_part-2.new.link) c.in_ok-goes_on.ensures.sound c.ask_part-2.ensures.sound;
       tried = λ names honest.
           let first = c.in_ok-goes_on.ensures.tried names honest in
           let second = c.ask_part-2.ensures.tried names (c.in_ok-goes_on.ensures.honestly names honest).still in

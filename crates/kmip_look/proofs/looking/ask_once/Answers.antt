@@ -4,6 +4,7 @@ use Rattle.std.proofs.lemmas.Result.{err_from_is_err_and}
 use Rattle.kmip_look.specs.PrivateAsking.{requests_of}
 use Rattle.kmip_look.proofs.AskedLemmas.{written}
 use Rattle.kmip_look.proofs.PastLemmas.{goes_nowhere, idle_goes, none_left, nothing_asked, sends_none, shaped_many, some_left}
+use Rattle.kmip_look.proofs.SoundLemmas.{keeps_still}
 use Rattle.kmip_look.proofs.TriedLemmas.{idle_tried}
 use Rattle.kmip_look.proofs.looking.ask_once.Goals as goal
 
@@ -38,6 +39,7 @@ returns-in_err-requests g c =
         goes = tt;
       };
       calmly = λ names calm. record { still = calm; comes = tt };
+      sound = keeps_still c.args.mark.now (g.L.Link.seen c.args.link.now);
       tried = λ names honest. tt;
     })
 
@@ -63,6 +65,7 @@ returns-then-is_empty g c =
         still = calm;
         comes = idle_goes part keys lookeds past (nothing_asked part mark keys lookeds (shaped_many keys lookeds c.requires.shaped) left);
       };
+      sound = keeps_still mark (g.L.Link.seen c.args.link.now);
       tried = λ names honest start count.
           idle_tried part count (count + 1) mark keys lookeds start past (nothing_asked part mark keys lookeds (shaped_many keys lookeds c.requires.shaped) left);
     }

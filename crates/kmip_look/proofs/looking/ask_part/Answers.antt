@@ -7,6 +7,7 @@ use Rattle.kmip_look.specs.PrivateAsking.{is_asked}
 use Rattle.kmip_look.specs.declared.looking.TheConstants.{MOST_TRIES}
 use Rattle.kmip_look.proofs.PastLemmas.{goes_nowhere, goes_on, sends_none, sends_on, sends_within, tried_all, tried_idle, tried_more, tried_none, tried_stopped}
 use Rattle.kmip_look.specs.PrivateTrying.{IsTriedAt}
+use Rattle.kmip_look.proofs.SoundLemmas.{keeps_still, keeps_twice}
 use Rattle.kmip_look.proofs.TriedLemmas.{idle_tried, not_false}
 use Rattle.kmip_look.proofs.looking.ask_part.Goals as goal
 
@@ -19,6 +20,7 @@ loop-tried-init g c = record {
     goes_nowhere names c.args.mark.now c.args.keys.now c.args.lookeds.now.items (g.L.Link.seen c.args.link.now).past,
   );
   calm = λ names calm. (calm, tried_none c.args.part c.args.keys.now c.args.lookeds.now.items (g.L.Link.seen c.args.link.now).past);
+  sound = keeps_still c.args.mark.now (g.L.Link.seen c.args.link.now);
   tried = λ names honest start at. at;
 }
 
@@ -61,6 +63,8 @@ loop-tried-preserved g c =
             more.still,
             tried_more part tried keys mark olds nows news start now new any so_far more.comes (sends keys (All-contains_itself keys)),
           );
+      sound = keeps_twice c.args.mark.now (g.L.Link.seen c.args.link.now) (g.L.Link.seen c.loop-tried.link)
+          (g.L.Link.seen c.ask_once.new.link) c.loop-tried.invariant.sound once.sound;
       tried = λ names honest first at. once.tried names (c.loop-tried.invariant.honest names honest).0 first tried (c.loop-tried.invariant.tried names honest first at);
     }
 
@@ -90,6 +94,7 @@ returns-then-not-is_any_asked g c =
           let (before, so_far) = c.loop-tried.invariant.calm names calm in
           record { still = before; comes = tried_idle part tried keys olds nows start now idle so_far };
       stops = λ no. absurd cc;
+      sound = c.loop-tried.invariant.sound;
       tried = λ names honest goes first at. idle_tried part tried MOST_TRIES mark keys nows first now idle (c.loop-tried.invariant.tried names honest first at);
     }
 
@@ -117,6 +122,8 @@ returns-in_err-ask_once g c =
           let (before, so_far) = c.loop-tried.invariant.calm names calm in
           record { still = (c.ask_once.ensures.calmly names before).still; comes = tt };
       stops = λ no. absurd cc;
+      sound = keeps_twice c.args.mark.now (g.L.Link.seen c.args.link.now) (g.L.Link.seen c.loop-tried.link)
+          (g.L.Link.seen c.ask_once.new.link) c.loop-tried.invariant.sound c.ask_once.ensures.sound;
       tried = λ names honest. tt;
     })
 
@@ -147,6 +154,7 @@ returns g c =
             comes = tried_all part tried keys olds nows start now (omega (arith, c.loop-tried-test.false)) so_far;
           };
       stops = λ no. absurd cc;
+      sound = c.loop-tried.invariant.sound;
       tried = λ names honest goes first at.
           let all : tried ≡ MOST_TRIES = omega (arith, c.loop-tried-test.false, c.loop-tried.auto.tried-end) in
           subst (λ n. AllZip (IsTriedAt part n mark first now) keys nows) all (c.loop-tried.invariant.tried names honest first at);
@@ -178,5 +186,6 @@ returns-then-not-again g c =
           let (before, so_far) = c.loop-tried.invariant.calm names calm in
           record { still = before; comes = tried_stopped part tried keys olds nows start now any (omega arith) so_far };
       stops = λ no. not_false (g.P.Pause.has_given_up c.again.new.self) (sym c.again.ensures ∙ c.if-not-again.true);
+      sound = c.loop-tried.invariant.sound;
       tried = λ names honest goes. absurd cc;
     }

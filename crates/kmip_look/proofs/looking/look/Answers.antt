@@ -14,3 +14,6 @@ returns-clause-tried g c = λ names honest patient.
     subst
     (λ keys. IfOk c.look_at_keys.result (λ v. AllZip (IsTried c.args.mark.now (g.L.Link.seen c.args.link.now).past (g.L.Link.seen c.look_at_keys.new.link).past) keys v.items))
     c.keys.ensures.value (c.look_at_keys.ensures.tried names honest patient)
+
+pub returns-clause-sound : goal.returns-clause-sound
+returns-clause-sound g c = c.look_at_keys.ensures.sound

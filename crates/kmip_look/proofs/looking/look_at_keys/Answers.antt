@@ -14,6 +14,7 @@ use Rattle.kmip_look.specs.declared.part.Part.TheVariants.{Tell}
 use Rattle.kmip_look.proofs.TriedLemmas.{all_tried, tried_before, tried_onward}
 use Rattle.kmip_look.proofs.GroupLemmas.{CalmSoFar, SoFar, calm_first, calm_next, calm_told, far_broken, far_first, far_next, far_said, far_sent, front_is, group_size, joined, none_there, one_left, zip_more}
 use Rattle.kmip_look.proofs.PastLemmas.{sends_none}
+use Rattle.kmip_look.proofs.SoundLemmas.{keeps_still, keeps_twice}
 use Rattle.kmip_look.proofs.looking.look_at_keys.Goals as goal
 
 pub loop-rest-init : goal.loop-rest-init
@@ -29,6 +30,7 @@ loop-rest-init g c =
       );
       calm = λ names calm. (calm, subst (λ ls. CalmSoFar c.args.keys.now c.args.keys.now ls true p p) (sym none) (calm_first c.args.keys.now p));
       tried = λ names honest goes. ([], refl, subst (AllZip (IsTriedAt Tell MOST_TRIES c.args.mark.now p p) []) (sym none) tt);
+      sound = keeps_still c.args.mark.now (g.L.Link.seen c.args.link.now);
       stops = λ no. absurd cc;
     }
 
@@ -95,6 +97,8 @@ loop-rest-preserved g c =
                 (tried_onward mark front lookeds start now new sends.messages sends.sent at)
                 (tried_before mark group looked start now new far.sends.messages far.sends.sent (c.in_ok-looked.ensures.tried names before goes))),
           );
+      sound = keeps_twice c.args.mark.now (g.L.Link.seen c.args.link.now) (g.L.Link.seen c.loop-rest.link)
+          (g.L.Link.seen c.look_group.new.link) c.loop-rest.invariant.sound c.in_ok-looked.ensures.sound;
       stops = c.in_ok-looked.ensures.stops c.loop-rest.invariant.stops;
     }
 
@@ -200,3 +204,19 @@ returns-clause-tried g c = λ names honest patient.
           all_tried mark keys lookeds start now (subst (λ ks. AllZip (IsTriedAt Tell MOST_TRIES mark start now) ks lookeds) (front_is front rest keys is none) at)
       | inr stopped ↦ (let both : false ≡ true = sym patient ∙ c.loop-rest.invariant.stops stopped in absurd cc)
     ]
+
+pub returns-in_err-lookeds-clause-sound : goal.returns-in_err-lookeds-clause-sound
+returns-in_err-lookeds-clause-sound g c = keeps_still c.args.mark.now (g.L.Link.seen c.args.link.now)
+
+pub returns-in_err-looked-clause-sound : goal.returns-in_err-looked-clause-sound
+returns-in_err-looked-clause-sound g c =
+    keeps_twice c.args.mark.now (g.L.Link.seen c.args.link.now) (g.L.Link.seen c.loop-rest.link)
+    (g.L.Link.seen c.look_group.new.link) c.loop-rest.invariant.sound c.look_group.ensures.sound
+
+pub returns-in_err-append-clause-sound : goal.returns-in_err-append-clause-sound
+returns-in_err-append-clause-sound g c =
+    keeps_twice c.args.mark.now (g.L.Link.seen c.args.link.now) (g.L.Link.seen c.loop-rest.link)
+    (g.L.Link.seen c.look_group.new.link) c.loop-rest.invariant.sound c.in_ok-looked.ensures.sound
+
+pub returns-clause-sound : goal.returns-clause-sound
+returns-clause-sound g c = c.loop-rest.invariant.sound

@@ -3,6 +3,7 @@ use Rattle.std.proofs.Common.{◌≡◌, ◌+◌, ◌++◌, List, true, false, l
 use Rattle.kmip_protocol.specs.Past.{Names}
 use Rattle.std.specs.List.{AllZip}
 use Rattle.kmip_plan.specs.declared.key.Key.{Key}
+use Rattle.kmip_look.specs.Looks.{KeepsSound}
 use Rattle.kmip_look.specs.PrivateKeeping.{AreFit}
 use Rattle.kmip_look.specs.PrivateTrying.{IsTriedAt}
 use Rattle.kmip_look.specs.declared.looking.TheConstants.{MOST_TRIES}
@@ -20,6 +21,7 @@ invariant-loop-rest g l = record {
       × CalmSoFar l.keys l.rest l.lookeds.items l.goes_on (g.L.Link.seen l.initial.link).past (g.L.Link.seen l.link).past;
   tried : (names : Names) → (g.L.Link.seen l.initial.link).honest names → l.goes_on ≡ true → (front : List Key) × (front ++ l.rest ≡ l.keys)
       × AllZip (IsTriedAt Tell MOST_TRIES l.mark (g.L.Link.seen l.initial.link).past (g.L.Link.seen l.link).past) front l.lookeds.items;
+  sound : KeepsSound l.mark (g.L.Link.seen l.initial.link) (g.L.Link.seen l.link);
   stops : l.goes_on ≡ false → g.P.Pause.has_given_up l.pause ≡ true;
 }
 

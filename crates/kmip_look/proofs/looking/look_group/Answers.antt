@@ -3,6 +3,7 @@ use Rattle.std.proofs.Common.{Ok, ap, ◌∙◌}
 use Rattle.std.proofs.lemmas.Result.{err_from_is_err_and}
 use Rattle.kmip_look.proofs.GroupLemmas.{group_asked, group_calm, group_idle, group_left}
 use Rattle.kmip_look.proofs.PastLemmas.{sends_none, shaped_many, unasked_at}
+use Rattle.kmip_look.proofs.SoundLemmas.{keeps_still}
 use Rattle.kmip_look.proofs.TriedLemmas.{untried}
 use Rattle.kmip_look.proofs.looking.look_group.Goals as goal
 
@@ -72,3 +73,15 @@ returns-clause-tried g c = λ names honest goes.
 
 pub returns-clause-stops : goal.returns-clause-stops
 returns-clause-stops g c = λ before no. c.ask_group.ensures.stops (c.in_ok-more.was ∙ ap Ok no)
+
+pub returns-in_err-lookeds-clause-sound : goal.returns-in_err-lookeds-clause-sound
+returns-in_err-lookeds-clause-sound g c = keeps_still c.args.mark.now (g.L.Link.seen c.args.link.now)
+
+pub returns-then-not-goes_on-clause-sound : goal.returns-then-not-goes_on-clause-sound
+returns-then-not-goes_on-clause-sound g c = keeps_still c.args.mark.now (g.L.Link.seen c.args.link.now)
+
+pub returns-in_err-more-clause-sound : goal.returns-in_err-more-clause-sound
+returns-in_err-more-clause-sound g c = c.ask_group.ensures.sound
+
+pub returns-clause-sound : goal.returns-clause-sound
+returns-clause-sound g c = c.in_ok-more.ensures.sound

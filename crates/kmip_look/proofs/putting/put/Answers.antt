@@ -2,6 +2,7 @@
 use Rattle.std.proofs.Common.{ap, sym, ◌∙◌}
 use Rattle.kmip_messages.specs.Items.{parts_in, requests_in, stops_in}
 use Rattle.kmip_look.proofs.PastLemmas.{if_ok, put_by, puts_by, served_by}
+use Rattle.kmip_look.proofs.SoundLemmas.{exchanged_sound}
 use Rattle.kmip_look.proofs.putting.put.Goals as goal
 
 pub returns-in_default-clause-honestly : goal.returns-in_default-clause-honestly
@@ -43,3 +44,17 @@ returns-clause-calmly g c = λ names calm.
           heard.replies.items _ _ parts stops asks exchanged (sym c.in-Ok.ensures) says)
           c.heard_in.ensures.said,
     )
+
+pub returns-in_default-clause-sound : goal.returns-in_default-clause-sound
+returns-in_default-clause-sound g c = λ plan beside amid sound.
+    exchanged_sound c.the_laws_amid_others_hold.ensures.exchanges plan (g.L.Link.seen c.args.link.now)
+    (g.L.Link.seen c.exchange-answered.new.self) c.as_slice.result.now c.args.requests.now _
+    (ap requests_in c.as_slice.ensures.value ∙ c.in_ok-bytes.ensures.asks) beside
+    (λ may. c.exchange-answered.ensures.amid plan amid sound may) sound
+
+pub returns-clause-sound : goal.returns-clause-sound
+returns-clause-sound g c = λ plan beside amid sound.
+    exchanged_sound c.the_laws_amid_others_hold.ensures.exchanges plan (g.L.Link.seen c.args.link.now)
+    (g.L.Link.seen c.exchange-answered.new.self) c.as_slice.result.now c.args.requests.now _
+    (ap requests_in c.as_slice.ensures.value ∙ c.in_ok-bytes.ensures.asks) beside
+    (λ may. c.exchange-answered.ensures.amid plan amid sound may) sound

@@ -7,7 +7,7 @@ use Rattle.kmip_protocol.specs.Losses.{or_loss}
 use Rattle.kmip_protocol.specs.Turns.{lost_each}
 use Rattle.kmip_runs.specs.Private.{AreParts, IsBrokenOff, messages_made}
 use Rattle.kmip_runs.proofs.FurtherLemmas.{further_asked}
-use Rattle.kmip_runs.proofs.GoodLemmas.{good_left, if_handed, left, told}
+use Rattle.kmip_runs.proofs.GoodLemmas.{good_left, harmless_message, if_handed, left, told}
 use Rattle.kmip_runs.proofs.KnownLemmas.{broken_asked, broken_handed, exchanged_grown, handed_asks, handed_over}
 use Rattle.kmip_runs.proofs.KnownLemmas.{learnt_one, lost_facts, on_ok}
 use Rattle.kmip_runs.proofs.LosingLemmas.{no_fewer, paid_one}
@@ -131,7 +131,8 @@ returns g c =
           left l client old new c.as_slice-2.result.now _ lawful good may c.exchange-answered.ensures.amid in
           let so =
           told l client.keys old.past new.past c.as_slice-2.result.now _ _ stays.sound (sym c.in-Ok.ensures)
-          (c.exchange-answered.ensures.amid client.keys good.amid_for good.sound may).1 in
+          (c.exchange-answered.ensures.amid client.keys good.amid_for good.sound
+          (harmless_message client.keys old.past.objects _ may)).1 in
           let left =
           good_left client next old new stays c.learn.ensures.kept.keys_stay
           (c.learn.ensures.held new.past.objects stays.held (if_handed _ c.in-Ok.answer (λ v. v.items) so)) in
