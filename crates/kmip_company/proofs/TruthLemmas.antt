@@ -3,6 +3,7 @@ use Rattle.std.proofs.Common.{◌≡◌, ◌<◌, ◌≤◌, List, None, Option,
 use Rattle.std.proofs.Common.{take, zero, ℕ, inl}
 use Rattle.std.specs.List.{All, AllZip}
 use Rattle.std.proofs.lemmas.List.Elements.{All-append, All-cons, All-head, All-nil, All-tail, All-weaker}
+use Rattle.kmip_batch_items.specs.declared.request.Request.{Request}
 use Rattle.kmip_client.specs.Asking.{at_place, requests_at}
 use Rattle.kmip_client.specs.Clients.{WorksAt, fresh}
 use Rattle.kmip_client.specs.Held.{Held, IsHeld, TrueProgress}

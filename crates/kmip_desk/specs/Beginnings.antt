@@ -72,3 +72,8 @@ pub record Begins (plan : List ℕ) (options : RunOptions) (server : List ℕ) (
   pub unlooked : KnowsNoneFrom 0 client → looked_at ≡ None
   -- These are the texts on the desk, and the run holds the lock.
   pub stood : lawful → StoodOn options.trust saved origin desk
+
+-- A run of the plan has begun so, and the desk says that the progress is of this server.
+pub record IsBegun (plan : List ℕ) (options : RunOptions) (server : List ℕ) (lawful : Type 0) (desk : DeskView) (client : ClientState) (looked_at : Option ℕ) : Type 0 where
+  pub begins : Begins plan options server lawful desk client looked_at
+  pub noted : lawful → IsNotedFor plan options server client desk

@@ -6,7 +6,7 @@ use Rattle.std.specs.List.{All, AllZip}
 use Rattle.kmip_choices.specs.declared.run_options.RunOptions.{RunOptions}
 use Rattle.kmip_client.specs.Clients.{ClientState}
 use Rattle.kmip_client.specs.Saving.{progress}
-use Rattle.kmip_look.specs.Looks.{AsksLooks, IsFresh}
+use Rattle.kmip_look.specs.Looks.{AsksLooks, IsFresh, SoundStays}
 use Rattle.kmip_plan.specs.declared.key.Key.{Key}
 use Rattle.kmip_protocol.specs.Past.{Names, is_planned}
 use Rattle.kmip_protocol.specs.Seen.{Seen}
@@ -44,9 +44,12 @@ pub record HasLooked (names : Names) (keys : List Key) (old new : Seen) : Type 0
   pub sent : new.past.sent ≡ old.past.sent ++ messages
   pub look : All (IsLookMessage keys) messages
 
--- So it is for all names for which the link was honest.
-abbrev pub OnlyLooks : List Key → Seen → Seen → Type 0
-OnlyLooks keys old new = (names : Names) → old.honest names → HasLooked names keys old new
+-- Looks at these keys were made, and nothing else.
+pub record OnlyLooks (keys : List Key) (old new : Seen) : Type 0 where
+  -- They were sent over the link, for all names for which it was honest.
+  pub looked : (names : Names) → old.honest names → HasLooked names keys old new
+  -- A past that was sound for a plan is sound still, over a link that was honest among others of the plan.
+  pub sound : SoundStays old new
 
 -- The keys of which the client knows an identifier.
 abbrev pub known_of : ClientState → List KnownKey
@@ -109,19 +112,19 @@ abbrev pub state_of : {L K E : Type 0} → RunViews L K E → L → K → E → 
 state_of v link keeper patience = run_state (v.seen link) (v.kept keeper) (v.is_tired patience) (v.asked patience)
 
 -- How the run itself began: with which client, and over which link.
-pub record RunBegins {L : Type 0} (seen : L → Seen) (Begun : ClientState → Option ℕ → Type 0) (Noted : ClientState → Type 0) (old : L) : Type 0 where
+pub record RunBegins {L : Type 0} (seen : L → Seen) (Begun : ClientState → Option ℕ → Type 0) (old : L) : Type 0 where
   -- The client at first.
   pub first : ClientState
   -- At how many keys the run looked first, if it looked.
   pub looked_at : Option ℕ
-  -- The client knew what the progress on the desk says.
-  pub begins : Begun first looked_at
-  -- The desk says that the progress is of this server.
-  pub noted : Noted first
+  -- The client knew what the progress on the desk says, and the desk says that this is of this server.
+  pub begun : Begun first looked_at
   -- The link at the first exchange.
   pub between : L
   -- If the run looked first, the server agreed.
   pub looks : LooksBefore seen old first looked_at between
+  -- If the past was sound and what the client knew was true before the looks, it is so at the first exchange.
+  pub good : IsGood first (seen old) → IsGood first (seen between)
 
 -- Own (law): a run was made whose client was this one at first, and its link and its file are as
 -- `kmip_run_command::run` promises.
@@ -150,14 +153,14 @@ pub record StopsDone {L K E : Type 0} (v : RunViews L K E) (first : ClientState)
   pub prints : Prints last (Stopped AllFinished exchanges)
 
 -- The run began so, and its link and its file are as `kmip_run_command::run` promises.
-pub record Runs {L K E : Type 0} (v : RunViews L K E) (Begun : ClientState → Option ℕ → Type 0) (Noted : ClientState → Type 0) (old new : Parts L K E) (Whole : Type 0 → Type 0) : Type 0 where
-  pub start : RunBegins v.seen Begun Noted old.link
+pub record Runs {L K E : Type 0} (v : RunViews L K E) (Begun : ClientState → Option ℕ → Type 0) (old new : Parts L K E) (Whole : Type 0 → Type 0) : Type 0 where
+  pub start : RunBegins v.seen Begun old.link
   pub runs : RunsWell v start.first (parts start.between old.keeper old.patience) new Whole
 
 -- A run that ended with `Done`: how it began, that it stopped as all keys are finished, and that exactly its report is
 -- printed.
-pub record EndsDone {L K E : Type 0} (v : RunViews L K E) (Begun : ClientState → Option ℕ → Type 0) (Noted : ClientState → Type 0) (limit : ℕ) (old new : Parts L K E) (Prints : ClientState → RunEnd → Type 0) : Type 0 where
-  pub start : RunBegins v.seen Begun Noted old.link
+pub record EndsDone {L K E : Type 0} (v : RunViews L K E) (Begun : ClientState → Option ℕ → Type 0) (limit : ℕ) (old new : Parts L K E) (Prints : ClientState → RunEnd → Type 0) : Type 0 where
+  pub start : RunBegins v.seen Begun old.link
   pub stops : StopsDone v start.first limit (parts start.between old.keeper old.patience) new Prints
 
 -- The run was not made: nothing was saved, and looks alone were sent.

@@ -41,7 +41,8 @@ pub(crate) fn begin_at<'a, D: Desk, W: RunWatch>(
         job.now.server.now (D.view desk.old).lawful (D.view desk.new)
         start.client start.looked_at) }
     ensures noted { (D.view desk.old).lawful → IfOk result (λ start. start.looked_at ≡ None
-        → IsNotedFor job.now.plan.now job.now.options.now job.now.server.now start.client (D.view desk.new)) }
+        → IsNotedFor job.now.plan.now job.now.options.now job.now.server.now start.client
+        (D.view desk.new)) }
 {
     let checked = checked_progress(alloc, job, desk)?;
     take_lock(desk, watch, job.options.lock_wait)?;
@@ -121,7 +122,8 @@ fn looked_at<D: Desk, W: RunWatch>(
     ensures believed { IfOk result (λ count. count ≡ None → MayBegin job.now.options.now
         job.now.server.now (option_map (λ o. string_bytes o.text) origin.now) client.now) }
     ensures noted { (D.view desk.old).lawful → IfOk result (λ count. count ≡ None
-        → IsNotedFor job.now.plan.now job.now.options.now job.now.server.now client.now (D.view desk.new)) }
+        → IsNotedFor job.now.plan.now job.now.options.now job.now.server.now client.now
+        (D.view desk.new)) }
 {
     if !may_begin(alloc, job, client, origin)? {
         return Ok(Some(known_count(client)));

@@ -33,7 +33,7 @@ pub use origin::{LOOPBACK_SERVER, Origin};
 pub use plan_file::PlanFile;
 pub use run_fault::RunFault;
 pub use run_job::RunJob;
-pub use run_look::{MARK_BYTES, RunLook};
+pub use run_look::RunLook;
 pub use run_patience::RunPatience;
 pub use run_watch::RunWatch;
 pub use running::{run_at_desk, run_choice};

@@ -99,7 +99,8 @@ impl MemoryDesk {
 
 /// A copy of a text, if there is one.
 fn copy_of(alloc: Global, text: &Option<String>) -> io::Result<Option<String>>
-    ensures { IfOk result (λ copy. option_map string_bytes copy ≡ option_map string_bytes text.now) }
+    ensures { IfOk result (λ copy.
+        option_map string_bytes copy ≡ option_map string_bytes text.now) }
 {
     match text {
         Some(text) => Ok(Some(String::from_str(alloc, text.as_str())?)),

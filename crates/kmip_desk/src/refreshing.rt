@@ -1,9 +1,11 @@
 //! The looks before a run.
 ghost use Rattle.std.specs.Prelude.{◌≡◌, IfErr, IfOk, None};
 ghost use Rattle.kmip_refresh.specs.KnownKeys.{keys_of};
-ghost use Rattle.kmip_desk.specs.DeskRuns.{HasAgreed, LastLook, LooksBefore, MayFollowLook, OnlyLooks, known_of};
+ghost use Rattle.kmip_desk.specs.DeskRuns.{HasAgreed, LastLook, LooksBefore, MayFollowLook};
+ghost use Rattle.kmip_desk.specs.DeskRuns.{OnlyLooks, known_of};
 ghost use Rattle.kmip_desk.specs.Beginnings.{IsNoted, IsNotedFor};
 ghost use Rattle.kmip_desk.specs.Desks.{KeepsProgress};
+ghost use Rattle.kmip_runs.specs.Driving.{IsGood};
 
 use crate::desk::Desk;
 use crate::noting::note_origin;
@@ -11,6 +13,7 @@ use crate::run_fault::RunFault;
 use crate::run_job::RunJob;
 use crate::run_watch::RunWatch;
 use kmip_client::Client;
+use kmip_client::laws::{a_client_has_a_lawful_plan, the_laws_of_clients_hold};
 use kmip_look::Why;
 use kmip_protocol::Link;
 use kmip_refresh::{Agreement, Judgement, KeyLook, judgement_of, look_at_progress};
@@ -40,8 +43,11 @@ pub(crate) fn ask_first<D: Desk, L: Link, W: RunWatch>(
         → IfOk result (λ r. r ≡ None → IsNotedFor job.now.plan.now
         job.now.options.now job.now.server.now client.now (D.view desk.new)) }
     ensures alone { OnlyLooks (keys_of (known_of client.now)) (L.seen link.old) (L.seen link.new) }
+    ensures good { IsGood client.now (L.seen link.old) → IsGood client.now (L.seen link.new) }
     ensures fault { IfErr result MayFollowLook }
 {
+    a_client_has_a_lawful_plan(client); // proof
+    the_laws_of_clients_hold(); // proof
     match looked_at {
         None => Ok(None),
         Some(_) => unanswered(alloc, job, client, desk, link, watch),
@@ -131,7 +137,7 @@ fn look_once<L: Link, W: RunWatch>(
         Ok(look) => look,
         Err(error) => return Err(RunFault::NoMark(error)),
     };
-    let mark = look.mark;
+    let mark = look.mark.bytes();
     let (mut pause, mut observer) = (look.pause, look.observer);
     let batch = batch_of(job.options.batch);
     let looks = match look_at_progress(

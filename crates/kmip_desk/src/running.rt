@@ -1,8 +1,9 @@
 //! A run at a desk: what its files say is carried out over a link.
 ghost use Rattle.std.specs.Prelude.{◌≡◌, ◌≢◌, ◌⊎◌, IfErr, IfOk, OnErr};
 ghost use Rattle.kmip_report.specs.Endings.{IfWhole};
-ghost use Rattle.kmip_desk.specs.Beginnings.{Begins, IsNotedFor};
-ghost use Rattle.kmip_desk.specs.DeskRuns.{EndsDone, IsNotMade, MayFollowLook, PrintsEnd, Runs, RunsWell, StopsDone, parts, run_views};
+ghost use Rattle.kmip_desk.specs.Beginnings.{IsBegun};
+ghost use Rattle.kmip_desk.specs.DeskRuns.{EndsDone, IsNotMade, MayFollowLook, PrintsEnd, Runs};
+ghost use Rattle.kmip_desk.specs.DeskRuns.{RunsWell, StopsDone, parts, run_views};
 
 use crate::beginning::begin_at;
 use crate::desk::Desk;
@@ -36,10 +37,8 @@ pub fn run_choice<D: Desk, L: Link, K: Keeper + Unsaved, E: RunPatience, W: RunW
     // stopped as every key of the plan is finished, and exactly its report is printed.
     ensures done { result ≡ ExitStatus.Done → EndsDone
         (run_views L.seen K.kept E.has_given_up E.asked)
-        (Begins job.now.plan.now job.now.options.now job.now.server.now
+        (IsBegun job.now.plan.now job.now.options.now job.now.server.now
         (D.view desk.old).lawful (D.view desk.new))
-        (λ client. (D.view desk.old).lawful
-        → IsNotedFor job.now.plan.now job.now.options.now job.now.server.now client (D.view desk.new))
         job.now.options.now.limit
         (parts link.old keeper.old patience.old) (parts link.new keeper.new patience.new)
         (λ last end. PrintsEnd job.now.form job.now.options.now last end
@@ -49,10 +48,8 @@ pub fn run_choice<D: Desk, L: Link, K: Keeper + Unsaved, E: RunPatience, W: RunW
     ensures went { IsNotMade (run_views L.seen K.kept E.has_given_up E.asked)
         (parts link.old keeper.old patience.old) (parts link.new keeper.new patience.new)
         ⊎ Runs (run_views L.seen K.kept E.has_given_up E.asked)
-        (Begins job.now.plan.now job.now.options.now job.now.server.now
+        (IsBegun job.now.plan.now job.now.options.now job.now.server.now
         (D.view desk.old).lawful (D.view desk.new))
-        (λ client. (D.view desk.old).lawful
-        → IsNotedFor job.now.plan.now job.now.options.now job.now.server.now client (D.view desk.new))
         (parts link.old keeper.old patience.old) (parts link.new keeper.new patience.new)
         (λ P. IfWhole result (λ _. P)) }
 {
@@ -85,10 +82,8 @@ pub fn run_at_desk<D: Desk, L: Link, K: Keeper + Unsaved, E: RunPatience, W: Run
     // stopped as every key of the plan is finished, and exactly its report is printed.
     ensures done { IfOk result (λ status. status ≡ ExitStatus.Done → EndsDone
         (run_views L.seen K.kept E.has_given_up E.asked)
-        (Begins job.now.plan.now job.now.options.now job.now.server.now
+        (IsBegun job.now.plan.now job.now.options.now job.now.server.now
         (D.view desk.old).lawful (D.view desk.new))
-        (λ client. (D.view desk.old).lawful
-        → IsNotedFor job.now.plan.now job.now.options.now job.now.server.now client (D.view desk.new))
         job.now.options.now.limit
         (parts link.old keeper.old patience.old) (parts link.new keeper.new patience.new)
         (λ last end. PrintsEnd job.now.form job.now.options.now last end
@@ -99,10 +94,8 @@ pub fn run_at_desk<D: Desk, L: Link, K: Keeper + Unsaved, E: RunPatience, W: Run
         IsNotMade (run_views L.seen K.kept E.has_given_up E.asked)
         (parts link.old keeper.old patience.old) (parts link.new keeper.new patience.new)
         ⊎ Runs (run_views L.seen K.kept E.has_given_up E.asked)
-        (Begins job.now.plan.now job.now.options.now job.now.server.now
+        (IsBegun job.now.plan.now job.now.options.now job.now.server.now
         (D.view desk.old).lawful (D.view desk.new))
-        (λ client. (D.view desk.old).lawful
-        → IsNotedFor job.now.plan.now job.now.options.now job.now.server.now client (D.view desk.new))
         (parts link.old keeper.old patience.old) (parts link.new keeper.new patience.new)
         (λ P. IfWhole status (λ _. P))) }
     // At a fault nothing was saved, and looks alone were sent.

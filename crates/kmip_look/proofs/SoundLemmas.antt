@@ -36,7 +36,7 @@ sound_still plan x amid sound = record {
 }
 
 pub keeps_still : (mark : List ℕ) (x : Seen) → KeepsSound mark x x
-keeps_still mark x = λ plan lawful begins amid sound. sound_still plan x amid sound
+keeps_still mark x = λ begins plan lawful amid sound. sound_still plan x amid sound
 
 onward_twice : (plan : List Key) (first second third : List Object) → Onward plan first second → Onward plan second third
     → Onward plan first third
@@ -56,9 +56,9 @@ sound_twice plan x y z early late = record {
 }
 
 pub keeps_twice : (mark : List ℕ) (x y z : Seen) → KeepsSound mark x y → KeepsSound mark y z → KeepsSound mark x z
-keeps_twice mark x y z early late = λ plan lawful begins amid sound.
-    let one = early plan lawful begins amid sound in
-    sound_twice plan x y z one (late plan lawful begins one.still one.sound)
+keeps_twice mark x y z early late = λ begins plan lawful amid sound.
+    let one = early begins plan lawful amid sound in
+    sound_twice plan x y z one (late begins plan lawful one.still one.sound)
 
 -- ---- the requests of a look are beside the plan
 
@@ -109,5 +109,5 @@ pub sound_by : StrangeIsBeside → (mark : List ℕ) (part : Part) (keys : List 
     → requests ≡ requests_of part mark keys lookeds
     → ((plan : List Key) → All (IsBeside plan) requests → old.amid plan → Sound plan old.past → StaysSound plan old new)
     → KeepsSound mark old new
-sound_by law mark part keys lookeds requests old new is put = λ plan lawful begins amid sound.
+sound_by law mark part keys lookeds requests old new is put = λ begins plan lawful amid sound.
     put plan (subst (All (IsBeside plan)) (sym is) (looks_beside law plan part mark keys lookeds lawful begins)) amid sound

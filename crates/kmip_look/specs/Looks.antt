@@ -99,11 +99,13 @@ pub record StaysSound (plan : List Key) (old new : Seen) : Type 0 where
   -- The objects of the plan's names go onward.
   pub onward : Onward plan old.past.objects new.past.objects
 
--- A past that is sound for a plan stays sound, if the link is honest among others of the plan, and no name begins
--- with the mark.
+-- A past that is sound for a plan stays sound, over a link that is honest among others of the plan.
+abbrev pub SoundStays : Seen → Seen → Type 0
+SoundStays old new = (plan : List Key) → IsLawful plan → old.amid plan → Sound plan old.past → StaysSound plan old new
+
+-- So it is if no name of a key begins with the mark.
 abbrev pub KeepsSound : List ℕ → Seen → Seen → Type 0
-KeepsSound mark old new =
-    (plan : List Key) → IsLawful plan → BeginsNoName mark → old.amid plan → Sound plan old.past → StaysSound plan old new
+KeepsSound mark old new = BeginsNoName mark → SoundStays old new
 
 -- What a look promises over a link that is honest for some names.
 pub record LooksHonestly {A : Type 0} (items : A → List Looked) (names : Names) (keys : List Key) (mark : List ℕ) (old : Seen) (result : Result A NoMemory) (new : Seen) : Type 0 where

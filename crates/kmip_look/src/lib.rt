@@ -13,6 +13,7 @@ mod hearing;
 pub mod laws;
 mod looked;
 mod looking;
+mod mark;
 mod part;
 mod pause;
 mod putting;
@@ -21,6 +22,7 @@ mod why;
 
 pub use looked::Looked;
 pub use looking::{look, look_at_keys};
+pub use mark::{MARK_BYTES, Mark, RANDOM_MARK_BYTES};
 pub use pause::Pause;
 pub use shown::Shown;
 pub use why::Why;

@@ -4,6 +4,7 @@ ghost use Rattle.kmip_messages.specs.Members.{may_have};
 ghost use Rattle.kmip_report.specs.Endings.{FailsToPrint, IfFailed};
 ghost use Rattle.kmip_report.specs.FaultLines.{no_memory};
 ghost use Rattle.kmip_report.specs.Pieces.{line_in};
+ghost use Rattle.kmip_look.specs.Looks.{KeepsSound};
 ghost use Rattle.kmip_look_command.specs.Private.{AppendsLook};
 ghost use Rattle.kmip_look_command.specs.Writing.{WritesLook};
 
@@ -41,6 +42,8 @@ pub fn run_look<L: Link, P: Pause, O: LookObserver, R: Printer>(
     ensures text { WritesLook input.now.form (L.seen link.old) plan.now input.now.mark.now
         (L.seen link.new) (P.has_given_up pause.new) result
         (R.contents printer.old) (R.contents printer.new) }
+    // However it ends, a past that is sound stays sound, if no name begins with the mark.
+    ensures sound { KeepsSound input.now.mark.now (L.seen link.old) (L.seen link.new) }
     // If it ends with `Failed`, memory ran out, and exactly the line of that is printed; or the printer
     // failed.
     ensures broken { IfFailed result (λ fault. FailsToPrint (line_in input.now.form no_memory) fault
@@ -67,8 +70,9 @@ fn push_look<L: Link, P: Pause, O: LookObserver>(
 ) -> Result<bool, NoMemory>
     requires batch { IsTrue (may_have input.now.batch) }
     requires mark { length input.now.mark.now ≤ 16 }
-    ensures { AppendsLook input.now.form (L.seen link.old) plan.now input.now.mark.now
+    ensures report { AppendsLook input.now.form (L.seen link.old) plan.now input.now.mark.now
         (L.seen link.new) (P.has_given_up pause.new) result text.old.items text.new.items }
+    ensures sound { KeepsSound input.now.mark.now (L.seen link.old) (L.seen link.new) }
 {
     match look(alloc, plan, link, input.mark, input.batch, pause, observer) {
         Ok(lookeds) => {

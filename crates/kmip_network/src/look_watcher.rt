@@ -4,8 +4,7 @@ use crate::last_answer::LastAnswer;
 use kmip_account::ExchangeLog;
 use kmip_batch_items::{Outcome, Reply, Request};
 use kmip_client::{Listener, Verdict};
-use kmip_desk::MARK_BYTES;
-use kmip_look::Looked;
+use kmip_look::{Looked, Mark};
 use kmip_look_command::LookObserver;
 use kmip_plan::Key;
 use kmip_protocol::{ExchangeObserver, NoReplyReason};
@@ -19,7 +18,7 @@ pub(crate) struct LookWatcher<'a> {
     log: &'a ExchangeLog<'a>,
     last: &'a LastAnswer,
     /// What is in the ids of the look's questions. It is not reported.
-    mark: [u8; MARK_BYTES],
+    mark: Mark,
     /// How many keys the look is about.
     count: usize,
     /// Of how many of them the names were searched for.
@@ -34,7 +33,7 @@ impl<'a> LookWatcher<'a> {
     pub(crate) fn new(
         log: &'a ExchangeLog<'a>,
         last: &'a LastAnswer,
-        mark: [u8; MARK_BYTES],
+        mark: Mark,
         count: usize,
         metrics: Option<LookMetricsFile<'a>>,
     ) -> Self {
@@ -47,11 +46,6 @@ impl<'a> LookWatcher<'a> {
             questions: None,
             metrics,
         }
-    }
-
-    /// The mark of the look's questions.
-    pub(crate) fn mark(&self) -> [u8; MARK_BYTES] {
-        self.mark
     }
 
     /// Bytes came from the server.
@@ -86,7 +80,7 @@ impl<'a> Listener for LookWatcher<'a> {
 
 impl<'a> ExchangeObserver for LookWatcher<'a> {
     fn asking(&mut self, requests: &[Request]) {
-        self.questions = self.log.asking(requests, &self.mark);
+        self.questions = self.log.asking(requests, &self.mark.bytes());
     }
 
     fn missed(&mut self, reason: &NoReplyReason<'_>) {

@@ -6,7 +6,7 @@ use crate::look_pause::LookPause;
 use crate::look_watcher::LookWatcher;
 use kmip_account::ExchangeLog;
 use kmip_choices::{LookOptions, Peer};
-use kmip_desk::MARK_BYTES;
+use kmip_look::{Mark, RANDOM_MARK_BYTES};
 use kmip_look_command::{LookInput, run_look};
 use kmip_plan::Plan;
 use kmip_report::ExitStatus;
@@ -66,6 +66,7 @@ fn look_over(
     let mut link = link;
     let mut pause = LookPause::new(rt, &last, first_wait(&options.peer), options.give_up);
     let mut watcher = LookWatcher::new(log, &last, mark, plan.count(), metrics);
+    let mark = mark.bytes();
     let input = LookInput {
         form: options.format.form(),
         mark: &mark,
@@ -87,14 +88,14 @@ fn look_over(
     Ok(status)
 }
 
-/// A mark that no look had before: random bytes of the system.
+/// A mark that no look had before, of random bytes of the system.
 ///
 /// # Errors
 /// If the system gives none.
-pub(crate) fn new_mark(rt: &HostRuntime) -> io::Result<[u8; MARK_BYTES]> {
-    let mut mark = [0; MARK_BYTES];
-    rt.fill_bytes(&mut mark)?;
-    Ok(mark)
+pub(crate) fn new_mark(rt: &HostRuntime) -> io::Result<Mark> {
+    let mut random = [0; RANDOM_MARK_BYTES];
+    rt.fill_bytes(&mut random)?;
+    Ok(Mark::new(random))
 }
 
 /// Reports on standard error that the look was given up.

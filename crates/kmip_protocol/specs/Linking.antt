@@ -54,7 +54,7 @@ pub record MakesExchange {A : Type 0} (bytes : A → List ℕ) (old : Seen) (req
   -- Over a link that is honest among others of a plan, the requests of the message join those asked, and what may
   -- happen and be asked by others happens. Then nothing is handed over, or a message whose replies were all given
   -- some time. Where memory ran out, it is a beginning of this. The link is honest among others after it. The
-  -- others rely on whoever sends: all of this is so where the past is sound, and the message may be asked.
+  -- others rely on whoever sends: all of this is so if the past is sound, and the message does no harm.
   pub amid : (keys : List Key) → old.amid keys → Sound keys old.past → HarmlessMessage keys old.past.objects request
       → new.amid keys × ExchangedAmid keys old.past request (answer_in bytes answered) new.past
   -- Over a link that is calm for some names, both of this hold.

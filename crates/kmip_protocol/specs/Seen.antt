@@ -14,8 +14,8 @@ pub record Seen : Type 1 where
   -- It is honest for some names: it invents nothing, and beside what goes over it nothing happens to
   -- objects of these names.
   pub honest : Names → Type 0
-  -- It is honest among others of a plan: it invents nothing, and beside what goes over it and what others ask that
-  -- is justified nothing happens to objects of the plan's names.
+  -- It is honest among others of a plan: it invents nothing, and beside what goes over it, and what others ask that
+  -- does no harm, nothing happens to objects of the plan's names.
   pub amid : List Key → Type 0
   -- It is calm for some names: it is honest for them, and from now on it loses and repeats nothing.
   pub calm : Names → Type 0

@@ -13,7 +13,8 @@
 //!
 //! A past is sound for a plan (`Sound`) where no two objects of the server have one name or one identifier,
 //! and the object of each planned name is the plan's. The effects on it are the first steps of its chain, as
-//! many as it has had. Each request ever asked may be asked still, and each reply ever given is true.
+//! many as it has had. Each request ever asked may be asked still, or is beside the plan, as a look is. Each reply
+//! ever given is true.
 //!
 //! A client that knows the truth goes on knowing it over any honest link, and asks nothing that could do
 //! harm: the clauses of kmip_client and the laws here together say it of each exchange. What it has then
@@ -21,7 +22,7 @@
 //! all this is so of whole runs, and what a report says, is said by kmip_runs.
 //!
 //! Over a link that is honest among others of a plan (`Amid`), other clients may ask at any moment what is
-//! justified. What is sound stays so there too, and each answer is true.
+//! justified, or look. What is sound stays so there too, and each answer is true.
 //!
 //! How many questions each key of a plan still needs, until a run ends.
 //!

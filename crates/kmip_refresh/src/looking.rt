@@ -5,7 +5,7 @@ ghost use Rattle.kmip_messages.specs.Members.{may_have};
 ghost use Rattle.kmip_client.specs.Saving.{progress};
 ghost use Rattle.kmip_plan.specs.Plans.{key_fits};
 ghost use Rattle.kmip_protocol.specs.Past.{Names, is_planned};
-ghost use Rattle.kmip_look.specs.Looks.{IsFresh};
+ghost use Rattle.kmip_look.specs.Looks.{IsFresh, KeepsSound};
 ghost use Rattle.kmip_refresh.specs.Agreements.{judgement_of};
 ghost use Rattle.kmip_refresh.specs.KnownKeys.{keys_of, known_keys, looks_judged};
 ghost use Rattle.kmip_refresh.specs.Moments.{FinishedSince, StoodSince};
@@ -56,6 +56,8 @@ pub fn look_at_progress<L: Link, P: Pause, O: ExchangeObserver>(
     ensures looks_alone { (names : Names) → (L.seen link.old).honest names
         → LooksAlone names (keys_of (known_keys client.now.keys (progress client.now)))
         mark.now (L.seen link.old) (L.seen link.new) }
+    // However it ends, a past that is sound stays sound, if no name begins with the mark.
+    ensures sound { KeepsSound mark.now (L.seen link.old) (L.seen link.new) }
     // Let the link be honest for the names of the plan, and let the mark be new. Then each key about which the
     // server agrees stood so at some moment since the call began.
     ensures since { (L.seen link.old).honest (is_planned client.now.keys)
@@ -95,8 +97,9 @@ fn look_at_known<L: Link, P: Pause, O: ExchangeObserver>(
     requires fit { list_all key_fits keys.now ≡ true }
     requires batch { IsTrue (may_have batch) }
     requires mark { length mark.now ≤ 16 }
-    ensures { LooksFirst (λ v. v.items) (known_keys keys.now known.now) mark.now (L.seen link.old)
-        result (L.seen link.new) }
+    ensures looks { LooksFirst (λ v. v.items) (known_keys keys.now known.now) mark.now
+        (L.seen link.old) result (L.seen link.new) }
+    ensures sound { KeepsSound mark.now (L.seen link.old) (L.seen link.new) }
 {
     let copies = known_keys(alloc, keys, known)?;
     let lookeds = look_at_keys(alloc, copies.as_slice(), link, mark, batch, pause, observer)?;

@@ -14,7 +14,7 @@ use Rattle.kmip_run_command.specs.RunEnds.{begin_knowns}
 use Rattle.kmip_desk.specs.Beginnings.{progress_for}
 use Rattle.kmip_desk.specs.DeskRuns.{LooksBefore}
 
-pub fresh_held : (objects : List Object) (keys : List Key) → Held objects keys (map (λ key. fresh_knowledge) keys)
+fresh_held : (objects : List Object) (keys : List Key) → Held objects keys (map (λ key. fresh_knowledge) keys)
 fresh_held objects [] = tt
 fresh_held objects (key ∷ keys) = (
   record {
@@ -29,33 +29,20 @@ fresh_held objects (key ∷ keys) = (
   fresh_held objects keys,
 )
 
-pub none_known : (keys : List Key) (place : ℕ) → identifier_at (map (λ key. fresh_knowledge) keys) place ≡ None
-none_known [] place = refl
-none_known (key ∷ keys) zero = refl
-none_known (key ∷ keys) (suc place) = none_known keys place
-
 none_for : (trust : Trust) → progress_for trust None ≡ None
 none_for Afresh = refl
 none_for Checked = refl
 none_for Believe = refl
 
--- there was no progress
-pub none_saved : (trust : Trust) (saved found : Option (List ℕ)) → saved ≡ progress_for trust found → found ≡ None
-    → saved ≡ None
-none_saved trust saved found is none = is ∙ ap (progress_for trust) none ∙ none_for trust
-
 abbrev value_or : {A E : Type 0} → A → Result A E → A
 value_or other (Ok value) = value
 value_or other (Err fault) = other
 
--- what is known without a progress
-pub fresh_knowns : (keys : List Key) (saved : Option (List ℕ)) (knowns : List Knowledge) → saved ≡ None
-    → begin_knowns keys saved ≡ Ok knowns → knowns ≡ map (λ key. fresh_knowledge) keys
-fresh_knowns keys saved knowns none begins =
-    sym (ap (value_or knowns) (sym (ap (begin_knowns keys) none) ∙ begins))
-
--- a run that did not look began over the link as it was
-pub not_looked : {L : Type 0} (seen : L → Seen) (old : L) (client : ClientState) (looked_at : Option ℕ) (between : L)
-    → looked_at ≡ None → LooksBefore seen old client looked_at between → between ≡ old
-not_looked seen old client looked_at between none looks =
-    subst (λ at. LooksBefore seen old client at between) none looks
+-- what is known without a progress holds of any objects
+pub held_of_none : (objects : List Object) (keys : List Key) (knowns : List Knowledge) (trust : Trust) (found : Option (List ℕ))
+    → found ≡ None → begin_knowns keys (progress_for trust found) ≡ Ok knowns → Held objects keys knowns
+held_of_none objects keys knowns trust found none begins =
+    let saved : progress_for trust found ≡ None = ap (progress_for trust) none ∙ none_for trust in
+    let fresh : map (λ key. fresh_knowledge) keys ≡ knowns =
+    ap (value_or knowns) (sym (ap (begin_knowns keys) saved) ∙ begins) in
+    subst (Held objects keys) fresh (fresh_held objects keys)

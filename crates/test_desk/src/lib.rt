@@ -1,7 +1,8 @@
 //! Tests of kmip_desk: runs over a desk, a link and a disk in memory.
 //!
-//! `run_in_memory` has no premise: its desk and its disk keep the rules, and its link is honest. The expected values are
-//! those that the plan wants of the server's objects, or were written by hand from the example of OPERATING.
+//! Their desk and their disk keep the rules, and their link is honest. So `run_in_memory` has no premise, and `run_over`
+//! wants of the progress alone that it is true. The expected values are those that the plan wants of the server's
+//! objects, or were written by hand from the example of OPERATING.
 #![tactic(auto)]
 
 mod in_memory;
@@ -11,5 +12,5 @@ mod running;
 mod steady;
 mod wordless_keeper;
 
-pub use in_memory::run_in_memory;
+pub use in_memory::{run_in_memory, run_over};
 pub use quiet_watch::QuietWatch;

@@ -3,7 +3,8 @@
 use crate::steady::Steady;
 use kmip_batch_items::Reply;
 use kmip_client::{Client, Listener, NoListener, Part};
-use kmip_desk::{MARK_BYTES, Origin, RunFault, RunLook, RunWatch};
+use kmip_desk::{Origin, RunFault, RunLook, RunWatch};
+use kmip_look::{Mark, RANDOM_MARK_BYTES};
 use kmip_protocol::NoReplyReason;
 use kmip_refresh::KeyLook;
 use kmip_report::ExitStatus;
@@ -61,7 +62,7 @@ impl RunWatch for QuietWatch {
     fn look(&mut self) -> io::Result<RunLook<Steady, NoListener>> {
         self.looks = self.looks.saturating_add(1);
         Ok(RunLook {
-            mark: [7; MARK_BYTES],
+            mark: Mark::new([7; RANDOM_MARK_BYTES]),
             pause: Steady,
             observer: NoListener,
         })

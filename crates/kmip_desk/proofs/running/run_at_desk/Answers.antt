@@ -28,12 +28,15 @@ returns-clause-done g c = λ is. record {
   start = record {
     first = c.in_ok-client.field-0.client;
     looked_at = c.in_ok-client.field-0.looked_at;
-    begins = begins_kept _ _ _ _ _ _ _ _ c.ask_first.ensures.kept c.in_ok-client.ensures.begins;
-    noted = λ lawful.
-        c.in_ok-unanswered.ensures.noted (c.in_ok-client.ensures.begins.stood lawful).lawful
-        (c.in_ok-client.ensures.noted lawful) c.in-None.is;
+    begun = record {
+      begins = begins_kept _ _ _ _ _ _ _ _ c.ask_first.ensures.kept c.in_ok-client.ensures.begins;
+      noted = λ lawful.
+          c.in_ok-unanswered.ensures.noted (c.in_ok-client.ensures.begins.stood lawful).lawful
+          (c.in_ok-client.ensures.noted lawful) c.in-None.is;
+    };
     between = c.ask_first.new.link;
     looks = c.in_ok-unanswered.ensures.before c.in-None.is;
+    good = c.ask_first.ensures.good;
   };
   stops = c.run_begun.ensures.done is;
 }
@@ -43,12 +46,15 @@ returns-clause-went g c = inr (record {
   start = record {
     first = c.in_ok-client.field-0.client;
     looked_at = c.in_ok-client.field-0.looked_at;
-    begins = begins_kept _ _ _ _ _ _ _ _ c.ask_first.ensures.kept c.in_ok-client.ensures.begins;
-    noted = λ lawful.
-        c.in_ok-unanswered.ensures.noted (c.in_ok-client.ensures.begins.stood lawful).lawful
-        (c.in_ok-client.ensures.noted lawful) c.in-None.is;
+    begun = record {
+      begins = begins_kept _ _ _ _ _ _ _ _ c.ask_first.ensures.kept c.in_ok-client.ensures.begins;
+      noted = λ lawful.
+          c.in_ok-unanswered.ensures.noted (c.in_ok-client.ensures.begins.stood lawful).lawful
+          (c.in_ok-client.ensures.noted lawful) c.in-None.is;
+    };
     between = c.ask_first.new.link;
     looks = c.in_ok-unanswered.ensures.before c.in-None.is;
+    good = c.ask_first.ensures.good;
   };
   runs = c.run_begun.ensures.runs;
 })

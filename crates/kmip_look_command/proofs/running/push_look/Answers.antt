@@ -5,8 +5,8 @@ use Rattle.kmip_look.specs.Looks.{IsTried, Looks}
 use Rattle.kmip_look_command.proofs.LookLemmas.{looks_lack, looks_list}
 use Rattle.kmip_look_command.proofs.running.push_look.Goals as goal
 
-pub returns-in-Ok : goal.returns-in-Ok
-returns-in-Ok g c = record {
+pub returns-in-Ok-clause-report : goal.returns-in-Ok-clause-report
+returns-in-Ok-clause-report g c = record {
   looked = Ok c.in-Ok.lookeds.items;
   looks =
       looks_list _ _ _ _ _ _
@@ -18,8 +18,8 @@ returns-in-Ok g c = record {
   whole = search (rules, c.push_looked.ensures.text, c.push_looked.ensures.refused, c.keys.ensures, c.as_slice.ensures.value);
 }
 
-pub returns-in-Err : goal.returns-in-Err
-returns-in-Err g c = record {
+pub returns-in-Err-clause-report : goal.returns-in-Err-clause-report
+returns-in-Err-clause-report g c = record {
   looked = Err c.in-Err.field-0;
   looks =
       looks_lack _ _ _ _ _ _

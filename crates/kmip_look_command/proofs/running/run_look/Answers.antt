@@ -10,11 +10,11 @@ returns-clause-text g c =
     let old = g.R.Printer.contents c.args.printer.now in
     let new = g.R.Printer.contents c.print_report.new.printer in
     record {
-      looked = c.push_look-made.ensures.looked;
-      looks = c.push_look-made.ensures.looks;
-      tried = c.push_look-made.ensures.tried;
+      looked = c.push_look-made.ensures.report.looked;
+      looks = c.push_look-made.ensures.report.looks;
+      tried = c.push_look-made.ensures.report.tried;
       whole =
-          whole_told c.args.input.now.form c.args.plan.now c.push_look-made.ensures.looked c.push_look-made.result _ c.push_look-made.new.text.items old new c.print_report.result
-          c.new-text.ensures.items c.push_look-made.ensures.whole
+          whole_told c.args.input.now.form c.args.plan.now c.push_look-made.ensures.report.looked c.push_look-made.result _ c.push_look-made.new.text.items old new c.print_report.result
+          c.new-text.ensures.items c.push_look-made.ensures.report.whole
           (subst (λ (t : List ℕ). IfWhole c.print_report.result (λ r. Appends old new t)) c.as_slice.ensures.value c.print_report.ensures.text) c.print_report.ensures.refused;
     }

@@ -15,8 +15,8 @@ look_at_keys-requires-clause-fit g c =
     subst (All (λ (key : Key). key_fits key ≡ true)) (sym (c.as_slice.ensures.value ∙ c.in_ok-copies.ensures))
     (known_fit 0 c.args.keys.now c.args.known.now c.requires.fit)
 
-pub returns : goal.returns
-returns g c =
+pub returns-clause-looks : goal.returns-clause-looks
+returns-clause-looks g c =
     let known = known_keys c.args.keys.now c.args.known.now in
     let lookeds = c.in_ok-lookeds.lookeds in
     let old = g.L.Link.seen c.args.link.now in

@@ -13,13 +13,13 @@ pub returns-clause-since : goal.returns-clause-since
 returns-clause-since g c = λ honest fresh.
     let looks = looks_as (λ v. v.items) _ _ _ _ c.args.mark.now _ _ _
     (c.keys-keys.ensures.value ∙ c.plan-plan.ensures.value) (c.known-known.ensures ∙ c.in_ok-saved.ensures.progress)
-    c.look_at_known.ensures in
+    c.look_at_known.ensures.looks in
     since_any (λ v. v.items) _ _ c.args.mark.now _ _ _ looks honest fresh
 
 pub returns-clause-finished : goal.returns-clause-finished
 returns-clause-finished g c = λ honest fresh.
     let looks = looks_as (λ v. v.items) _ _ _ _ c.args.mark.now _ _ _
     (c.keys-keys.ensures.value ∙ c.plan-plan.ensures.value) (c.known-known.ensures ∙ c.in_ok-saved.ensures.progress)
-    c.look_at_known.ensures in
+    c.look_at_known.ensures.looks in
     finished_any c.the_laws_of_plans_hold.ensures.places_within (λ v. v.items) _ _ c.args.mark.now _ _ _ looks honest
     fresh
