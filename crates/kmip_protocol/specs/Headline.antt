@@ -3,8 +3,8 @@
 --     Past       all that was ever asked, answered and done, and the objects that are there
 --     Moves      what may happen next, whatever the network and the server do
 --     Exchanges  what an exchange over an honest link does to the past
---     Amid       what it does among other clients of the plan
 --     Sound      what holds of the past for the keys of a plan at all times
+--     Amid       what an exchange does among other clients of the plan
 --     Clean      which exchanges go as they should, and what a link counts of the others
 --     Faults     the faults of a link, and how many failures there may be
 --     Seen       all that a contract sees of a link, as one value

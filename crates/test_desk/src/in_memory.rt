@@ -77,7 +77,7 @@ pub fn run_over(
 }
 
 /// A link to a new server with no object, which follows the script.
-fn new_link(alloc: Global, script: Script) -> Scripted<IndexedStore>
+pub fn new_link(alloc: Global, script: Script) -> Scripted<IndexedStore>
     ensures { (keys : List Key) → Opening keys (past_in result) }
 {
     let store = IndexedStore::new(alloc, SEED, MOST_ROOM);

@@ -1,11 +1,12 @@
 //! Runs at a desk in memory. What stands on the desk was written by hand, from the example of OPERATING.
 
-use crate::in_memory::run_in_memory;
+use crate::in_memory::{new_link, run_over};
 use crate::quiet_watch::QuietWatch;
 use kmip_choices::{Format, Peer, Report, RunOptions, Trust};
 use kmip_desk::{DeskCall, MemoryDesk, PlanFile, RunFault, RunJob};
 use kmip_report::{ExitStatus, Form, Printed};
-use kmip_scripted::read_script;
+use kmip_scripted::{Scripted, read_script};
+use kmip_store::IndexedStore;
 use std::alloc::Global;
 use std::net::{Ipv4Addr, SocketAddrV4};
 use std::process::Abort;
@@ -54,6 +55,26 @@ key k1 AES 256 0000000c
 key k2 AES 128 00000004
 ";
 
+/// The same keys, of which none is to be activated.
+const EARLIER_PLAN: &str = "\
+[[key]]
+name = \"k1\"
+algorithm = \"AES\"
+length = 256
+usage = [\"encrypt\", \"decrypt\"]
+target = \"created\"
+
+[[key]]
+name = \"k2\"
+algorithm = \"AES\"
+length = 128
+usage = [\"encrypt\"]
+target = \"created\"
+";
+
+/// What is known once both are created.
+const CREATED: &str = "kmip-progress 2\nk1 active - 1 31\nk2 created - 1 32\nend 2\n";
+
 /// What came of a run.
 #[derive(Drop)]
 struct Came {
@@ -86,9 +107,22 @@ fn options(alloc: Global, trust: Trust, lock_wait: u64) -> Result<RunOptions, Fa
     })
 }
 
-/// A run at this desk, over a network that loses a reply.
+/// A run at this desk from a new server on, over a network that loses a reply.
 fn run(alloc: Global, options: &RunOptions, desk: MemoryDesk) -> Result<Came, Fail> {
-    let plan = match PlanFile::read(alloc, String::from_str(alloc, PLAN)?) {
+    let script = read_script(alloc, "pass\nlose-reply\npass\n")?;
+    let mut link = new_link(alloc, script);
+    run_on(alloc, PLAN, options, desk, &mut link)
+}
+
+/// A run of this plan at this desk, over this link.
+fn run_on(
+    alloc: Global,
+    plan: &str,
+    options: &RunOptions,
+    desk: MemoryDesk,
+    link: &mut Scripted<IndexedStore>,
+) -> Result<Came, Fail> {
+    let plan = match PlanFile::read(alloc, String::from_str(alloc, plan)?) {
         Ok(plan) => plan,
         Err((_text, fault)) => return Err(Fail::from(fault)),
     };
@@ -98,17 +132,16 @@ fn run(alloc: Global, options: &RunOptions, desk: MemoryDesk) -> Result<Came, Fa
         server: SERVER,
         form: Form::Text,
     };
-    let script = read_script(alloc, "pass\nlose-reply\npass\n")?;
     let mut desk = desk;
     let mut watch = QuietWatch::new();
     let mut printed = Printed {
         text: Vec::new(alloc),
     };
-    let (status, link) = run_in_memory(
+    let status = run_over(
         alloc,
         &job,
         &mut desk,
-        script,
+        link,
         1_000,
         &mut watch,
         &mut printed,
@@ -217,5 +250,24 @@ fn a_progress_without_origin_is_looked_at(rt: HostRuntime) -> Result<(), Fail> {
     assert!(rt; matches!(came.watch.fault, Some(RunFault::Contradicted)));
     assert_eq!(rt; came.watch.looks, 1usize);
     assert_eq!(rt; came.watch.sent, 0usize);
+    Ok(())
+}
+
+/// A progress without an origin is believed once the server agrees, and the run goes on from it.
+#[test]
+fn a_run_goes_on_after_a_look(rt: HostRuntime) -> Result<(), Fail> {
+    let rt = &rt;
+    let alloc = rt.alloc();
+    let options = options(alloc, Trust::Checked, 0)?;
+    let mut link = new_link(alloc, read_script(alloc, "pass\n")?);
+    let nothing = MemoryDesk::new(alloc, None, None);
+    let created = run_on(alloc, EARLIER_PLAN, &options, nothing, &mut link)?;
+    assert_eq!(rt; created.status, ExitStatus::Done);
+    let desk = MemoryDesk::new(alloc, Some(String::from_str(alloc, CREATED)?), None);
+    let active = run_on(alloc, PLAN, &options, desk, &mut link)?;
+    assert_eq!(rt; active.status, ExitStatus::Done);
+    assert_eq!(rt; active.watch.looks, 1usize);
+    assert_eq!(rt; active.desk.written_origin(), Some(ORIGIN.as_bytes()));
+    assert!(rt; active.text.as_str().contains("finished 2 of 2"));
     Ok(())
 }
