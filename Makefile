@@ -40,7 +40,7 @@ DESTDIR =
 growths := crates/test_memory/out/test_memory
 # Proves and builds the program, and notes from which sources (tools/proved.sh). If these change meanwhile, it is old.
 prove = { echo 'Proving and building kmipctl: from a clean clone this takes some 40 minutes on 4 cores.' >&2; \
-	sum=$$(tools/proved.sh sources) && (cd crates/kmipctl && rt run </dev/null >/dev/null) && touch $(program) && \
+	sum=$$(tools/proved.sh sources) && python3 tools/building.py && touch $(program) && \
 	{ tools/proved.sh note $(program) "$$sum" || { touch -d @0 $(program); false; }; }; }
 sources := crates.txt $(shell find crates -name out -prune -o \( -name '*.rt' -o -name '*.antt' \) -print)
 

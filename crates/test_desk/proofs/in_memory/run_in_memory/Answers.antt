@@ -9,7 +9,7 @@ pub returns : goal.returns
 returns c = record {
   sentence = λ is none.
       let link = c.new_link-link.result in
-      c.run_over-status.ensures is (record {
+      c.run_over-status.ensures.sentence is (record {
         sound = λ keys plan_is. c.the_laws_of_exchanges_hold.ensures.begins keys (past_in link) (c.new_link-link.ensures keys);
         held = λ keys knowns plan_is begins.
             lemmas.held_of_none (past_in link).objects keys knowns c.args.job.now.options.now.trust _ none begins;
