@@ -11,7 +11,7 @@ use kmip_store::{MOST_ROOM, SEED};
 use kmip_transport::{StreamEnd, serve_stream};
 use kmip_trouble::tell_why;
 use std::fmt::Display;
-use std::io::{self, Error, ErrorKind, Read, Write};
+use std::io::{self, BufReader, Error, ErrorKind, Read, Write};
 use std::net::{Ipv4Addr, Net, OpenListener, OpenStream, SocketAddr, SocketAddrV4};
 use std::time::Duration;
 
@@ -187,7 +187,8 @@ fn serve_connection(
     }
 }
 
-/// Answers the messages of a reader onto a writer until they end, and tells each exchange, if it is to.
+/// Answers the messages of a reader onto a writer until they end, and tells each exchange, if it is to. As much as has
+/// come is read at once.
 fn answer_over<R: Read + Drop, W: Write + Drop>(
     rt: &HostRuntime,
     options: &ServeOptions,
@@ -195,6 +196,9 @@ fn answer_over<R: Read + Drop, W: Write + Drop>(
     reader: R,
     writer: W,
 ) -> StreamEnd {
+    let Ok(reader) = BufReader::new(rt.alloc(), reader) else {
+        return StreamEnd::NoMemory;
+    };
     let overheard = Overheard::new(rt, options.is_verbose);
     let mut reader = Hearing::new(reader, &overheard);
     let mut writer = Saying::new(writer, &overheard);
