@@ -6,6 +6,7 @@ use Rattle.std.proofs.lemmas.List.Elements.{All-append, All-contains, All-nil, A
 use Rattle.kmip_batch_items.specs.declared.message_fault.MessageFault.{MessageFault}
 use Rattle.kmip_batch_items.specs.declared.reply.Reply.{Reply}
 use Rattle.kmip_client.specs.Asking.{IsAbout, after_ask, next_places, requests_at}
+use Rattle.kmip_client.specs.Justified.{Justified, JustifiedMessage}
 use Rattle.kmip_client.specs.Clients.{ClientState, fresh, lost_at, verdict_at}
 use Rattle.kmip_client.specs.Hearing.{hear_all}
 use Rattle.kmip_client.specs.Held.{Held, TrueProgress}
@@ -31,10 +32,11 @@ use Rattle.kmip_protocol.specs.Moves.{Delivered, MayHappen, Move, after_move}
 use Rattle.kmip_protocol.specs.Needs.{missing}
 use Rattle.kmip_protocol.specs.Past.{Past, is_planned}
 use Rattle.kmip_protocol.specs.Ready.{IsReady}
-use Rattle.kmip_protocol.specs.Sound.{HarmlessMessage, IsHarmless, Sound}
+use Rattle.kmip_protocol.specs.Sound.{HarmlessMessage, Sound}
 use Rattle.kmip_runs.specs.Headline.{reported_by}
 use Rattle.kmip_server.specs.declared.effect.Effect.{Effect}
 use Rattle.kmip_company.specs.Companies.{AllMayOccur, Asks, Company, Event, Happens, Hears, Leaves, Loses, MayAskNext}
+use Rattle.kmip_company.specs.Laws.{AreJustified}
 use Rattle.kmip_company.specs.Companies.{MayOccur, Reports, Resumes, Saves, SetsBatch, Starts, after_event}
 use Rattle.kmip_company.specs.Companies.{after_events, if_there, joined_by, nobody, with_client}
 use Rattle.kmip_company.specs.PrivateLawbook.{Lawbook}
@@ -104,15 +106,21 @@ there P (Some a) f w none some = some a refl
 
 -- ---- what is asked
 
+justified_message : Lawbook → (keys : List Key) (objects : List Object) (c : ClientState) (question : Question)
+    → IsLawful keys → IsMember keys objects c
+    → IsAbout c.keys c.knowns (next_places c) question → JustifiedMessage keys objects question.bytes
+justified_message l keys objects c question lawful m about =
+    let about : IsAbout keys c.knowns (next_places c) question = subst
+    (λ ks. IsAbout ks c.knowns (next_places c) question) m.keys_are about in
+    subst (λ requests. All (Justified keys objects) requests) (sym about.asks)
+    (all_justified l keys objects c.knowns (next_places c) lawful m.held about.works)
+
 pub harmless_message : Lawbook → (keys : List Key) (objects : List Object) (c : ClientState) (question : Question)
     → IsLawful keys → IsMember keys objects c
     → IsAbout c.keys c.knowns (next_places c) question → HarmlessMessage keys objects question.bytes
 harmless_message l keys objects c question lawful m about =
-    let about : IsAbout keys c.knowns (next_places c) question = subst
-    (λ ks. IsAbout ks c.knowns (next_places c) question) m.keys_are about in
-    subst (λ requests. All (IsHarmless keys objects) requests) (sym about.asks)
-    (all_harmless keys objects (requests_at keys c.knowns (next_places c))
-    (all_justified l keys objects c.knowns (next_places c) lawful m.held about.works))
+    all_harmless keys objects (requests_in question.bytes)
+    (justified_message l keys objects c question lawful m about)
 
 abbrev some_client : ClientState → Option ClientState
 some_client x = Some x
@@ -321,6 +329,49 @@ image_events l keys [] w lawful good image may = image
 image_events l keys (event ∷ events) w lawful good image may =
     image_events l keys events (after_event keys event w) lawful (good_event l keys event w lawful may.0 good).0
     (image_event l keys event w lawful may.0 good image) may.1
+
+-- ---- what was asked may be asked still
+
+just_event : Lawbook → (keys : List Key) (event : Event) (w : Company) → IsLawful keys → MayOccur keys event w
+    → IsGoodCompany keys w → AreJustified keys w.past
+    → AreJustified keys (after_event keys event w).past
+just_event l keys Starts w lawful may good just = just
+just_event l keys (Resumes place) w lawful may good just =
+    there (λ v. AreJustified keys v.past) (slice_get w.saved place) _ w just (λ saved is. just)
+just_event l keys (SetsBatch place most) w lawful may good just =
+    there (λ v. AreJustified keys v.past) (slice_get w.clients place) _ w just (λ c is. just)
+just_event l keys (Asks place question) w lawful may good just =
+    there (λ v. AreJustified keys v.past) (slice_get w.clients place) _ w just
+    (λ c is.
+    let m = all_at (IsMember keys w.past.objects) w.clients place c good.members is in
+    All-append (Justified keys w.past.objects) w.past.requests (requests_in question.bytes) just
+    (justified_message l keys w.past.objects c question lawful m
+    (about_there (slice_get w.clients place) question c may is)))
+just_event l keys (Happens move) w lawful may good just =
+    let delivered = one_move keys move w.past may in
+    let new = after_move move w.past in
+    let on = l.exchanges.onward keys w.past new good.sound delivered in
+    subst (All (Justified keys new.objects))
+    (sym (l.exchanges.requests_stay (is_planned keys) w.past new delivered).requests)
+    (All-weaker (Justified keys w.past.objects) (Justified keys new.objects)
+    (λ request one. l.client.asked_for_good keys w.past.objects new.objects request on one) w.past.requests just)
+just_event l keys (Hears place bytes) w lawful may good just =
+    there (λ v. AreJustified keys v.past) (slice_get w.clients place) _ w just (λ c is. just)
+just_event l keys (Loses place key) w lawful may good just =
+    there (λ v. AreJustified keys v.past) (slice_get w.clients place) _ w just (λ c is. just)
+just_event l keys (Saves place) w lawful may good just =
+    there (λ v. AreJustified keys v.past) (slice_get w.clients place) _ w just (λ c is. just)
+just_event l keys (Reports place) w lawful may good just =
+    there (λ v. AreJustified keys v.past) (slice_get w.clients place) _ w just (λ c is. just)
+just_event l keys (Leaves place) w lawful may good just = just
+
+pub just_events : Lawbook → (keys : List Key) (events : List Event) (w : Company) → IsLawful keys
+    → IsGoodCompany keys w → AreJustified keys w.past → AllMayOccur keys events w
+    → AreJustified keys (after_events keys events w).past
+just_events l keys [] w lawful good just may = just
+just_events l keys (event ∷ events) w lawful good just may =
+    just_events l keys events (after_event keys event w) lawful (good_event l keys event w lawful may.0 good).0
+    (just_event l keys event w lawful may.0 good just) may.1
 
 -- ---- a good company is safe
 

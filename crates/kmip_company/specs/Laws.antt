@@ -4,6 +4,7 @@ use Rattle.std.specs.Prelude.{◌*◌, ◌+◌, ◌∷◌, ◌<◌, ◌≡◌, �
 use Rattle.std.specs.List.{All}
 use Rattle.kmip_client.specs.Asking.{IsAbout, after_ask, next_places}
 use Rattle.kmip_client.specs.Clients.{ClientState, fresh, verdict_at}
+use Rattle.kmip_client.specs.Justified.{Justified}
 use Rattle.kmip_client.specs.Places.{Onward}
 use Rattle.kmip_client.specs.declared.question.Question.{Question}
 use Rattle.kmip_client.specs.declared.verdict.Verdict.TheVariants.{Finished}
@@ -17,9 +18,8 @@ use Rattle.kmip_protocol.specs.Machine.{IsMirrored}
 use Rattle.kmip_protocol.specs.Needs.{missing}
 use Rattle.kmip_protocol.specs.Past.{Past, is_planned}
 use Rattle.kmip_protocol.specs.Ready.{IsReady}
-use Rattle.kmip_protocol.specs.Sound.{Opening, Sound}
+use Rattle.kmip_protocol.specs.Sound.{IsHarmless, Opening, Sound}
 use Rattle.kmip_protocol.specs.Turns.{taught}
-use Rattle.kmip_protocol.specs.Sound.{IsHarmless}
 use Rattle.kmip_runs.specs.Turning.{AreExchanged, Turns}
 use Rattle.kmip_company.specs.Acting.{HasPast, IsActAt, MayBecome, acts, all_acts, asked_in, with_past}
 use Rattle.kmip_company.specs.Apart.{IsApartFrom, IsLessonAt, SparesClientAt}
@@ -57,9 +57,19 @@ GoodIsSafe = (keys : List Key) (w : Company) → IsLawful keys → IsGoodCompany
 abbrev pub WhatIsSavedSuits : Type 0
 WhatIsSavedSuits = (keys : List Key) (w : Company) → IsLawful keys → IsGoodCompany keys w → All (Suits keys) w.saved
 
+-- Each request ever asked may be asked still.
+abbrev pub AreJustified : List Key → Past → Type 0
+AreJustified keys p = All (Justified keys p.objects) p.requests
+
 -- Whatever was asked by anybody of a good company may be asked still, or is beside the plan, as a look is.
 abbrev pub WhatWasAskedMayBe : Type 0
 WhatWasAskedMayBe = (keys : List Key) (w : Company) → IsGoodCompany keys w → All (IsHarmless keys w.past.objects) w.past.requests
+
+-- In a company that nobody looks beside, whatever occurs, whatever was asked may be asked still.
+abbrev pub WhatIsJustifiedStays : Type 0
+WhatIsJustifiedStays =
+    (keys : List Key) (w : Company) (events : List Event) → IsLawful keys → IsGoodCompany keys w → AreJustified keys w.past → AllMayOccur keys events w
+    → AreJustified keys (after_events keys events w).past
 
 -- With room for the objects that are missing, each client of a good company is ready to come to its end over a calm
 -- link.

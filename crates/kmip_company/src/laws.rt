@@ -16,6 +16,7 @@ ghost use Rattle.kmip_company.specs.Laws.{
   RunsMayOccur,
   TurnsAreActs,
   TurnsMayOccur,
+  WhatIsJustifiedStays,
   WhatIsLeftIsPaid,
   WhatIsSavedSuits,
   WhatWasAskedMayBe,
@@ -66,6 +67,8 @@ pub fn good_companies_stay_good()
     ensures suits { WhatIsSavedSuits }
     // Whatever was asked by anybody may be asked still, or is beside the plan.
     ensures justified { WhatWasAskedMayBe }
+    // If nothing was ever asked beside the plan, whatever was asked may be asked still after any events.
+    ensures unlooked { WhatIsJustifiedStays }
     // With room for the objects that are missing, each client is ready to come to its end over a calm link.
     ensures ready { ClientsAreReady }
 {

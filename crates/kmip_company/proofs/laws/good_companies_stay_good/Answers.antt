@@ -1,5 +1,5 @@
 -- Event by event.
-use Rattle.kmip_company.proofs.EventLemmas.{all_ready, good_events, image_events, nobody_good, safe_company}
+use Rattle.kmip_company.proofs.EventLemmas.{all_ready, good_events, image_events, just_events, nobody_good, safe_company}
 use Rattle.kmip_company.proofs.SuitLemmas.{saved_suits}
 use Rattle.kmip_company.proofs.laws.good_companies_stay_good.Goals as goal
 
@@ -23,6 +23,10 @@ returns-clause-suits c = λ keys w lawful good. saved_suits c.the_laws_below_hol
 
 pub returns-clause-justified : goal.returns-clause-justified
 returns-clause-justified c = λ keys w good. good.sound.requests
+
+pub returns-clause-unlooked : goal.returns-clause-unlooked
+returns-clause-unlooked c =
+    λ keys w events lawful good just may. just_events c.the_laws_below_hold.ensures keys events w lawful good just may
 
 pub returns-clause-ready : goal.returns-clause-ready
 returns-clause-ready c = λ keys w good roomy. all_ready c.the_laws_below_hold.ensures keys w good roomy
