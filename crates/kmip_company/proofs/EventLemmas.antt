@@ -5,7 +5,7 @@ use Rattle.std.specs.List.{All}
 use Rattle.std.proofs.lemmas.List.Elements.{All-append, All-contains, All-nil, All-weaker}
 use Rattle.kmip_batch_items.specs.declared.message_fault.MessageFault.{MessageFault}
 use Rattle.kmip_batch_items.specs.declared.reply.Reply.{Reply}
-use Rattle.kmip_client.specs.Asking.{IsAbout, after_ask, next_places, requests_at}
+use Rattle.kmip_client.specs.Asking.{IsAbout, after_ask, next_places}
 use Rattle.kmip_client.specs.Justified.{Justified, JustifiedMessage}
 use Rattle.kmip_client.specs.Clients.{ClientState, fresh, lost_at, verdict_at}
 use Rattle.kmip_client.specs.Hearing.{hear_all}
