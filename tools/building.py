@@ -3,10 +3,11 @@
 
     tools/building.py [CRATE]
 
-It runs at the top of the repository (`make` does), with as many crates at once as there are processors. CRATE is
-kmipctl if it is not given. Each crate that is done has a line: the number of crates done, how many there are, its name,
-and how long it took in minutes and seconds. What `rt` prints of it stands in out/make/NAME.log. If a crate fails, that
-is printed too, no other crate is begun, and the exit status is 1. The last line says what was built.
+It runs at the top of the repository (`make` does). A crate for every two processors is proved at once; `rt` gives a
+large one more. CRATE is kmipctl if it is not given. Each crate that is done has a line: the number of crates done, how
+many there are, its name, and how long it took in minutes and seconds. What `rt` prints of it stands in
+out/make/NAME.log. If a crate fails, that is printed too, no other crate is begun, and the exit status is 1. The last line
+says what was built.
 """
 import concurrent.futures
 import functools
@@ -65,13 +66,12 @@ class Build:
         found = [name for name in self.names if name not in self.begun and self.done.issuperset(self.used[name])]
         return sorted(found, key=lambda name: -self.heights[name])
 
-    def prove(self, name, jobs):
+    def prove(self, name):
         """Proves and builds a crate. Returns its name, the status of `rt`, and how long it took."""
         start = time.monotonic()
         verb = 'lib' if (CRATES / name / 'src/lib.rt').exists() else 'run'
         with open(LOGS / f'{name}.log', 'w') as log:
-            status = subprocess.run(['rt', verb, '--jobs', str(jobs)], cwd=CRATES / name, stdin=subprocess.DEVNULL,
-                                    stdout=log, stderr=log).returncode
+            status = subprocess.run(['rt', verb], cwd=CRATES / name, stdin=subprocess.DEVNULL, stdout=log, stderr=log).returncode
         return name, status, time.monotonic() - start
 
     def tell(self, name, status, seconds):
@@ -84,16 +84,14 @@ class Build:
             width = len(str(len(self.names)))
             print(f'[{len(self.done):{width}}/{len(self.names)}] {name}  {minutes(seconds)}', flush=True)
 
-    def run(self, processors):
-        """Proves all crates. Returns whether none failed."""
-        with concurrent.futures.ThreadPoolExecutor(processors) as pool:
+    def run(self, most):
+        """Proves all crates, at most so many at once. Returns whether none failed."""
+        with concurrent.futures.ThreadPoolExecutor(most) as pool:
             running = set()
             while True:
-                free = processors - len(running)
-                ready = [] if self.has_failed else self.ready()[:free]
-                for name in ready:
+                for name in [] if self.has_failed else self.ready()[:most - len(running)]:
                     self.begun.add(name)
-                    running.add(pool.submit(self.prove, name, max(1, free // len(ready))))
+                    running.add(pool.submit(self.prove, name))
                 if not running:
                     return not self.has_failed
                 ended, running = concurrent.futures.wait(running, return_when=concurrent.futures.FIRST_COMPLETED)
@@ -104,7 +102,7 @@ class Build:
 def main(crate='kmipctl'):
     start = time.monotonic()
     LOGS.mkdir(parents=True, exist_ok=True)
-    if not Build(crate).run(os.cpu_count() or 1):
+    if not Build(crate).run(max(1, (os.cpu_count() or 1) // 2)):
         return 1
     print(f'built {CRATES}/{crate}/out/{crate} in {minutes(time.monotonic() - start)}')
     return 0
