@@ -32,11 +32,10 @@ use Rattle.kmip_protocol.specs.Moves.{Delivered, MayHappen, Move, after_move}
 use Rattle.kmip_protocol.specs.Needs.{missing}
 use Rattle.kmip_protocol.specs.Past.{Past, is_planned}
 use Rattle.kmip_protocol.specs.Ready.{IsReady}
-use Rattle.kmip_protocol.specs.Sound.{HarmlessMessage, Sound}
+use Rattle.kmip_protocol.specs.Sound.{AreJustified, HarmlessMessage, Sound}
 use Rattle.kmip_runs.specs.Headline.{reported_by}
 use Rattle.kmip_server.specs.declared.effect.Effect.{Effect}
 use Rattle.kmip_company.specs.Companies.{AllMayOccur, Asks, Company, Event, Happens, Hears, Leaves, Loses, MayAskNext}
-use Rattle.kmip_company.specs.Laws.{AreJustified}
 use Rattle.kmip_company.specs.Companies.{MayOccur, Reports, Resumes, Saves, SetsBatch, Starts, after_event}
 use Rattle.kmip_company.specs.Companies.{after_events, if_there, joined_by, nobody, with_client}
 use Rattle.kmip_company.specs.PrivateLawbook.{Lawbook}

@@ -18,7 +18,7 @@ use Rattle.kmip_protocol.specs.Machine.{IsMirrored}
 use Rattle.kmip_protocol.specs.Needs.{missing}
 use Rattle.kmip_protocol.specs.Past.{Past, is_planned}
 use Rattle.kmip_protocol.specs.Ready.{IsReady}
-use Rattle.kmip_protocol.specs.Sound.{IsHarmless, Opening, Sound}
+use Rattle.kmip_protocol.specs.Sound.{AreJustified, IsHarmless, Opening, Sound}
 use Rattle.kmip_protocol.specs.Turns.{taught}
 use Rattle.kmip_runs.specs.Turning.{AreExchanged, Turns}
 use Rattle.kmip_company.specs.Acting.{HasPast, IsActAt, MayBecome, acts, all_acts, asked_in, with_past}
@@ -57,11 +57,7 @@ GoodIsSafe = (keys : List Key) (w : Company) → IsLawful keys → IsGoodCompany
 abbrev pub WhatIsSavedSuits : Type 0
 WhatIsSavedSuits = (keys : List Key) (w : Company) → IsLawful keys → IsGoodCompany keys w → All (Suits keys) w.saved
 
--- Each request ever asked may be asked still.
-abbrev pub AreJustified : List Key → Past → Type 0
-AreJustified keys p = All (Justified keys p.objects) p.requests
-
--- Whatever was asked by anybody of a good company may be asked still, or is beside the plan, as a look is.
+-- Whatever was asked by anybody of a good company may be asked still, or is outside the plan, as a look is.
 abbrev pub WhatWasAskedMayBe : Type 0
 WhatWasAskedMayBe = (keys : List Key) (w : Company) → IsGoodCompany keys w → All (IsHarmless keys w.past.objects) w.past.requests
 

@@ -65,9 +65,9 @@ pub fn good_companies_stay_good()
     ensures safe { GoodIsSafe }
     // What anybody of a good company saved suits the plan, so that a client may begin from it.
     ensures suits { WhatIsSavedSuits }
-    // Whatever was asked by anybody may be asked still, or is beside the plan.
+    // Whatever was asked by anybody may be asked still, or is outside the plan.
     ensures justified { WhatWasAskedMayBe }
-    // If nothing was ever asked beside the plan, whatever was asked may be asked still after any events.
+    // If nothing was ever asked outside the plan, whatever was asked may be asked still after any events.
     ensures unlooked { WhatIsJustifiedStays }
     // With room for the objects that are missing, each client is ready to come to its end over a calm link.
     ensures ready { ClientsAreReady }

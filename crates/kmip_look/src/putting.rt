@@ -6,7 +6,7 @@ ghost use Rattle.kmip_batch_items.specs.Faults.{is_no_memory};
 ghost use Rattle.kmip_messages.specs.Written.{requests_fit};
 ghost use Rattle.kmip_plan.specs.declared.key.Key.{Key};
 ghost use Rattle.kmip_protocol.specs.Past.{Names};
-ghost use Rattle.kmip_protocol.specs.Sound.{IsBeside, Sound};
+ghost use Rattle.kmip_protocol.specs.Sound.{IsOutside, Sound};
 ghost use Rattle.kmip_look.specs.Looks.{StaysSound};
 ghost use Rattle.kmip_look.specs.PrivateAsking.{is_refused};
 ghost use Rattle.kmip_look.specs.PrivatePutting.{HasPut, HasServed, Puts, said};
@@ -43,8 +43,9 @@ pub(crate) fn put<L: Link, O: ExchangeObserver>(
     ensures calmly { (names : Names) → (L.seen link.old).calm names → (L.seen link.new).calm names
         × IfOk result (λ heard. HasServed requests.now heard.replies.items
         (L.seen link.old).past (L.seen link.new).past) }
-    ensures sound { (plan : List Key) → All (IsBeside plan) requests.now → (L.seen link.old).amid plan
-        → Sound plan (L.seen link.old).past → StaysSound plan (L.seen link.old) (L.seen link.new) }
+    ensures sound { (plan : List Key) → All (IsOutside plan) requests.now
+        → (L.seen link.old).amid plan → Sound plan (L.seen link.old).past
+        → StaysSound plan (L.seen link.old) (L.seen link.new) }
 {
     the_laws_of_exchanges_hold(); // proof
     the_laws_amid_others_hold(); // proof

@@ -33,7 +33,7 @@ use Rattle.kmip_protocol.specs.Sound.{IsHarmless, Sound}
 use Rattle.kmip_server.specs.declared.effect.Effect.{Effect}
 use Rattle.kmip_protocol.specs.PrivateSettlingLawbook.{Lawbook}
 use Rattle.kmip_protocol.specs.Losing.{is_id, step_id, was_asked}
-use Rattle.kmip_protocol.proofs.BesideLemmas.{not_own}
+use Rattle.kmip_protocol.proofs.OutsideLemmas.{not_own}
 use Rattle.kmip_protocol.proofs.SettlingChangeLemmas.{same_key}
 use Rattle.kmip_protocol.proofs.FilterLemmas.{same_text}
 
@@ -106,8 +106,8 @@ not_beyond : (keys : List Key) (key : Key) (objects : List Object) (step : Step)
     → IsPlanned keys key
     → position key objects + 1 < step_place key.target step → IsHarmless keys objects request
     → is_id (step_id key step) request ≡ false
-not_beyond keys key objects step request planned beyond (inr beside) =
-    not_own (step_id key step) request.id (beside.no_key (operation_of (step_ask key [] step)) key (inl planned))
+not_beyond keys key objects step request planned beyond (inr outside) =
+    not_own (step_id key step) request.id (outside.no_key (operation_of (step_ask key [] step)) key (inl planned))
 not_beyond keys key objects step request planned beyond (inl just) =
     elim (cases_Bool (pointwise nat_eq (step_id key step) (id_of (operation_of request.ask) just.key))) [
       | inl same ↦
@@ -201,8 +201,8 @@ pub effect_was_asked : (l : Lawbook) (keys : List Key) (p : Past) (key : Key) (r
 effect_was_asked l keys p key request outcome effect sound planned asked does named =
     by (All-contains (IsHarmless keys p.objects) p.requests request sound.requests asked) where
       by : IsHarmless keys p.objects request → was_asked key p.requests effect.step ≡ true
-      by (inr beside) =
-          absurd (no_effect p.objects request.ask effect beside.no_step
+      by (inr outside) =
+          absurd (no_effect p.objects request.ask effect outside.no_step
           (has_effect p.objects request.ask outcome effect does))
       by (inl just) =
           let own = effect_named l just.key p.objects request.ask effect sound.uids just.may

@@ -35,7 +35,7 @@ use Rattle.kmip_protocol.specs.Turns.{known_then, is_unanswered, lost_each, taug
 use Rattle.kmip_protocol.specs.PrivateSettlingLawbook.{Lawbook}
 use Rattle.kmip_protocol.specs.Losing.{left_of, left_all}
 use Rattle.kmip_protocol.proofs.AskingLemmas.{names_apart, one_justified, request_left}
-use Rattle.kmip_protocol.proofs.BesideLemmas.{all_harmless}
+use Rattle.kmip_protocol.proofs.OutsideLemmas.{all_harmless}
 use Rattle.kmip_protocol.proofs.FilterLemmas.{other_text}
 use Rattle.kmip_protocol.proofs.HearLemmas.{place_found}
 use Rattle.kmip_protocol.proofs.HeardLemmas.{WasHeard}

@@ -16,7 +16,7 @@ use Rattle.kmip_protocol.specs.Moves.{Move, Serve, Unanswered, Refuse, Comes, Ch
 use Rattle.kmip_protocol.specs.Moves.{AllMayHappen, after_moves, Delivered, Joins, Serves}
 use Rattle.kmip_protocol.specs.Past.{Past, is_planned, steps_on}
 use Rattle.kmip_protocol.specs.Sound.{EffectsAreFirst, IsHarmless, Sound, TrueAnswer}
-use Rattle.kmip_protocol.proofs.BesideLemmas.{harmless_on, look_leaves}
+use Rattle.kmip_protocol.proofs.OutsideLemmas.{harmless_on, look_leaves}
 use Rattle.kmip_protocol.proofs.ChangeLemmas.{goes_onward, steps_join, stays_its_own}
 use Rattle.kmip_protocol.proofs.MovingLemmas.{ObjectsMove, nothing_moves, serve_moves, comes_moves, foreign_moves}
 use Rattle.kmip_protocol.proofs.ReplyLemmas.{failed_answer, served_answer}
@@ -101,9 +101,9 @@ served_moves l keys p request reply objects joined sound serves =
           serve_moves l keys just.key p.room p.objects objects request.ask reply.outcome joined just.is_planned
           sound.objects sound.names sound.uids just.may
           serves.step serves.effects
-      by (inr beside) =
+      by (inr outside) =
           subst (λ new. Joins p.objects new joined → ObjectsMove keys p.objects new joined)
-          (sym (look_leaves p.room p.objects objects request.ask reply.outcome beside.no_step serves.step))
+          (sym (look_leaves p.room p.objects objects request.ask reply.outcome outside.no_step serves.step))
           (λ joins. nothing_moves keys p.objects joined sound.names sound.uids joins) serves.effects
 
 pub move_keeps : (l : Lawbook) (keys : List Key) (move : Move) (p : Past) → Sound keys p

@@ -1,6 +1,6 @@
 pub mod ChangeLemmas
 pub mod MovingLemmas
-pub mod BesideLemmas
+pub mod OutsideLemmas
 pub mod ReplyLemmas
 pub mod KeepingLemmas
 pub mod ExchangeLemmas

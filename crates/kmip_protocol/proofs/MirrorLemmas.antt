@@ -18,7 +18,7 @@ use Rattle.kmip_protocol.specs.Machine.{IsMirrored, pair_asked}
 use Rattle.kmip_protocol.specs.Moves.{Move, Serve, Unanswered, Refuse, Comes, Changes, after_move, MayHappen, AllMayHappen, after_moves, Delivered, Serves}
 use Rattle.kmip_protocol.specs.Past.{Past, is_planned, steps_on}
 use Rattle.kmip_protocol.specs.Sound.{HarmlessMessage, IsHarmless, Sound}
-use Rattle.kmip_protocol.proofs.BesideLemmas.{look_leaves}
+use Rattle.kmip_protocol.proofs.OutsideLemmas.{look_leaves}
 use Rattle.kmip_protocol.proofs.ChangeLemmas.{KeyChange, stays, comes, advances, place_in}
 use Rattle.kmip_protocol.proofs.ExchangeLemmas.{asked_sound}
 use Rattle.kmip_protocol.proofs.KeepingLemmas.{move_keeps}
@@ -52,7 +52,7 @@ mirrored_serve l keys p q request reply joined sound image serves same more =
         | inl kept ↦ stood kept
         | inr steps ↦ mirrored_step keys p q request joined just image serves.asked serves.effects steps same more
       ]
-      by (inr beside) = stood (look_leaves p.room p.objects q.objects request.ask reply.outcome beside.no_step serves.step)
+      by (inr outside) = stood (look_leaves p.room p.objects q.objects request.ask reply.outcome outside.no_step serves.step)
 
 pub mirrored_move : (l : Lawbook) (keys : List Key) (move : Move) (p : Past) → Sound keys p → IsMirrored keys p → MayHappen (is_planned keys) move p
     → IsMirrored keys (after_move move p)

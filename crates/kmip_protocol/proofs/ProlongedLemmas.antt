@@ -20,7 +20,7 @@ use Rattle.kmip_client.specs.Truth.{TrueOutcome}
 use Rattle.kmip_protocol.specs.PrivateLawbook.{Lawbook}
 use Rattle.kmip_protocol.specs.Past.{Past, steps_on, is_planned, AreAmong}
 use Rattle.kmip_protocol.specs.Sound.{IsHarmless, IsObjectOf, NoneIsFurther, Sound, TrueAnswer}
-use Rattle.kmip_protocol.proofs.BesideLemmas.{beside_of, planned_fits}
+use Rattle.kmip_protocol.proofs.OutsideLemmas.{outside_of, planned_fits}
 use Rattle.kmip_protocol.proofs.ChangeLemmas.{place_in}
 use Rattle.kmip_protocol.proofs.ReplyLemmas.{failed_true, same_name, some_place}
 
@@ -147,8 +147,8 @@ holds_of l old p reply operation name key sound answer id own fits (is_further n
         let asked : name ≡ just.key.attrs.name = same_name _ _ _ _ (sym id ∙ echo.id_is ∙ just.id_is) in
         let t : None ≡ Some just.key = sym not ∙ ap (λ n. key_named n old) (sym own ∙ asked)
         ∙ just.is_planned in absurd cc
-    | inr beside ↦
-        absurd (beside.no_key operation key (inr fits) (sym echo.id_is ∙ id ∙ ap (λ n. Some (operation ∷ n)) own))
+    | inr outside ↦
+        absurd (outside.no_key operation key (inr fits) (sym echo.id_is ∙ id ∙ ap (λ n. Some (operation ∷ n)) own))
   ]
 ]
 
@@ -167,7 +167,7 @@ harmless_of : (l : Lawbook) (new old : List Key) (objects : List Object) (reques
     → Prolongs new old → IsHarmless old objects request → IsHarmless new objects request
 harmless_of l new old objects request lawful on (inl just) =
     inl (l.client.asked_of_prolonged objects new old request lawful on just)
-harmless_of l new old objects request lawful on (inr beside) = inr (beside_of new old request lawful beside)
+harmless_of l new old objects request lawful on (inr outside) = inr (outside_of new old request lawful outside)
 
 pub prolonged_sound : (l : Lawbook) (new old : List Key) (p : Past) → IsLawful new → Prolongs new old
     → NoneIsFurther new old p.objects → Sound old p → Sound new p

@@ -30,7 +30,7 @@ use Rattle.kmip_server.specs.declared.effect.Effect.{Effect}
 use Rattle.kmip_protocol.specs.PrivateLawbook.{Lawbook}
 use Rattle.kmip_protocol.specs.Moves.{HasFailed, Serves}
 use Rattle.kmip_protocol.specs.Past.{Past}
-use Rattle.kmip_protocol.specs.Sound.{HasItsObjects, IsBeside, IsHarmless, TrueAnswer}
+use Rattle.kmip_protocol.specs.Sound.{HasItsObjects, IsOutside, IsHarmless, TrueAnswer}
 use Rattle.kmip_protocol.proofs.ChangeLemmas.{place_in, uid_in}
 use Rattle.kmip_protocol.proofs.MovingLemmas.{due_of, own_object, own_named, takes}
 
@@ -170,9 +170,9 @@ answered_true l keys p request reply objects operation name other its names uids
     subst (λ k. TrueOutcome objects k reply.outcome) one
     (outcome_true l keys just.key p.room p.objects objects request.ask reply.outcome just.is_planned its names
     uids just.may step)
-answered_true l keys p request reply objects operation name other its names uids (inr beside) step id named =
+answered_true l keys p request reply objects operation name other its names uids (inr outside) step id named =
     let own : name ≡ other.attrs.name = sym (l.plan.stand keys name other named).0 in
-    absurd (beside.no_key operation other (inl (ap (λ n. key_named n keys) (sym own) ∙ named))
+    absurd (outside.no_key operation other (inl (ap (λ n. key_named n keys) (sym own) ∙ named))
     (id ∙ ap (λ n. Some (operation ∷ n)) own))
 
 pub served_answer : (l : Lawbook) (keys : List Key) (p : Past) (request : Request) (reply : Reply)

@@ -106,8 +106,8 @@ again : (l : Lawbook) (keys : List Key) (p : Past) → Sound keys p → (request
     → request.id ≡ Some (operation ∷ name) → step_of_ask request.ask ≡ Some step
     → Contains (steps_on name p.effects) step → ServerStep p.room p.objects request.ask outcome objects
     → IsHarmless keys p.objects request → objects ≡ p.objects
-again l keys p sound request operation name step outcome objects id is_step has served (inr beside) =
-    let t : None ≡ Some step = sym beside.no_step ∙ is_step in absurd cc
+again l keys p sound request operation name step outcome objects id is_step has served (inr outside) =
+    let t : None ≡ Some step = sym outside.no_step ∙ is_step in absurd cc
 again l keys p sound request operation name step outcome objects id is_step has served (inl just) =
     let key = just.key in
     let named : name ≡ key.attrs.name = same_name _ _ _ _ (sym id ∙ just.id_is) in

@@ -98,7 +98,7 @@ mirrored_for keys p request None image may is =
     ∙ ap (λ found. filter_map (pair_asked keys) p.requests ++ cons_option found []) (pair_none keys request is)
     ∙ append-nil (filter_map (pair_asked keys) p.requests)))
     refl
-mirrored_for keys p request (Some step) image (inr beside) is = let t : None ≡ Some step = sym beside.no_step ∙ is in absurd cc
+mirrored_for keys p request (Some step) image (inr outside) is = let t : None ≡ Some step = sym outside.no_step ∙ is in absurd cc
 mirrored_for keys p request (Some step) image (inl just) is =
     let key = just.key in
     let m = after_turns image.turns at_start in

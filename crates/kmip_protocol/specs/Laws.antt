@@ -24,7 +24,8 @@ use Rattle.kmip_server.specs.Effects.{effect_of}
 use Rattle.kmip_protocol.specs.Moves.{Delivered, Joins}
 use Rattle.kmip_protocol.specs.Past.{AreAmong, Past, Names, is_planned}
 use Rattle.kmip_protocol.specs.Headline.{Safe, step_of_ask}
-use Rattle.kmip_protocol.specs.Sound.{HarmlessMessage, IsBeside, IsHarmless, NoneIsFurther, Sound, Opening}
+use Rattle.kmip_protocol.specs.Sound.{AreJustified, HarmlessMessage, IsHarmless, IsOfPlan, IsOutside, NoneIsFurther, Opening}
+use Rattle.kmip_protocol.specs.Sound.{Sound}
 
 -- from a sound past, whatever happens, the objects go onward for each key
 abbrev pub ObjectsGoOnward : Type 0
@@ -37,7 +38,7 @@ abbrev pub DeliveriesKeepSound : Type 0
 DeliveriesKeepSound =
     (keys : List Key) (old new : Past) → Sound keys old → Delivered (is_planned keys) old new → Sound keys new
 
--- a past stays sound when requests join those asked, if each of them may be asked or is beside the plan
+-- a past stays sound when requests join those asked, if each of them may be asked or is outside the plan
 abbrev pub AskingKeepsSound : Type 0
 AskingKeepsSound =
     (keys : List Key) (p : Past) (requests : List Request) → Sound keys p → All (IsHarmless keys p.objects) requests
@@ -141,11 +142,15 @@ SoundBetween =
     (last next keys : List Key) (p : Past) → IsLawful keys → IsLawful next → IsLawful last → Prolongs next keys → Prolongs last next
     → Sound keys p → Sound last p → Sound next p
 
--- what asks for no step, under an id that no key may have, is beside each plan
-abbrev pub StrangeIsBeside : Type 0
-StrangeIsBeside =
+-- what asks for no step, under an id that no key may have, is outside each plan
+abbrev pub StrangeIsOutside : Type 0
+StrangeIsOutside =
     (keys : List Key) (request : Request) → IsLawful keys → step_of_ask request.ask ≡ None
-    → ((operation : ℕ) (key : Key) → key_fits key ≡ true → request.id ≢ Some (operation ∷ key.attrs.name)) → IsBeside keys request
+    → ((operation : ℕ) (key : Key) → key_fits key ≡ true → request.id ≢ Some (operation ∷ key.attrs.name)) → IsOutside keys request
+
+-- of a sound past, if each request has the id of a key of the plan, each may be asked still
+abbrev pub SoundIsJustified : Type 0
+SoundIsJustified = (keys : List Key) (p : Past) → Sound keys p → All (IsOfPlan keys) p.requests → AreJustified keys p
 
 -- what a calm link does, an honest one may do
 abbrev pub CalmExchangesAreHonest : Type 0
@@ -185,7 +190,8 @@ pub record ExchangeLaws : Type 0 where
   pub names_of_prolonged : NamesOfProlonged
   pub sound_of_prolonged : SoundOfProlonged
   pub sound_between : SoundBetween
-  pub beside : StrangeIsBeside
+  pub outside : StrangeIsOutside
+  pub justified : SoundIsJustified
   pub calm_is_honest : CalmExchangesAreHonest
   pub taken : TakenIsDelivered
   pub joins : WhatIsDoneJoins

@@ -1,6 +1,6 @@
 -- What holds of all that was ever asked, answered and done, for the keys of a plan; and where nothing of the
 -- plan has happened.
--- Source: own (law); `IsBeside`, `NoneIsFurther` and `Opening` are own (view).
+-- Source: own (law); `IsOutside`, `IsOfPlan`, `NoneIsFurther` and `Opening` are own (view).
 use Rattle.std.specs.Prelude.{◌≡◌, ◌≢◌, ◌⊎◌, ◌≤◌, ℕ, true, List, [], ◌∷◌, take, Some, None, IsTrue}
 use Rattle.std.specs.List.{All, Contains}
 use Rattle.kmip_objects.specs.Objects.{Object, object_named, DistinctNames, DistinctUids}
@@ -39,14 +39,21 @@ pub record EffectsAreFirst (keys : List Key) (p : Past) : Type 0 where
 
 -- The request asks for no step, and its id is that of no key: neither of one of this plan, nor of one that any
 -- plan may have. The questions of a look are such requests.
-pub record IsBeside (keys : List Key) (request : Request) : Type 0 where
+pub record IsOutside (keys : List Key) (request : Request) : Type 0 where
   pub no_step : step_of_ask request.ask ≡ None
   pub no_key : (operation : ℕ) (key : Key) → IsPlanned keys key ⊎ (key_fits key ≡ true)
       → request.id ≢ Some (operation ∷ key.attrs.name)
 
--- The request may be asked of a key of the plan, or it is beside the plan.
+-- The id of the request is an operation and the name of a key of the plan. So are the ids that a run asks under.
+pub record IsOfPlan (keys : List Key) (request : Request) : Type 0 where
+  pub operation : ℕ
+  pub key : Key
+  pub is_planned : IsPlanned keys key
+  pub id_is : request.id ≡ Some (operation ∷ key.attrs.name)
+
+-- The request may be asked of a key of the plan, or it is outside the plan.
 abbrev pub IsHarmless : List Key → List Object → Request → Type 0
-IsHarmless keys objects request = Justified keys objects request ⊎ IsBeside keys request
+IsHarmless keys objects request = Justified keys objects request ⊎ IsOutside keys request
 
 -- So may each request in a message.
 abbrev pub HarmlessMessage : List Key → List Object → List ℕ → Type 0
@@ -65,7 +72,7 @@ pub record TrueAnswer (keys : List Key) (objects : List Object) (requests : List
   pub echoes : HasFailed reply.outcome ⊎ Echoes requests reply
 
 -- Names and identifiers are distinct, and the object of each planned name is the plan's. The effects on it
--- are the first steps of its chain. Each request ever asked may be asked still, or is beside the plan. Each
+-- are the first steps of its chain. Each request ever asked may be asked still, or is outside the plan. Each
 -- reply ever given is true.
 pub record Sound (keys : List Key) (p : Past) : Type 0 where
   pub names : DistinctNames p.objects
@@ -74,6 +81,11 @@ pub record Sound (keys : List Key) (p : Past) : Type 0 where
   pub effects : EffectsAreFirst keys p
   pub requests : All (IsHarmless keys p.objects) p.requests
   pub replies : All (TrueAnswer keys p.objects p.requests) p.replies
+
+-- Each request ever asked may be asked of a key of the plan still. After a look, whose requests are outside the plan,
+-- that is not so.
+abbrev pub AreJustified : List Key → Past → Type 0
+AreJustified keys p = All (Justified keys p.objects) p.requests
 
 -- No name that only the new plan has is on an object.
 abbrev pub NoneIsFurther : List Key → List Key → List Object → Type 0

@@ -13,7 +13,7 @@
 //!
 //! A past is sound for a plan (`Sound`) where no two objects of the server have one name or one identifier,
 //! and the object of each planned name is the plan's. The effects on it are the first steps of its chain, as
-//! many as it has had. Each request ever asked may be asked still, or is beside the plan, as a look is. Each reply
+//! many as it has had. Each request ever asked may be asked still, or is outside the plan, as a look is. Each reply
 //! ever given is true.
 //!
 //! A client that knows the truth goes on knowing it over any honest link, and asks nothing that could do

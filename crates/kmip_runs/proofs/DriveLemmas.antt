@@ -49,7 +49,7 @@ pub record Driven (first now : ClientState) (start link : Seen) (made : ℕ) : T
   pub learns : start.honest (is_planned first.keys)
       → link.honest (is_planned first.keys) × Learnt first.keys first.batch start.past link.past first.knowns
       now.knowns made
-  pub takes_nothing_back : start.honest (is_planned first.keys) → TakesNothingBack start.past link.past
+  pub takes_nothing_back : start.honest (is_planned first.keys) → TakesNothingBack first.keys start.past link.past
   pub keeps : Keeps first now
   pub near : IsSettling first start → Nearer first now start link made
   pub honest_still : (names : Names) → start.honest names → link.honest names
@@ -96,8 +96,9 @@ driven_then l a b c x y z m n first second = record {
       );
   takes_nothing_back = λ holds.
       grown_then x.past y.past z.past (first.takes_nothing_back holds)
+      (subst (λ ks. TakesNothingBack ks y.past z.past) first.keeps.keys_stay
       (second.takes_nothing_back (subst (λ ks. y.honest (is_planned ks)) (sym first.keeps.keys_stay)
-      (first.learns holds).0));
+      (first.learns holds).0)));
   keeps = keeps_then a b c first.keeps second.keeps;
   near = λ settling.
       let before = first.near settling in

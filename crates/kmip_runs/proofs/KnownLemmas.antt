@@ -1,12 +1,20 @@
 -- What exchanges ask and teach, one after the other.
 use Rattle.std.proofs.Common.{◌≡◌, ◌≤◌, arith, ℕ, ◌+◌, List, [], ◌∷◌, ◌++◌, length, Option, Some, None, IsSome, Result, Ok, Err, OnErr, OnOk, sym, ap, subst, refl, ◌∙◌, flat_map, append_assoc, append-nil, inl, inr}
-use Rattle.std.proofs.lemmas.List.Elements.{All-append, All-cons, All-nil}
+use Rattle.std.specs.List.{All}
+use Rattle.std.proofs.lemmas.List.Elements.{All-append, All-cons, All-head, All-nil, All-tail}
 use Rattle.std.proofs.lemmas.List.{length-append}
 use Rattle.std.proofs.lemmas.List.Concat.{flat_map-append}
 use Rattle.kmip_messages.specs.Items.{requests_in}
 use Rattle.kmip_plan.specs.declared.key.Key.{Key}
-use Rattle.kmip_client.specs.Asking.{IsAbout}
-use Rattle.kmip_client.specs.Clients.{ClientState}
+use Rattle.kmip_batch_items.specs.Operations.{operation_of}
+use Rattle.kmip_batch_items.specs.declared.request.Request.{Request}
+use Rattle.kmip_plan.specs.Laws.{KeysAreFound}
+use Rattle.kmip_plan.specs.Plans.{IsLawful}
+use Rattle.kmip_client.specs.Asking.{IsAbout, at_place, requests_at}
+use Rattle.kmip_client.specs.Clients.{ClientState, WorksAt}
+use Rattle.kmip_client.specs.Questions.{ask_about, request_about}
+use Rattle.kmip_protocol.specs.Laws.{SoundIsJustified}
+use Rattle.kmip_protocol.specs.Sound.{AreJustified, IsOfPlan, Sound}
 use Rattle.kmip_client.specs.Laws.{HearingIsBlind, LossesTeachNothing}
 use Rattle.kmip_client.specs.declared.knowledge.Knowledge.{Knowledge}
 use Rattle.kmip_client.specs.declared.question.Question.{Question}
@@ -250,37 +258,76 @@ grown_by old between new first second = (first.0 ++ second.0, joined old between
 still : {A : Type 0} (old new : List A) → new ≡ old → (more : List A) × (new ≡ old ++ more)
 still old new same = ([], same ∙ sym (append-nil old))
 
-pub grown_itself : (p : Past) → TakesNothingBack p p
-grown_itself p = record { requests = still p.requests p.requests refl; sent = still p.sent p.sent refl; handed = still p.handed p.handed refl }
+asks_none : {keys : List Key} (old new : List Request) → new ≡ old → (more : List Request) × (new ≡ old ++ more) × All (IsOfPlan keys) more
+asks_none {keys = keys} old new same = ([], same ∙ sym (append-nil old), All-nil (IsOfPlan keys))
 
-pub grown_then : (old between new : Past) → TakesNothingBack old between → TakesNothingBack between new → TakesNothingBack old new
-grown_then old between new first second = record {
-  requests = grown_by old.requests between.requests new.requests first.requests second.requests;
+pub grown_itself : {keys : List Key} (p : Past) → TakesNothingBack keys p p
+grown_itself p = record { requests = asks_none p.requests p.requests refl; sent = still p.sent p.sent refl; handed = still p.handed p.handed refl }
+
+pub grown_then : {keys : List Key} (old between new : Past) → TakesNothingBack keys old between → TakesNothingBack keys between new
+    → TakesNothingBack keys old new
+grown_then {keys = keys} old between new first second = record {
+  requests = (
+    first.requests.0 ++ second.requests.0,
+    joined old.requests between.requests new.requests first.requests.0 second.requests.0 first.requests.1 second.requests.1,
+    All-append (IsOfPlan keys) first.requests.0 second.requests.0 first.requests.2 second.requests.2,
+  );
   sent = grown_by old.sent between.sent new.sent first.sent second.sent;
   handed = grown_by old.handed between.handed new.handed first.handed second.handed;
 }
 
-stays_grown : (old new : Past) → Stays old new → TakesNothingBack old new
+stays_grown : {keys : List Key} (old new : Past) → Stays old new → TakesNothingBack keys old new
 stays_grown old new stays =
-    record { requests = still old.requests new.requests stays.requests_stay; sent = still old.sent new.sent stays.sent_stays; handed = still old.handed new.handed stays.handed_stays }
+    record { requests = asks_none old.requests new.requests stays.requests_stay; sent = still old.sent new.sent stays.sent_stays; handed = still old.handed new.handed stays.handed_stays }
 
-pub delivered_grown : (names : Names) (old new : Past) → Delivered names old new → TakesNothingBack old new
+pub delivered_grown : {keys : List Key} (names : Names) (old new : Past) → Delivered names old new → TakesNothingBack keys old new
 delivered_grown names old new d = stays_grown old new (delivered_stays names old new d)
 
-asked_grown : (sent : List ℕ) (p : Past) → TakesNothingBack p (with_asked sent p)
-asked_grown sent p = record { requests = (requests_in sent, refl); sent = still p.sent p.sent refl; handed = still p.handed p.handed refl }
+asked_grown : {keys : List Key} (sent : List ℕ) (p : Past) → All (IsOfPlan keys) (requests_in sent) → TakesNothingBack keys p (with_asked sent p)
+asked_grown sent p own = record { requests = (requests_in sent, refl, own); sent = still p.sent p.sent refl; handed = still p.handed p.handed refl }
 
-hands_grown : (names : Names) (old new : Past) (sent : List ℕ) (answer : Option (List ℕ)) → HandsOver names old sent answer new → TakesNothingBack old new
-hands_grown names old new sent answer hands =
+hands_grown : {keys : List Key} (names : Names) (old new : Past) (sent : List ℕ) (answer : Option (List ℕ)) → All (IsOfPlan keys) (requests_in sent)
+    → HandsOver names old sent answer new → TakesNothingBack keys old new
+hands_grown names old new sent answer own hands =
     let asks = handed_asks names old new sent answer hands in
-    record { requests = (requests_in sent, asks.2); sent = (sent ∷ [], asks.0); handed = (answer ∷ [], asks.1) }
+    record { requests = (requests_in sent, asks.2, own); sent = (sent ∷ [], asks.0); handed = (answer ∷ [], asks.1) }
 
 -- by an exchange, whether it has an answer or not
-pub exchanged_grown : (names : Names) (old new : Past) (sent : List ℕ) (answered : Result (Option (List ℕ)) LinkFault) → Exchanged names old sent answered new → TakesNothingBack old new
-exchanged_grown names old new sent (Ok answer) done = hands_grown names old new sent answer done
-exchanged_grown names old new sent (Err Io) done = hands_grown names old new sent None done
-exchanged_grown names old new sent (Err Frame) done = hands_grown names old new sent None done
-exchanged_grown names old new sent (Err NoMemory) done = elim done [
+pub exchanged_grown : {keys : List Key} (names : Names) (old new : Past) (sent : List ℕ) (answered : Result (Option (List ℕ)) LinkFault)
+    → All (IsOfPlan keys) (requests_in sent) → Exchanged names old sent answered new → TakesNothingBack keys old new
+exchanged_grown names old new sent (Ok answer) own done = hands_grown names old new sent answer own done
+exchanged_grown names old new sent (Err Io) own done = hands_grown names old new sent None own done
+exchanged_grown names old new sent (Err Frame) own done = hands_grown names old new sent None own done
+exchanged_grown names old new sent (Err NoMemory) own done = elim done [
   | inl before ↦ delivered_grown names old new before
-  | inr after ↦ grown_then old (with_asked sent old) new (asked_grown sent old) (delivered_grown names (with_asked sent old) new after)
+  | inr after ↦ grown_then old (with_asked sent old) new (asked_grown sent old own) (delivered_grown names (with_asked sent old) new after)
 ]
+
+-- what a question asks is of the plan
+asked_there : (keys : List Key) (knowns : List Knowledge) (place : ℕ) (w : WorksAt keys knowns place)
+    → at_place (λ place key known. request_about key known) keys knowns place ≡ Some (request_about w.key w.known)
+asked_there keys knowns place w = rw (w.key_is, w.known_is) refl
+
+all_of_plan : KeysAreFound → (keys : List Key) (knowns : List Knowledge) (places : List ℕ) → IsLawful keys → All (WorksAt keys knowns) places
+    → All (IsOfPlan keys) (requests_at keys knowns places)
+all_of_plan found keys knowns [] lawful works = All-nil (IsOfPlan keys)
+all_of_plan found keys knowns (place ∷ places) lawful works =
+    let w = All-head (WorksAt keys knowns) place places works in
+    rw (asked_there keys knowns place w)
+    (All-cons (IsOfPlan keys) (request_about w.key w.known) (requests_at keys knowns places)
+    (record { operation = operation_of (ask_about w.key w.known); key = w.key; is_planned = found keys place w.key lawful w.key_is; id_is = refl })
+    (all_of_plan found keys knowns places lawful (All-tail (WorksAt keys knowns) place places works)))
+
+pub question_of_plan : KeysAreFound → (keys : List Key) (knowns : List Knowledge) (places : List ℕ) (question : Question) (sent : List ℕ) → IsLawful keys
+    → IsAbout keys knowns places question → sent ≡ question.bytes → All (IsOfPlan keys) (requests_in sent)
+question_of_plan found keys knowns places question sent lawful about same =
+    subst (λ bytes. All (IsOfPlan keys) (requests_in bytes)) (sym same)
+    (subst (All (IsOfPlan keys)) (sym about.asks) (all_of_plan found keys knowns places lawful about.works))
+
+-- and if what was asked before is of the plan too, each request may be asked still
+pub grown_justified : SoundIsJustified → (keys : List Key) (old new : Past) → TakesNothingBack keys old new → Sound keys new
+    → All (IsOfPlan keys) old.requests → AreJustified keys new
+grown_justified law keys old new grown sound own =
+    law keys new sound
+    (subst (All (IsOfPlan keys)) (sym grown.requests.1)
+    (All-append (IsOfPlan keys) old.requests grown.requests.0 own grown.requests.2))

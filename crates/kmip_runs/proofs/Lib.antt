@@ -21,6 +21,7 @@ pub mod OutlastLemmas
 pub mod EndingLemmas
 pub mod PartLemmas
 pub mod LastLemmas
+pub mod GrownLemmas
 pub mod PlanLemmas
 pub mod WentLemmas
 pub mod SavedLemmas

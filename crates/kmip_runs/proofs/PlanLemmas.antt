@@ -111,6 +111,7 @@ known_for keys carried runs notes honest other whole old new to is = record {
   until = is.until;
   heard = λ holds. is.heard (to holds);
   takes_nothing_back = λ holds. is.takes_nothing_back (to holds);
+  later = λ holds. is.later (to holds);
   few_more = λ holds. is.few_more (to holds);
   no_more = is.no_more;
 }

@@ -142,6 +142,7 @@ module _ (keys : List Key) (carried : List (List Known)) (runs : List Run) where
     pub saved_are : carried ++ saved ≡ saved_from carried runs known
     pub last_is : c.knowns ≡ last_of known (fresh keys).knowns
     pub heard : x.honest (is_planned keys) → y.honest (is_planned keys) × AreHeard keys runs (starts keys carried runs known) known ends x.past y.past
+    pub grown : x.honest (is_planned keys) → TakesNothingBack keys x.past y.past
 
   pub recalled_none : (c : ClientState) (x : Seen) (ends : List RunEnd) (saved : List (List Known)) → c.knowns ≡ (fresh keys).knowns → ends ≡ [] → saved ≡ []
       → Recalled c x x ends saved
@@ -167,6 +168,7 @@ module _ (keys : List Key) (carried : List (List Known)) (runs : List Run) where
                 requests_are = sym (append-nil x.past.requests);
               }),
         );
+        grown = λ holds. grown_itself x.past;
       })
 
   pub recalled_more : (a b : ClientState) (x y z : Seen) (run : Run) (old new : CampaignEnd) (place : ℕ) → slice_get runs place ≡ Some run
@@ -201,6 +203,7 @@ module _ (keys : List Key) (carried : List (List Known)) (runs : List Run) where
                   (heard_more keys runs run (starts keys carried runs before.known) before.known old.runs.items x.past y.past z.past start b.knowns ran.driven.1
                   noted.end (subst (λ n. slice_get runs n ≡ Some run) (sym long) is) noted.exchanges_is first.1 second.1),
             );
+        grown = λ holds. grown_then x.past y.past z.past (before.grown holds) (ran.takes_nothing_back (before.heard holds).0);
       })
 
   pub recalled_known : (c : ClientState) (x y : Seen) (ends : List RunEnd) (saved : List (List Known)) (whole : Type 0) → Recalled c x y ends saved
@@ -212,7 +215,8 @@ module _ (keys : List Key) (carried : List (List Known)) (runs : List Run) where
     saved_are = recalled.saved_are;
     until = y.past;
     heard = λ holds. (recalled.heard holds).1;
-    takes_nothing_back = λ holds. grown_itself y.past;
+    takes_nothing_back = recalled.grown;
+    later = λ holds. grown_itself y.past;
     few_more = λ holds. omega arith;
     no_more = λ is. refl;
   }
@@ -233,7 +237,9 @@ module _ (keys : List Key) (carried : List (List Known)) (runs : List Run) where
         saved_are = recalled.saved_are;
         until = y.past;
         heard = λ holds. (recalled.heard holds).1;
-        takes_nothing_back = λ holds. broken.takes_nothing_back (recalled.heard holds).0;
+        takes_nothing_back = λ holds.
+            grown_then x.past y.past z.past (recalled.grown holds) (broken.takes_nothing_back (recalled.heard holds).0);
+        later = λ holds. broken.takes_nothing_back (recalled.heard holds).0;
         few_more = λ holds. rw limit (broken.few (recalled.heard holds).0);
         no_more = no_more;
       })
@@ -243,9 +249,10 @@ module _ (keys : List Key) (carried : List (List Known)) where
   pub ran_closed : (run : Run) (a b c : ClientState) (x y z : Seen) (driven : Stop × ℕ) (old new : CampaignEnd) → b.keys ≡ keys → b.batch ≡ run.batch
       → b.knowns ≡ begins_with keys carried run a old → Keeps b c
       → (x.honest (is_planned b.keys) → y.honest (is_planned b.keys) × Learnt b.keys b.batch x.past y.past b.knowns c.knowns driven.1)
+      → (x.honest (is_planned b.keys) → TakesNothingBack b.keys x.past y.past)
       → HasEnded c.keys run c.knowns driven old new → ((names : Names) → y.honest names → z.honest names × Delivered names y.past z.past)
       → HasRun keys carried run (record { client = a; link = x; end = old }) (record { client = c; link = z; end = new })
-  ran_closed run a b c x y z driven old new b_keys b_batch begun keeps learnt ended closes = record {
+  ran_closed run a b c x y z driven old new b_keys b_batch begun keeps learnt grown ended closes = record {
     driven = driven;
     ended = subst (λ ks. HasEnded ks run c.knowns driven old new) (keeps.keys_stay ∙ b_keys) ended;
     forgets_nothing = subst (λ start. AllZip IsKept start c.knowns) begun keeps.kept;
@@ -259,19 +266,27 @@ module _ (keys : List Key) (carried : List (List Known)) where
               (subst (λ ks. Learnt ks b.batch x.past y.past b.knowns c.knowns driven.1) b_keys taught.1)))
               (delivered_stays (is_planned keys) y.past z.past close.1) refl,
         );
+    takes_nothing_back = λ holds.
+        let first = subst (λ ks. x.honest (is_planned ks)) (sym b_keys) holds in
+        let close = closes (is_planned keys) (subst (λ ks. y.honest (is_planned ks)) b_keys (learnt first).0) in
+        grown_then x.past y.past z.past (subst (λ ks. TakesNothingBack ks x.past y.past) b_keys (grown first))
+        (delivered_grown (is_planned keys) y.past z.past close.1);
   }
 
   -- or begun, driven and broken off
-  pub broken_off : (b : ClientState) (x y : Seen) (run : Run) (old new : CampaignEnd) → b.keys ≡ keys → (x.honest (is_planned b.keys) → TakesNothingBack x.past y.past)
+  pub broken_off : (b : ClientState) (x y : Seen) (run : Run) (old new : CampaignEnd) → b.keys ≡ keys
+      → (x.honest (is_planned b.keys) → TakesNothingBack b.keys x.past y.past)
       → (x.honest (is_planned b.keys) → length y.past.sent ≤ length x.past.sent + run.limit) → AreSame old new → IsBroken keys run x y old new
   broken_off b x y run old new b_keys grown few same = record {
     same = same;
-    takes_nothing_back = λ holds. grown (subst (λ ks. x.honest (is_planned ks)) (sym b_keys) holds);
+    takes_nothing_back = λ holds. subst (λ ks. TakesNothingBack ks x.past y.past) b_keys
+        (grown (subst (λ ks. x.honest (is_planned ks)) (sym b_keys) holds));
     few = λ holds. few (subst (λ ks. x.honest (is_planned ks)) (sym b_keys) holds);
   }
 
   -- or begun and driven, and broken off where it was to be ended over the link
-  pub broken_closed : (b : ClientState) (x y z : Seen) (run : Run) (old new : CampaignEnd) → b.keys ≡ keys → (x.honest (is_planned b.keys) → TakesNothingBack x.past y.past)
+  pub broken_closed : (b : ClientState) (x y z : Seen) (run : Run) (old new : CampaignEnd) → b.keys ≡ keys
+      → (x.honest (is_planned b.keys) → TakesNothingBack b.keys x.past y.past)
       → (x.honest (is_planned b.keys) → length y.past.sent ≤ length x.past.sent + run.limit) → ((names : Names) → x.honest names → y.honest names)
       → ((names : Names) → y.honest names → z.honest names × Delivered names y.past z.past) → AreSame old new → IsBroken keys run x z old new
   broken_closed b x y z run old new b_keys grown few still closes same =

@@ -230,6 +230,7 @@ known_if keys carried runs notes honest whole other old new to known = record {
   until = known.until;
   heard = known.heard;
   takes_nothing_back = known.takes_nothing_back;
+  later = known.later;
   few_more = known.few_more;
   no_more = λ is. known.no_more (to is);
 }

@@ -28,6 +28,7 @@ use Rattle.kmip_runs.specs.declared.stop.Stop.TheVariants as stops
 use Rattle.kmip_runs.specs.PrivateCarried.{Went}
 use Rattle.kmip_runs.specs.Saved.{IsInMemory, IsWhole, Situation}
 use Rattle.kmip_runs.specs.declared.save_fault.SaveFault.{SaveFault}
+use Rattle.kmip_runs.proofs.KnownLemmas.{delivered_grown, grown_itself, grown_then}
 use Rattle.kmip_runs.proofs.OnLemmas.{on_nowhere, on_then}
 
 abbrev ok : Stop → Result Stop SaveFault
@@ -214,40 +215,6 @@ until_behind requests keys most names old mid new knowns nexts n done a =
 
 -- ---- nothing that was asked is taken back
 
-grown_by : {A : Type 0} (old between new : List A) → (xs : List A) × (between ≡ old ++ xs) → (ys : List A)
-    × (new ≡ between ++ ys) → (zs : List A) × (new ≡ old ++ zs)
-grown_by old between new first second = (first.0 ++ second.0, joined old between new first.0 second.0 first.1 second.1)
-
-still : {A : Type 0} (old new : List A) → new ≡ old → (more : List A) × (new ≡ old ++ more)
-still old new same = ([], same ∙ sym (append-nil old))
-
-grown_itself : (p : Past) → TakesNothingBack p p
-grown_itself p =
-    record {
-      requests = still p.requests p.requests refl;
-      sent = still p.sent p.sent refl;
-      handed = still p.handed
-          p.handed refl;
-    }
-
-grown_then : (old between new : Past) → TakesNothingBack old between → TakesNothingBack between new
-    → TakesNothingBack old new
-grown_then old between new first second = record {
-  requests = grown_by old.requests between.requests new.requests first.requests second.requests;
-  sent = grown_by old.sent between.sent new.sent first.sent second.sent;
-  handed = grown_by old.handed between.handed new.handed first.handed second.handed;
-}
-
-grown_delivered : DeliveriesKeepTheRequests → (names : Names) (old new : Past) → Delivered names old new
-    → TakesNothingBack old new
-grown_delivered requests names old new done =
-    let grows = requests names old new done in
-    record {
-      requests = still old.requests new.requests grows.requests;
-      sent = still old.sent new.sent grows.sent;
-      handed = still old.handed new.handed grows.handed;
-    }
-
 -- who asks one key at once goes on doing so
 asks_one : (a b : ClientState) → Keeps a b → AsksOne a → AsksOne b
 asks_one a b keeps (inl one) = inl (keeps.batch_stays ∙ one)
@@ -319,8 +286,9 @@ went_then l a b c stop result m n memory first second =
           first.keeps.batch_stays after));
       takes_nothing_back = λ holds.
           grown_then a.link.past b.link.past c.link.past (first.takes_nothing_back holds)
+          (subst (λ ks. TakesNothingBack ks b.link.past c.link.past) keys
           (second.takes_nothing_back (subst (λ ks. b.link.honest (is_planned ks)) (sym keys)
-          (first.learns holds).0));
+          (first.learns holds).0)));
       keeps = keeps_then a.client b.client c.client first.keeps second.keeps;
       near = λ settling whole.
           let before = first.near settling memory in
@@ -392,7 +360,7 @@ went_closed l a b z result ended closed m lawful delivers passes calms memory cu
       takes_nothing_back = λ holds.
           let step = delivers (is_planned a.client.keys) (first.learns holds).0 in
           grown_then a.link.past b.link.past z.past (first.takes_nothing_back holds)
-          (grown_delivered l.exchanges.requests_stay (is_planned a.client.keys) b.link.past z.past step.1);
+          (delivered_grown (is_planned a.client.keys) b.link.past z.past step.1);
       keeps = first.keeps;
       near = λ settling done.
           let held = whole done in

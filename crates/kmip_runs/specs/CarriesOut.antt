@@ -1,5 +1,6 @@
 -- What carrying out a plan over a link promises.
 -- Source: own (view).
+use Rattle.std.specs.List.{All}
 use Rattle.std.specs.Prelude.{Bool, Err, IfOk, IsTrue, Ok, Result, false, length, ℕ, ◌+◌, ◌-◌, ◌<◌, ◌≡◌, ◌≢◌, ◌≤◌, ◌⊎◌}
 use Rattle.kmip_client.specs.Clients.{ClientState}
 use Rattle.kmip_client.specs.Verdicts.{counts_of}
@@ -8,6 +9,7 @@ use Rattle.kmip_protocol.specs.Ending.{EndedAt}
 use Rattle.kmip_protocol.specs.Headline.{Safe}
 use Rattle.kmip_protocol.specs.Past.{is_planned}
 use Rattle.kmip_protocol.specs.Seen.{Seen}
+use Rattle.kmip_protocol.specs.Sound.{AreJustified, IsOfPlan}
 use Rattle.kmip_runs.specs.Driving.{AsksOne, IsBorneOut, IsGood, IsSettling, Keeps, Learnt, LearntUntil, Nearer, TakesNothingBack, WentOn, need}
 use Rattle.kmip_runs.specs.Headline.{reported_by}
 use Rattle.kmip_runs.specs.Keeping.{Kept}
@@ -66,6 +68,10 @@ pub record CarriesOutWell (most : ℕ) (old : Stage) (stopped : Result Stop Save
       → stopped ≡ Ok stops.AllFinished
   -- Where all was good (`IsGood`), it does not stop with `Conflict`.
   pub no_conflict : stopped ≢ Ok stops.Conflict
+  -- If all was good, nobody else asks, and no request asked before was a look's: each request ever asked
+  -- may be asked of a key of the plan still.
+  pub justified : old.link.honest (is_planned old.client.keys)
+      → All (IsOfPlan old.client.keys) old.link.past.requests → AreJustified old.client.keys new.link.past
   -- If all was good, the past is safe for the steps that the client counts done at the end.
   pub safe : Safe old.client.keys new.link.past (reported_by old.client.keys (counts_of new.client.knowns))
 
@@ -86,8 +92,8 @@ pub record CarriesOutHonestly (old : Stage) (stopped : Result Stop SaveFault) (m
       → LearntUntil old.client.keys old.client.batch old.link.past new.link.past old.client.knowns
       new.client.knowns made
   -- Over a link that was honest for the plan's names nothing that was asked, sent or handed over is
-  -- taken back, however it stops.
-  pub takes_nothing_back : TakesNothingBack old.link.past new.link.past
+  -- taken back, however it stops. What joins those asked is of the plan.
+  pub takes_nothing_back : TakesNothingBack old.client.keys old.link.past new.link.past
   -- Over a link that was honest for the plan's names the run is ended once, right after its last
   -- exchange, unless memory ran out or a text was not saved.
   pub ended : IsWhole stopped

@@ -61,8 +61,8 @@ pub record DrivesHonestly (old : Seen) (client : ClientState) (most : ℕ) (driv
   -- Where the link is honest for the plan's names, at most `most` messages are sent.
   pub few : length new.past.sent ≤ length old.past.sent + most
   -- Where the link is honest for the plan's names, nothing that was asked, sent or handed over is taken
-  -- back.
-  pub takes_nothing_back : TakesNothingBack old.past new.past
+  -- back, and what joins those asked is of the plan.
+  pub takes_nothing_back : TakesNothingBack client.keys old.past new.past
 
 -- What driving promises where the link is calm and the client ready (`IsSettling`).
 pub record DrivesCalmly (old : Seen) (client : ClientState) (most : ℕ) (driven : Stop × ℕ) (new : Seen) (next : ClientState) : Type 0 where

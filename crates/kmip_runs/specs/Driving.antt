@@ -24,7 +24,7 @@ use Rattle.kmip_protocol.specs.Amid.{PassedAmid, seen_by_others}
 use Rattle.kmip_protocol.specs.Machine.{IsMirrored}
 use Rattle.kmip_protocol.specs.Past.{Past, is_planned}
 use Rattle.kmip_protocol.specs.Seen.{Seen}
-use Rattle.kmip_protocol.specs.Sound.{Sound}
+use Rattle.kmip_protocol.specs.Sound.{IsOfPlan, Sound}
 use Rattle.kmip_client.specs.Known.{facts, known_after}
 use Rattle.kmip_protocol.specs.SettlingLaws.{NoneIsMade}
 use Rattle.kmip_protocol.specs.Needs.{need_all}
@@ -117,9 +117,10 @@ pub record Learnt (keys : List Key) (most : ℕ) (old new : Past) (knowns nexts 
   pub each : All (IsQuestion keys most) questions
   pub known_is : facts nexts ≡ facts (known_after keys knowns answers)
 
--- Nothing that was asked, sent or handed over is taken back. Own (law).
-pub record TakesNothingBack (old new : Past) : Type 0 where
-  pub requests : (more : List Request) × (new.requests ≡ old.requests ++ more)
+-- Nothing that was asked, sent or handed over is taken back. Each request that joins those asked is of the plan
+-- (`IsOfPlan`). Own (law).
+pub record TakesNothingBack (keys : List Key) (old new : Past) : Type 0 where
+  pub requests : (more : List Request) × (new.requests ≡ old.requests ++ more) × All (IsOfPlan keys) more
   pub sent : (more : List (List ℕ)) × (new.sent ≡ old.sent ++ more)
   pub handed : (more : List (Option (List ℕ))) × (new.handed ≡ old.handed ++ more)
 

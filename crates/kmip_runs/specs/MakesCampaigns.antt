@@ -8,7 +8,7 @@ use Rattle.kmip_protocol.specs.Machine.{IsMirrored}
 use Rattle.kmip_protocol.specs.Past.{is_planned}
 use Rattle.kmip_protocol.specs.Headline.{Safe}
 use Rattle.kmip_protocol.specs.Seen.{Seen}
-use Rattle.kmip_protocol.specs.Sound.{Opening}
+use Rattle.kmip_protocol.specs.Sound.{AreJustified, IsOfPlan, Opening}
 use Rattle.kmip_runs.specs.Campaign.{CalmLink, HasNoConflict, IsEnd, Settles, saves}
 use Rattle.kmip_runs.specs.Headline.{GoodLink, reported}
 use Rattle.kmip_runs.specs.Campaigns.{AreInTurn, GoodStart, IsTrueFor, last_plan, premises_of}
@@ -36,6 +36,9 @@ pub record RunsWell (old : Seen) (keys : List Key) (runs : List Run) (end : Camp
   pub no_conflict : All HasNoConflict end.runs.items
   -- A good link is good after the campaign too, so that another campaign may follow.
   pub sound : GoodLink keys new
+  -- Over a good link, if nobody else asks, and no request asked before was a look's: each request ever asked
+  -- may be asked of a key of the plan still.
+  pub justified : old.honest (is_planned keys) → All (IsOfPlan keys) old.past.requests → AreJustified keys new.past
   -- Over a good link each saved progress is true of the objects that are there after the campaign.
   pub true_saved : All (TrueProgress new.past.objects keys) end.saved.items
   -- Over a good link the object of each planned name keeps its identifier and never goes back, and a past
@@ -110,6 +113,9 @@ pub record PlansRunWell (old : Seen) (plans : List (List Key)) (end : CampaignEn
   pub no_conflict : All HasNoConflict end.runs.items
   -- Where the start is good, the link is good for the last plan after it.
   pub sound : GoodLink (last_plan plans) new
+  -- Where the start is good, and no request asked before was a look's: each request ever asked may be asked of a
+  -- key of the last plan still.
+  pub justified : All (IsOfPlan (last_plan plans)) old.past.requests → AreJustified (last_plan plans) new.past
   -- Where the start is good, the link is honest for the names of the last plan after it.
   pub honest : new.honest (is_planned (last_plan plans))
   -- Where the start is good, each saved progress is true of the last plan and of the objects that are there

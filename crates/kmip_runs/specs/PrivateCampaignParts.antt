@@ -116,6 +116,7 @@ pub record HasRun (keys : List Key) (carried : List (List Known)) (run : Run) (o
   pub forgets_nothing : AllZip IsKept (begins_with keys carried run old.client old.end) new.client.knowns
   pub learnt : old.link.honest (is_planned keys) → new.link.honest (is_planned keys)
       × Learnt keys run.batch old.link.past new.link.past (begins_with keys carried run old.client old.end) new.client.knowns driven.1
+  pub takes_nothing_back : old.link.honest (is_planned keys) → TakesNothingBack keys old.link.past new.link.past
 
 -- the run that was noted last finished all keys within the plan's bound, if it might make as many exchanges
 pub record HasSettled (keys : List Key) (run : Run) (old new : List RunEnd) : Type 0 where
@@ -126,7 +127,7 @@ pub record HasSettled (keys : List Key) (run : Run) (old new : List RunEnd) : Ty
 -- the run was broken off, and nothing is noted of it
 pub record IsBroken (keys : List Key) (run : Run) (x y : Seen) (old new : CampaignEnd) : Type 0 where
   pub same : AreSame old new
-  pub takes_nothing_back : x.honest (is_planned keys) → TakesNothingBack x.past y.past
+  pub takes_nothing_back : x.honest (is_planned keys) → TakesNothingBack keys x.past y.past
   pub few : x.honest (is_planned keys) → length y.past.sent ≤ length x.past.sent + run.limit
 
 -- What a run promises where all was good before it, and what was carried over is true.

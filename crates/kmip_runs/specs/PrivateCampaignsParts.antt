@@ -2,6 +2,7 @@
 -- Source: own (view).
 use Rattle.std.specs.Prelude.{◌≡◌, ◌≢◌, ◌<◌, ◌⊎◌, List, [], ◌++◌, flat_map, length, map, IfOk, IfSome, IsOk, None, OnErr, OnOk, Option, Result}
 use Rattle.std.specs.List.{All}
+use Rattle.kmip_plan.specs.Plans.{IsLawful}
 use Rattle.kmip_plan.specs.declared.key.Key.{Key}
 use Rattle.kmip_progress.specs.Suiting.{Suits}
 use Rattle.kmip_progress.specs.declared.known.Known.{Known}
@@ -97,6 +98,7 @@ pub record HasRunPlans (plans : List (List Key)) (runs : List (List Run)) (whole
 pub record MakesPlans (plans : List (List Key)) (runs : List (List Run)) (whole : Type 0) (old new : Seen) (end : CampaignEnd) (follows : Type 0) : Type 0 where
   -- All is good for the last plan, and what is noted was noted plan by plan.
   pub ran : HasRunPlans plans runs whole old new end
+  pub lawful : IsLawful (last_plan plans)
   -- The runs that have ends are those that were ended over an honest link, and no other was.
   pub ended : old.honest (is_planned (last_plan plans))
       → EndsJoin [] end.runs.items whole (length old.past.sent) (length new.past.sent) old.ended new.ended

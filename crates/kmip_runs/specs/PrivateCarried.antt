@@ -31,7 +31,7 @@ pub record Went (old new : Situation) (result : Result Stop SaveFault) (made : �
       × (IsInMemory result → Learnt old.client.keys old.client.batch old.link.past new.link.past old.client.knowns new.client.knowns made)
   pub broken : old.link.honest (is_planned old.client.keys) → result ≡ Ok stops.NoMemory
       → LearntUntil old.client.keys old.client.batch old.link.past new.link.past old.client.knowns new.client.knowns made
-  pub takes_nothing_back : old.link.honest (is_planned old.client.keys) → TakesNothingBack old.link.past new.link.past
+  pub takes_nothing_back : old.link.honest (is_planned old.client.keys) → TakesNothingBack old.client.keys old.link.past new.link.past
   pub keeps : Keeps old.client new.client
   pub near : IsSettling old.client old.link → IsWhole result → Nearer old.client new.client old.link new.link made
 

@@ -34,7 +34,7 @@ pub record TriesHonestly {V : Type 0} (made : V → ℕ) (old : Seen) (client : 
   -- Where memory ran out, no fact was learnt, and the exchange was not made, or not heard.
   pub broken : IfErr done (λ fault. (facts next.knowns ≡ facts client.knowns) × IsBrokenOff client.keys client.batch old.past new.past fault)
   -- Nothing that was asked, sent or handed over is taken back.
-  pub takes_nothing_back : TakesNothingBack old.past new.past
+  pub takes_nothing_back : TakesNothingBack client.keys old.past new.past
 
 -- What one exchange at most makes of link and client. `follows` is that the link after it is what calls made
 -- of the link before.

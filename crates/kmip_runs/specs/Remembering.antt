@@ -121,7 +121,7 @@ limit_at runs place = option_map_or (λ run. run.limit) (slice_get runs place) 0
 -- There is a knowledge for each end that the end shows. It takes back nothing of what its run began with. It
 -- is saved where its run says so, after what was carried over. Over an honest link it is what was heard until
 -- the last end. Nothing was asked later unless the next run was broken off, and that sent no more messages
--- than its limit.
+-- than its limit. All that was asked is of the plan.
 pub record AreKnownFrom (keys : List Key) (carried : List (List Known)) (runs : List Run) (notes : Notes) (honest whole : Type 0) (old new : Past) : Type 0 where
   pub known : List (List Knowledge)
   pub shown : AllZip (Shows keys) known notes.ends
@@ -129,7 +129,8 @@ pub record AreKnownFrom (keys : List Key) (carried : List (List Known)) (runs : 
   pub saved_are : carried ++ notes.saved ≡ saved_from carried runs known
   pub until : Past
   pub heard : honest → AreHeard keys runs (starts keys carried runs known) known notes.ends old until
-  pub takes_nothing_back : honest → TakesNothingBack until new
+  pub takes_nothing_back : honest → TakesNothingBack keys old new
+  pub later : honest → TakesNothingBack keys until new
   pub few_more : honest → length new.sent ≤ length until.sent + limit_at runs (length known)
   pub no_more : whole → until ≡ new
 

@@ -7,27 +7,10 @@ use kmip_desk::{DeskCall, MemoryDesk, PlanFile, RunFault, RunJob};
 use kmip_report::{ExitStatus, Form, Printed};
 use kmip_scripted::{Scripted, read_script};
 use kmip_store::IndexedStore;
-use std::alloc::Global;
+use std::alloc::{AllocError, Global};
 use std::net::{Ipv4Addr, SocketAddrV4};
 use std::process::Abort;
 use std::test::Fail;
-
-/// Two keys.
-const PLAN: &str = "\
-[[key]]
-name = \"k1\"
-algorithm = \"AES\"
-length = 256
-usage = [\"encrypt\", \"decrypt\"]
-target = \"active\"
-
-[[key]]
-name = \"k2\"
-algorithm = \"AES\"
-length = 128
-usage = [\"encrypt\"]
-target = \"created\"
-";
 
 /// An object of the first key is known.
 const PROGRESS: &str = "kmip-progress 2\nk1 active - 1 31\nk2 created - 0 -\nend 2\n";
@@ -55,14 +38,20 @@ key k1 AES 256 0000000c
 key k2 AES 128 00000004
 ";
 
-/// The same keys, of which none is to be activated.
-const EARLIER_PLAN: &str = "\
+/// What is known once both are created.
+const CREATED: &str = "kmip-progress 2\nk1 active - 1 31\nk2 created - 1 32\nend 2\n";
+
+/// A plan of two keys, the first with this target.
+fn two_keys(alloc: Global, target: &str) -> Result<String, AllocError> {
+    format!(
+        in alloc;
+        "\
 [[key]]
 name = \"k1\"
 algorithm = \"AES\"
 length = 256
 usage = [\"encrypt\", \"decrypt\"]
-target = \"created\"
+target = \"{target}\"
 
 [[key]]
 name = \"k2\"
@@ -70,10 +59,9 @@ algorithm = \"AES\"
 length = 128
 usage = [\"encrypt\"]
 target = \"created\"
-";
-
-/// What is known once both are created.
-const CREATED: &str = "kmip-progress 2\nk1 active - 1 31\nk2 created - 1 32\nend 2\n";
+"
+    )
+}
 
 /// What came of a run.
 #[derive(Drop)]
@@ -111,7 +99,7 @@ fn options(alloc: Global, trust: Trust, lock_wait: u64) -> Result<RunOptions, Fa
 fn run(alloc: Global, options: &RunOptions, desk: MemoryDesk) -> Result<Came, Fail> {
     let script = read_script(alloc, "pass\nlose-reply\npass\n")?;
     let mut link = new_link(alloc, script);
-    run_on(alloc, PLAN, options, desk, &mut link)
+    run_on(alloc, two_keys(alloc, "active")?.as_str(), options, desk, &mut link)
 }
 
 /// A run of this plan at this desk, over this link.
@@ -261,10 +249,12 @@ fn a_run_goes_on_after_a_look(rt: HostRuntime) -> Result<(), Fail> {
     let options = options(alloc, Trust::Checked, 0)?;
     let mut link = new_link(alloc, read_script(alloc, "pass\n")?);
     let nothing = MemoryDesk::new(alloc, None, None);
-    let created = run_on(alloc, EARLIER_PLAN, &options, nothing, &mut link)?;
+    let earlier = two_keys(alloc, "created")?;
+    let created = run_on(alloc, earlier.as_str(), &options, nothing, &mut link)?;
     assert_eq!(rt; created.status, ExitStatus::Done);
     let desk = MemoryDesk::new(alloc, Some(String::from_str(alloc, CREATED)?), None);
-    let active = run_on(alloc, PLAN, &options, desk, &mut link)?;
+    let later = two_keys(alloc, "active")?;
+    let active = run_on(alloc, later.as_str(), &options, desk, &mut link)?;
     assert_eq!(rt; active.status, ExitStatus::Done);
     assert_eq!(rt; active.watch.looks, 1usize);
     assert_eq!(rt; active.desk.written_origin(), Some(ORIGIN.as_bytes()));

@@ -23,7 +23,7 @@ returns-in_err-heard g c =
             goes = tt;
           };
       calmly = λ names calm. record { still = (c.put.ensures.calmly names calm).0; comes = tt };
-      sound = sound_by c.the_laws_below_hold.ensures.exchanges.beside c.args.mark.now c.args.part c.args.keys.now
+      sound = sound_by c.the_laws_below_hold.ensures.exchanges.outside c.args.mark.now c.args.part c.args.keys.now
           c.args.lookeds.now.items c.args.requests.now (g.L.Link.seen c.args.link.now) (g.L.Link.seen c.put.new.link)
           c.requires.asks c.put.ensures.sound;
       tried = λ names honest. tt;
@@ -62,7 +62,7 @@ returns g c =
                 (λ done is. calmly_by c.the_laws_below_hold.ensures part mark why requests replies keys olds news old
                 new c.requires.asks fits is served) c.hear_each.ensures;
           };
-      sound = sound_by c.the_laws_below_hold.ensures.exchanges.beside mark part keys olds requests
+      sound = sound_by c.the_laws_below_hold.ensures.exchanges.outside mark part keys olds requests
           (g.L.Link.seen c.args.link.now) (g.L.Link.seen c.put.new.link) c.requires.asks c.in_ok-heard.ensures.sound;
       tried = λ names honest.
           let (still, puts, has) = c.in_ok-heard.ensures.honestly names honest in

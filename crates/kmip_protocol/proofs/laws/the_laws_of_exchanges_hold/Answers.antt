@@ -1,5 +1,5 @@
 -- By the lemmas of each.
-use Rattle.kmip_protocol.proofs.BesideLemmas.{strange_beside}
+use Rattle.kmip_protocol.proofs.OutsideLemmas.{sound_justified, strange_outside}
 use Rattle.kmip_protocol.proofs.EffectLemmas.{served_joins}
 use Rattle.kmip_protocol.proofs.ExchangeLemmas.{asked_sound, exchanged_sound, given_true, opening_sound}
 use Rattle.kmip_protocol.proofs.JoiningLemmas.{calm_honest, delivered_grows, delivered_joins, delivered_nothing}
@@ -37,7 +37,8 @@ returns c =
       sound_of_prolonged = λ new old p was lawful on none sound. prolonged_sound laws new old p lawful on none sound;
       sound_between = λ last next keys p first second third on onto sound whole.
           prolonged_sound laws next keys p second on (none_further laws last next keys p third onto sound whole) sound;
-      beside = λ keys request lawful none strange. strange_beside keys request lawful none strange;
+      outside = λ keys request lawful none strange. strange_outside keys request lawful none strange;
+      justified = λ keys p sound own. sound_justified keys p sound own;
       calm_is_honest = λ names old new sent answer calm. calm_honest names old new sent answer calm;
       taken = λ names stops parts replies old new taken.
           (taken_delivers names stops parts replies old new taken).delivered;

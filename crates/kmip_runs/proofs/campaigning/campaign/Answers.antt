@@ -9,6 +9,7 @@ use Rattle.kmip_runs.specs.TurnedRuns.{AreTurnedFrom}
 use Rattle.kmip_protocol.specs.Past.{is_planned}
 use Rattle.kmip_runs.proofs.CampaignLemmas.{reported_reached}
 use Rattle.kmip_runs.proofs.EndingLemmas.{all_joined}
+use Rattle.kmip_runs.proofs.KnownLemmas.{grown_justified}
 use Rattle.kmip_runs.proofs.campaigning.campaign.Goals as goal
 
 pub returns : goal.returns
@@ -37,6 +38,10 @@ returns g c =
             );
         no_conflict = (all.well good nothing).campaigned.noted.no_conflict;
         sound = (all.well good nothing).campaigned.good;
+        justified = λ honest own.
+            grown_justified l.exchanges.justified keys (g.L.Link.seen c.args.link.now).past
+            (g.L.Link.seen c.run_all.new.link).past (all.known.takes_nothing_back honest)
+            (all.well good nothing).campaigned.good.sound own;
         true_saved = (all.well good nothing).campaigned.noted.true_saved;
         onward = (all.well good nothing).campaigned.on;
         outlasts = (all.well good nothing).outlasts;

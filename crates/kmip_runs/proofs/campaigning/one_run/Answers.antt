@@ -263,6 +263,7 @@ returns g c =
           c.as_slice.ensures.value
           c.in_ok-begin.ensures.begun)
           drives.forgets_nothing (λ honest. let known = (drives.honestly honest).learns in (known.0, known.1 memory))
+          (λ honest. (drives.honestly honest).takes_nothing_back)
           ended (λ names honest. (c.close_run.ensures.honestly names honest).honest);
       turned =
           ran_turned keys c.args.run _ begun driven old mid new c.drive-driven.result end after c.begin.ensures.keys

@@ -11,6 +11,7 @@ use Rattle.kmip_runs.proofs.CarryLemmas.{carried_closed, carried_kept, good_end,
 use Rattle.kmip_runs.proofs.CarryLemmas.{settled_end, stands_last, told_before, unless_given_up}
 use Rattle.kmip_runs.proofs.CarryEndingLemmas.{ended_once, ended_whole, one_of_both}
 use Rattle.kmip_runs.proofs.CarryLosingLemmas.{outlasted, paid_closed}
+use Rattle.kmip_runs.proofs.KnownLemmas.{grown_justified}
 use Rattle.kmip_runs.proofs.LastingLemmas.{file_lasts}
 use Rattle.kmip_runs.proofs.RefusalLemmas.{output_before, risen_at_fault, risen_still}
 use Rattle.kmip_runs.proofs.TurnedLemmas.{turned_last}
@@ -68,6 +69,10 @@ returns g c =
                 outlasted laws client next old new last done.result.1 c.args.limit lawful good
                 (carried.went.good good) (paid honest) stands
                 (λ is. unless_given_up _ _ _ _ done.ensures.made.limit patient (limit is)) whole enough;
+            justified = λ honest own.
+                grown_justified laws.exchanges.justified client.keys old.past new.past
+                (carried.went.takes_nothing_back honest)
+                (subst (λ ks. Sound ks new.past) carried.went.keeps.keys_stay (carried.went.good good).sound) own;
             no_conflict = good_end laws before after last done.result.1 carried.went stands good;
             safe =
                 let ended = carried.went.good good in

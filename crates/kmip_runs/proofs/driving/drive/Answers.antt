@@ -5,7 +5,7 @@ use Rattle.kmip_client.specs.Clients.{ClientState}
 use Rattle.kmip_runs.specs.PrivateTurns.{turn_count}
 use Rattle.kmip_protocol.specs.Past.{is_planned}
 use Rattle.kmip_protocol.specs.Seen.{Seen}
-use Rattle.kmip_runs.specs.Driving.{Keeps, Learnt, LearntUntil, Nearer, WentOn}
+use Rattle.kmip_runs.specs.Driving.{Keeps, Learnt, LearntUntil, Nearer, TakesNothingBack, WentOn}
 use Rattle.kmip_runs.specs.Losing.{ArePaid, left_for}
 use Rattle.kmip_runs.specs.Turning.{IsTurned}
 use Rattle.kmip_runs.specs.Private.{TakesTurn, exchanges_made}
@@ -129,9 +129,11 @@ returns-in-Ok-None g c = record {
     takes_nothing_back =
         grown_then (g.L.Link.seen c.args.link.now).past (g.L.Link.seen c.loop-made.link).past
         (g.L.Link.seen c.turn.new.link).past (c.loop-made.invariant.driven.takes_nothing_back honest)
+        (subst (λ ks. TakesNothingBack ks (g.L.Link.seen c.loop-made.link).past (g.L.Link.seen c.turn.new.link).past)
+        c.loop-made.invariant.driven.keeps.keys_stay
         (c.turn.ensures.honestly (subst (λ ks. (g.L.Link.seen c.loop-made.link).honest (is_planned ks))
         (sym c.loop-made.invariant.driven.keeps.keys_stay)
-        (c.loop-made.invariant.driven.learns honest).0)).takes_nothing_back;
+        (c.loop-made.invariant.driven.learns honest).0)).takes_nothing_back);
   };
   turned =
       turned_rest _ _ c.stop_of.result c.loop-made.made c.args.client.now c.loop-made.client c.turn.new.client
@@ -280,9 +282,11 @@ returns-in-Err g c = record {
     takes_nothing_back =
         grown_then (g.L.Link.seen c.args.link.now).past (g.L.Link.seen c.loop-made.link).past
         (g.L.Link.seen c.turn.new.link).past (c.loop-made.invariant.driven.takes_nothing_back honest)
+        (subst (λ ks. TakesNothingBack ks (g.L.Link.seen c.loop-made.link).past (g.L.Link.seen c.turn.new.link).past)
+        c.loop-made.invariant.driven.keeps.keys_stay
         (c.turn.ensures.honestly (subst (λ ks. (g.L.Link.seen c.loop-made.link).honest (is_planned ks))
         (sym c.loop-made.invariant.driven.keeps.keys_stay)
-        (c.loop-made.invariant.driven.learns honest).0)).takes_nothing_back;
+        (c.loop-made.invariant.driven.learns honest).0)).takes_nothing_back);
   };
   turned =
       subst

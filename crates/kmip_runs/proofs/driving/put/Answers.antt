@@ -9,7 +9,7 @@ use Rattle.kmip_runs.specs.Private.{AreParts, IsBrokenOff, messages_made}
 use Rattle.kmip_runs.proofs.FurtherLemmas.{further_asked}
 use Rattle.kmip_runs.proofs.GoodLemmas.{good_left, harmless_message, if_handed, left, told}
 use Rattle.kmip_runs.proofs.KnownLemmas.{broken_asked, broken_handed, exchanged_grown, handed_asks, handed_over}
-use Rattle.kmip_runs.proofs.KnownLemmas.{learnt_one, lost_facts, on_ok}
+use Rattle.kmip_runs.proofs.KnownLemmas.{learnt_one, lost_facts, on_ok, question_of_plan}
 use Rattle.kmip_runs.proofs.LosingLemmas.{no_fewer, paid_one}
 use Rattle.kmip_runs.proofs.PutLemmas.{are_parts}
 use Rattle.kmip_runs.proofs.SettleLemmas.{nearer_one}
@@ -77,6 +77,8 @@ returns-in_default g c =
           learnt = tt;
           broken = (lost_facts l.client.losses_teach_nothing client next c.args.question.now lost, unmade honest);
           takes_nothing_back = exchanged_grown names old.past new.past c.as_slice-2.result.now _
+              (question_of_plan l.plan.found client.keys client.knowns c.requires.places c.args.question.now
+              c.as_slice-2.result.now lawful c.requires.about c.as_slice-2.ensures)
               (c.exchange-answered.ensures.honestly names honest).honest.1;
         };
         sent = (unmade honest).sent_stays ∙ sym (append-nil old.past.sent);
@@ -160,6 +162,8 @@ returns g c =
                     (some_mapped c.in-Ok.answer (λ v. v.items) unheard.1) (hands honest)),
               ));
           takes_nothing_back = exchanged_grown names old.past new.past c.as_slice-2.result.now _
+              (question_of_plan l.plan.found client.keys client.knowns c.requires.places c.args.question.now
+              c.as_slice-2.result.now lawful c.requires.about c.as_slice-2.ensures)
               (c.exchange-answered.ensures.honestly names honest).honest.1;
         };
         sent =

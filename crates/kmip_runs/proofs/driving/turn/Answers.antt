@@ -10,7 +10,7 @@ use Rattle.kmip_client.specs.declared.part.Part.{Part}
 use Rattle.kmip_client.specs.declared.question.Question.{Question}
 use Rattle.kmip_protocol.specs.Past.{is_planned}
 use Rattle.kmip_runs.specs.Private.{IsAnswered, IsBrokenOff, IsToBePut}
-use Rattle.kmip_runs.specs.Driving.{IsGood, Keeps, KeepsFurther, Learnt, WentOn}
+use Rattle.kmip_runs.specs.Driving.{IsGood, Keeps, KeepsFurther, Learnt, TakesNothingBack, WentOn}
 use Rattle.kmip_runs.specs.Losing.{ArePaid, left_for}
 use Rattle.kmip_runs.proofs.DriveLemmas.{asks_one, further_if}
 use Rattle.kmip_runs.proofs.FurtherLemmas.{further_nowhere}
@@ -173,7 +173,8 @@ returns-in_err-put g c =
                 (λ (s : ClientState). (facts next.knowns ≡ facts s.knowns)
                 × IsBrokenOff s.keys s.batch link.past new.past c.in_err-put.field-0.0)
                 turn put.broken);
-            takes_nothing_back = put.takes_nothing_back;
+            takes_nothing_back = subst (λ (s : ClientState). TakesNothingBack s.keys link.past new.past) turn
+                put.takes_nothing_back;
           };
       gives_up =
           rw (fault.1, fault.2)
@@ -232,7 +233,8 @@ returns g c =
             learnt = subst (λ (s : ClientState). Learnt s.keys s.batch link.past new.past s.knowns next.knowns 1) turn
                 learns.learnt;
             broken = tt;
-            takes_nothing_back = learns.takes_nothing_back;
+            takes_nothing_back = subst (λ (s : ClientState). TakesNothingBack s.keys link.past new.past) turn
+                learns.takes_nothing_back;
           };
       gives_up = tt;
       asked =

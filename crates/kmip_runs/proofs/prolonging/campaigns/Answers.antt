@@ -3,9 +3,11 @@ use Rattle.std.proofs.Common.{[], flat_map, map}
 use Rattle.std.proofs.lemmas.List.Elements.{All-append}
 use Rattle.kmip_protocol.specs.Laws.{IsReached}
 use Rattle.kmip_runs.specs.Headline.{reported, reported_by}
-use Rattle.kmip_runs.specs.Campaigns.{last_plan}
+use Rattle.kmip_runs.specs.Campaigns.{last_plan, premises_of}
 use Rattle.kmip_runs.specs.Remembering.{notes_of}
 use Rattle.kmip_runs.proofs.EndingLemmas.{all_joined, join_if}
+use Rattle.kmip_runs.proofs.GrownLemmas.{parts_grown}
+use Rattle.kmip_runs.proofs.KnownLemmas.{grown_justified}
 use Rattle.kmip_runs.proofs.PlanLemmas.{in_turn_if}
 use Rattle.kmip_runs.proofs.RunLemmas.{of_ok, ok_of}
 use Rattle.kmip_runs.proofs.prolonging.campaigns.Goals as goal
@@ -32,6 +34,11 @@ returns g c =
             (λ opening. went.mirrored (r.exchanges.opening keys old opening), went.mirrored);
         no_conflict = (all.good begun).noted.no_conflict;
         sound = (all.good begun).good;
+        justified = λ own.
+            grown_justified r.exchanges.justified keys old new
+            (parts_grown r (premises_of plans (g.L.Link.seen c.args.link.now)) _ begun.honest_for plans
+            (map (λ list. list.items) c.args.runs.now) [] all.in_turn.parts old new c.requires.prolong
+            c.run_plans.ensures.lawful all.in_turn.each) (all.good begun).good.sound own;
         honest = (all.good begun).honest;
         true_saved = (all.good begun).noted.true_saved;
         onward = (all.good begun).went;

@@ -118,6 +118,7 @@ returns-in_err-carried g c =
           (c.loop-place.invariant.ended far)
           (join_if c.loop-place.end.runs.items c.run_part.new.end.runs.items _ _ _ _ _ _ (λ is. absurd (none is))
           (c.run_part.ensures.ended near));
+      lawful = lawful;
       followed = λ is. absurd (none is);
     }
 
@@ -190,5 +191,6 @@ returns g c =
           c.loop-place.carried.items _ (search rules) all
           (length-map c.args.runs.now (λ list. list.items) ∙ c.requires.as_many) c.loop-place.invariant.turning;
       ended = λ far. join_if [] c.loop-place.end.runs.items ⊤ _ _ _ _ _ (λ is. tt) (c.loop-place.invariant.ended far);
+      lawful = lawful;
       followed = λ is. c.loop-place.invariant.followed;
     }

@@ -1,11 +1,11 @@
--- A request beside the plan: what serving it leaves, whose reply it may have, and for which plans it is beside.
+-- A request outside the plan: what serving it leaves, whose reply it may have, and for which plans it is outside.
 use Rattle.std.proofs.Common.{◌≡◌, ◌≢◌, ℕ, nat_eq, true, false, List, [], ◌∷◌, Option, Some, None, refl, sym, ap}
 use Rattle.std.proofs.Common.{◌∙◌, inl, inr}
 use Rattle.std.specs.Cmp.Lexicographic.{pointwise}
 use Rattle.std.specs.List.{All, list_all}
 use Rattle.std.specs.Option.{option_map_or}
 use Rattle.std.proofs.lemmas.Bool.{and_parts, cases_Bool, false_from_ne_true}
-use Rattle.std.proofs.lemmas.List.Elements.{All-weaker}
+use Rattle.std.proofs.lemmas.List.Elements.{All-cons, All-head, All-nil, All-tail, All-weaker}
 use Rattle.std.proofs.lemmas.Option.{same_Some}
 use Rattle.std.proofs.lemmas.Slice.Eq.{bytes_eq-Decides}
 use Rattle.kmip_objects.specs.Objects.{Object}
@@ -21,7 +21,8 @@ use Rattle.kmip_server.specs.ServerStep as rows
 use Rattle.kmip_server.specs.ServerStep.{ServerStep}
 use Rattle.kmip_protocol.specs.Headline.{step_of_ask}
 use Rattle.kmip_protocol.specs.PrivateLawbook.{Lawbook}
-use Rattle.kmip_protocol.specs.Sound.{IsBeside, IsHarmless}
+use Rattle.kmip_protocol.specs.Past.{Past}
+use Rattle.kmip_protocol.specs.Sound.{AreJustified, IsHarmless, IsOfPlan, IsOutside, Sound}
 use Rattle.kmip_protocol.proofs.ServedLemmas.{step_agrees}
 
 -- ---- what may be asked does no harm
@@ -34,7 +35,7 @@ all_harmless keys objects requests just =
 pub harmless_on : (l : Lawbook) (keys : List Key) (old new : List Object) (request : Request) → Onward keys old new
     → IsHarmless keys old request → IsHarmless keys new request
 harmless_on l keys old new request on (inl just) = inl (l.client.asked_for_good keys old new request on just)
-harmless_on l keys old new request on (inr beside) = inr beside
+harmless_on l keys old new request on (inr outside) = inr outside
 
 -- ---- serving it leaves the objects
 
@@ -80,23 +81,43 @@ found_fits name (first ∷ keys) key fit is =
 pub planned_fits : (keys : List Key) (key : Key) → IsLawful keys → IsPlanned keys key → key_fits key ≡ true
 planned_fits keys key lawful planned = found_fits key.attrs.name keys key lawful.fit planned
 
--- what is beside a plan is beside each lawful one
-pub beside_of : (new old : List Key) (request : Request) → IsLawful new → IsBeside old request → IsBeside new request
-beside_of new old request lawful beside = record {
-  no_step = beside.no_step;
-  no_key = λ operation key which. beside.no_key operation key (elim which [
+-- what is outside a plan is outside each lawful one
+pub outside_of : (new old : List Key) (request : Request) → IsLawful new → IsOutside old request → IsOutside new request
+outside_of new old request lawful outside = record {
+  no_step = outside.no_step;
+  no_key = λ operation key which. outside.no_key operation key (elim which [
     | inl planned ↦ inr (planned_fits new key lawful planned)
     | inr fits ↦ inr fits
   ]);
 }
 
-pub strange_beside : (keys : List Key) (request : Request) → IsLawful keys → step_of_ask request.ask ≡ None
+pub strange_outside : (keys : List Key) (request : Request) → IsLawful keys → step_of_ask request.ask ≡ None
     → ((operation : ℕ) (key : Key) → key_fits key ≡ true → request.id ≢ Some (operation ∷ key.attrs.name))
-    → IsBeside keys request
-strange_beside keys request lawful none strange = record {
+    → IsOutside keys request
+strange_outside keys request lawful none strange = record {
   no_step = none;
   no_key = λ operation key which. strange operation key (elim which [
     | inl planned ↦ planned_fits keys key lawful planned
     | inr fits ↦ fits
   ]);
 }
+
+-- ---- what is of the plan is not outside it
+
+of_plan : (keys : List Key) (objects : List Object) (request : Request) → IsOfPlan keys request
+    → IsHarmless keys objects request → Justified keys objects request
+of_plan keys objects request own (inl just) = just
+of_plan keys objects request own (inr outside) = absurd (outside.no_key own.operation own.key (inl own.is_planned) own.id_is)
+
+all_of_plan : (keys : List Key) (objects : List Object) (requests : List Request) → All (IsOfPlan keys) requests
+    → All (IsHarmless keys objects) requests → All (Justified keys objects) requests
+all_of_plan keys objects [] own harmless = All-nil (Justified keys objects)
+all_of_plan keys objects (request ∷ requests) own harmless =
+    All-cons (Justified keys objects) request requests
+    (of_plan keys objects request (All-head (IsOfPlan keys) request requests own)
+    (All-head (IsHarmless keys objects) request requests harmless))
+    (all_of_plan keys objects requests (All-tail (IsOfPlan keys) request requests own)
+    (All-tail (IsHarmless keys objects) request requests harmless))
+
+pub sound_justified : (keys : List Key) (p : Past) → Sound keys p → All (IsOfPlan keys) p.requests → AreJustified keys p
+sound_justified keys p sound own = all_of_plan keys p.objects p.requests own sound.requests
