@@ -6,6 +6,7 @@ pub mod SubjectLemmas
 pub mod HeardLemmas
 pub mod HeldLemmas
 pub mod SavingLemmas
+pub mod KeepingUpLemmas
 pub mod OnwardLemmas
 pub mod FactLemmas
 pub mod ProlongedLemmas

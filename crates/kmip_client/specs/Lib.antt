@@ -31,6 +31,8 @@ pub mod Truth
 pub mod Asking
 -- What is kept of a client, and the client that goes on from it.
 pub mod Saving
+-- The text of what is known, which is kept up as more is known.
+pub mod KeepingUp
 -- What is known, or was kept, is true of these objects.
 pub mod Held
 -- What holds of objects that go onward, and of what a client asks and knows.

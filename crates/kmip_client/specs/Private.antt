@@ -1,6 +1,6 @@
 -- Private: definitions that only clauses of private functions cite.
 -- Source: own (view): parts of the public definitions of this crate.
-use Rattle.std.specs.Prelude.{◌≡◌, ℕ, Bool, false, List, None, Result, Ok, Err, slice_get, if◌then◌else◌, ◌≢◌, ◌≤◌, ◌<◌, length, IfErr, IfOk, IfSome, IsTrue, OnErr}
+use Rattle.std.specs.Prelude.{◌≡◌, ℕ, Bool, true, false, List, map, None, Result, Ok, Err, slice_get, if◌then◌else◌, ◌≢◌, ◌≤◌, ◌<◌, length, IfErr, IfOk, IfSome, IsTrue, OnErr}
 use Rattle.std.specs.List.{AllZip}
 use Rattle.std.specs.Option.{option_map_or}
 use Rattle.kmip_batch_items.specs.Faults.{is_no_memory}
@@ -16,7 +16,10 @@ use Rattle.kmip_objects.specs.Ranges.{is_identifier}
 use Rattle.kmip_messages.specs.Members.{may_have}
 use Rattle.kmip_plan.specs.Plans.{IsLawful}
 use Rattle.kmip_client.specs.Clients.{working_count}
-use Rattle.kmip_client.specs.Shapes.{PhaseSuits}
+use Rattle.kmip_progress.specs.Saved.{SavedState, saved_of}
+use Rattle.kmip_progress.specs.Suiting.{Suits, are_texts}
+use Rattle.kmip_client.specs.Saving.{known_of}
+use Rattle.kmip_client.specs.Shapes.{IsKept, PhaseSuits}
 
 -- The key at the place has the name
 abbrev pub is_named_at : List ℕ → List Key → ℕ → Bool
@@ -54,3 +57,11 @@ pub record HearsOne (keys : List Key) (result : Result Heard HearFault) (told : 
   pub err : IfErr result (λ e. told ≡ Err e)
   pub same : OnErr result (new ≡ old)
   pub counted : working ≡ working_count keys new
+
+-- It is the text of what was known of these keys earlier. No identifier was taken back since.
+pub record WasTextBefore (keys : List Key) (knowns : List Knowledge) (saved : SavedState) : Type 0 where
+  pub before : List Knowledge
+  pub is : saved ≡ saved_of keys (map known_of before)
+  pub suits : Suits keys (map known_of before)
+  pub texts : are_texts (map known_of before) ≡ true
+  pub kept : AllZip IsKept before knowns

@@ -23,6 +23,7 @@ ghost use Rattle.kmip_client.specs.Clients.{
 };
 ghost use Rattle.kmip_client.specs.Hearing.{hear, Refuses};
 ghost use Rattle.kmip_client.specs.Held.{Held, TrueProgress};
+ghost use Rattle.kmip_client.specs.KeepingUp.{IsTextOf, WasTextOf};
 ghost use Rattle.kmip_client.specs.Saving.{progress, resume};
 ghost use Rattle.kmip_client.specs.Verdicts.{AreWithin, counts_of, verdicts_of};
 ghost use Rattle.kmip_progress.specs.Suiting.{Suits};
@@ -38,12 +39,12 @@ use crate::heard::Heard;
 use crate::hearing::hear_message;
 use crate::listener::Listener;
 use crate::question::Question;
-use crate::saving::{all_knowledge, all_known, count_working};
+use crate::saving::{all_knowledge, all_known, bring_up, count_working};
 use crate::verdicts::{all_counts, all_verdicts, tells, verdict_of};
 use crate::{HearFault, Knowledge, Verdict};
 use kmip_plan::laws::the_laws_of_plans_hold;
 use kmip_plan::{Key, Plan};
-use kmip_progress::Progress;
+use kmip_progress::{Progress, SavedText};
 use kmip_ttlv::{NoMemory, Text};
 use std::alloc::Global;
 use std::marker::Model;
@@ -140,6 +141,31 @@ impl<'p> Client<'p> {
     {
         let known = all_known(alloc, self.knowns.as_slice())?;
         Ok(Progress::new(known))
+    }
+
+    /// The text of what is known of each key, to be saved, and to be kept up as more is known.
+    ///
+    /// # Errors
+    /// If memory runs out.
+    pub fn saved_text(&self, alloc: Global) -> Result<SavedText, NoMemory>
+        ensures { IfOk result (λ saved. IsTextOf self.now saved) }
+    {
+        let progress = self.progress(alloc)?;
+        SavedText::new(alloc, self.plan, &progress)
+    }
+
+    /// Brings a text of what was known earlier up to what is known now. Only the lines of keys of which more is
+    /// known are written anew.
+    ///
+    /// # Errors
+    /// If memory runs out. Some lines may then say what is known now, and others what was known earlier.
+    pub fn bring_up(&self, alloc: Global, saved: &mut SavedText) -> Result<(), NoMemory>
+        // It is the text of what the client knew at some time before.
+        requires { WasTextOf self.now saved.old }
+        // Then it is the text of what the client knows now.
+        ensures { OnOk result (IsTextOf self.now saved.new) }
+    {
+        bring_up(alloc, self.plan, self.knowns.as_slice(), saved)
     }
 
     /// The plan of the client. Takes no memory.

@@ -8,3 +8,4 @@ pub mod BodyLemmas
 pub mod TellingLemmas
 pub mod TextLemmas
 pub mod LawLemmas
+pub mod SavedLemmas

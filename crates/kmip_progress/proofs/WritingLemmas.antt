@@ -15,8 +15,8 @@ use Rattle.kmip_progress.specs.declared.format.Format.{Format}
 use Rattle.kmip_progress.specs.declared.format.Format.TheVariants.{Two}
 use Rattle.kmip_progress.specs.declared.known.Known.{Known}
 use Rattle.kmip_progress.specs.Suiting.{Suits}
-use Rattle.kmip_progress.specs.Texts.{line_of, text_of_lines, entry_words, entries_for, end_line, progress_text}
-use Rattle.kmip_progress.specs.Private.{key_line, key_lines}
+use Rattle.kmip_progress.specs.Texts.{line_of, text_of_lines, entry_words, entries_for, end_line, key_line, progress_text}
+use Rattle.kmip_progress.specs.Private.{key_lines}
 
 no_lines : (keys : List Key) → key_lines keys [] ≡ []
 no_lines [] = refl
@@ -42,13 +42,18 @@ lines_then (key ∷ keys) (known ∷ progress) end =
     ap (λ more. key_line key known ++ 10 ∷ more) (lines_then keys progress end)
     ∙ sym (append_assoc (key_line key known) (10 ∷ key_lines keys progress) (end ++ 10 ∷ []))
 
+-- head, lines and end, where there are as many lines as keys
+pub whole_as_many : (keys : List Key) (progress : List Known) → length (entries_for Two keys progress) ≡ length keys
+    → codes "kmip-progress 2" ++ 10 ∷ (key_lines keys progress ++ (end_line (length keys) ++ 10 ∷ [])) ≡ progress_text keys progress
+whole_as_many keys progress as_many =
+    ap (λ more. codes "kmip-progress 2" ++ 10 ∷ more)
+    (ap (λ n. key_lines keys progress ++ (end_line n ++ 10 ∷ [])) (sym as_many)
+    ∙ sym (lines_then keys progress (end_line (length (entries_for Two keys progress)))))
+
 -- head, lines and end
 pub whole : (keys : List Key) (progress : List Known) → Suits keys progress
     → codes "kmip-progress 2" ++ 10 ∷ (key_lines keys progress ++ (end_line (length keys) ++ 10 ∷ [])) ≡ progress_text keys progress
-whole keys progress suits =
-    ap (λ more. codes "kmip-progress 2" ++ 10 ∷ more)
-    (ap (λ n. key_lines keys progress ++ (end_line n ++ 10 ∷ [])) (sym (as_many_lines Two keys progress suits))
-    ∙ sym (lines_then keys progress (end_line (length (entries_for Two keys progress)))))
+whole keys progress suits = whole_as_many keys progress (as_many_lines Two keys progress suits)
 
 -- the words of a line, as they are pushed
 pub words_joined : (old a b c d e : List ℕ)

@@ -9,6 +9,8 @@ pub mod Words
 pub mod Texts
 -- What is known by a text, or the first fault in the order of the checks.
 pub mod Reading
+-- The text of a progress, kept beside what each of its lines says.
+pub mod Saved
 -- The number and the name of each fault.
 pub mod Faults
 -- What holds of every text: it is read back, its fronts are cut, and prolonged plans read it.

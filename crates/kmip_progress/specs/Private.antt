@@ -4,8 +4,7 @@ use Rattle.std.specs.Prelude.{Bool, true, false, ◌&&◌, List, [], ◌∷◌, 
 use Rattle.kmip_plan.specs.declared.key.Key.{Key}
 use Rattle.kmip_progress.specs.declared.known.Known.{Known}
 use Rattle.kmip_progress.specs.Suiting.{known_fits}
-use Rattle.kmip_progress.specs.declared.format.Format.TheVariants.{Two}
-use Rattle.kmip_progress.specs.Texts.{entry_words, line_of, entry_for}
+use Rattle.kmip_progress.specs.Texts.{key_line}
 
 -- The same as a test
 abbrev pub all_fit : List Key → List Known → Bool
@@ -13,10 +12,6 @@ all_fit [] [] = true
 all_fit [] (known ∷ progress) = false
 all_fit (key ∷ keys) [] = false
 all_fit (key ∷ keys) (known ∷ progress) = known_fits key known && all_fit keys progress
-
--- The line of a key in format 2
-abbrev pub key_line : Key → Known → List ℕ
-key_line key known = line_of (entry_words Two (entry_for Two key known))
 
 -- The lines of keys in format 2, each with its line feed
 abbrev pub key_lines : List Key → List Known → List ℕ

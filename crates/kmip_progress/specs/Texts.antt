@@ -97,6 +97,10 @@ abbrev pub entry_for : Format → Key → Known → Entry
 entry_for format key known =
     record { name = key.attrs.name; target = key.target; reason = reason_for format key; known = known }
 
+-- The line of a key in format 2, without its line feed.
+abbrev pub key_line : Key → Known → List ℕ
+key_line key known = line_of (entry_words Two (entry_for Two key known))
+
 -- What the lines of the keys say, in the order of the keys.
 abbrev pub entries_for : Format → List Key → List Known → List Entry
 entries_for format [] progress = []

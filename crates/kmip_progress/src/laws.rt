@@ -1,5 +1,5 @@
 //! What holds of every progress text, each as the contract of a function that does nothing.
-ghost use Rattle.kmip_progress.specs.Laws.{TextsAreReadBack, FrontsAreCut, TextsAreProlonged, OldTextsAreProlonged};
+ghost use Rattle.kmip_progress.specs.Laws.{TextsAreReadBack, FrontsAreCut, TextsAreProlonged, OldTextsAreProlonged, SavedLinesAreTrue};
 
 /// What is written for a lawful plan is read back, where the progress suits the plan and its
 /// identifiers are UTF-8.
@@ -20,4 +20,9 @@ pub fn texts_are_prolonged()
     ensures written { TextsAreProlonged }
     // So it is with a text of format 1, which an earlier version wrote.
     ensures old { OldTextsAreProlonged }
+{}
+
+/// What a line of a saved text says of a key is what is known of that key.
+pub fn saved_lines_are_true()
+    ensures { SavedLinesAreTrue }
 {}

@@ -3,13 +3,16 @@ ghost use Rattle.std.specs.Prelude.{◌≡◌, ◌≤◌, ◌++◌, ◌∷◌, [
 ghost use Rattle.hex.specs.Hex.{encode_lower};
 ghost use Rattle.kmip_progress.specs.declared.format.Format.TheVariants as formats;
 ghost use Rattle.kmip_progress.specs.Suiting.{Suits, is_known, has_text, are_texts};
-ghost use Rattle.kmip_progress.specs.Private.{key_line, key_lines};
-ghost use Rattle.kmip_progress.specs.Texts.{end_line, progress_text, reason_for};
+ghost use Rattle.kmip_progress.specs.Private.{key_lines};
+ghost use Rattle.kmip_progress.specs.Texts.{end_line, key_line, progress_text, reason_for};
 ghost use Rattle.kmip_progress.specs.Words.{reason_word, identifier_word};
 
 use crate::known::Known;
 use kmip_plan::Key;
 use std::alloc::{AllocError, Global};
+
+/// The first line of each text, with its line feed.
+pub(crate) const HEAD: &str = "kmip-progress 2\n";
 
 /// The text of what is known of these keys. One buffer is made for it, and no string beside it.
 pub(crate) fn progress_text(
@@ -22,14 +25,14 @@ pub(crate) fn progress_text(
     ensures utf8 { OnOk result (IsTrue (are_texts known.now)) }
 {
     let mut text = String::with_capacity(alloc, room_for(keys, known))?;
-    text.push_str("kmip-progress 2\n")?;
+    text.push_str(HEAD)?;
     push_lines(&mut text, keys, known)?;
     push_end(&mut text, keys.len())?;
     Ok(text)
 }
 
 /// How many bytes to make room for. No text of a lawful plan is longer.
-fn room_for(keys: &[Key], known: &[Known]) -> usize {
+pub(crate) fn room_for(keys: &[Key], known: &[Known]) -> usize {
     // The first line and the last.
     let mut room: usize = 48;
     for key in keys {
@@ -64,7 +67,7 @@ fn push_lines(text: &mut String, keys: &[Key], known: &[Known]) -> Result<(), Al
 }
 
 /// Writes the line of a key, with its line feed.
-fn push_line(text: &mut String, key: &Key, known: &Known) -> Result<(), AllocError>
+pub(crate) fn push_line(text: &mut String, key: &Key, known: &Known) -> Result<(), AllocError>
     requires { IsTrue (is_known known.now) }
     ensures text { OnOk result (string_bytes text.new
         ≡ string_bytes text.old ++ (key_line key.now known.now ++ 10 ∷ [])) }
@@ -148,7 +151,7 @@ fn push_hex(text: &mut String, bytes: &[u8]) -> Result<(), AllocError>
 }
 
 /// Writes the last line, with its line feed.
-fn push_end(text: &mut String, count: usize) -> Result<(), AllocError>
+pub(crate) fn push_end(text: &mut String, count: usize) -> Result<(), AllocError>
     ensures { OnOk result (string_bytes text.new
         ≡ string_bytes text.old ++ (end_line count ++ 10 ∷ [])) }
 {

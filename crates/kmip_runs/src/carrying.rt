@@ -1,6 +1,7 @@
 //! A plan carried out over a link, and saved after each exchange.
-ghost use Rattle.std.specs.Prelude.{◌≡◌, ◌≢◌, ◌≤◌, ◌<◌, ◌++◌, ◌∷◌, [], length, Ok, Err, IfErr, IsTrue, OnErr, OnOk, false};
+ghost use Rattle.std.specs.Prelude.{◌≡◌, ◌≢◌, ◌≤◌, ◌<◌, ◌++◌, ◌∷◌, [], length, Ok, Err, IfErr, IfOk, IsTrue, OnErr, OnOk, false};
 ghost use Rattle.std.specs.Option.{unwrap_or};
+ghost use Rattle.kmip_client.specs.KeepingUp.{IsTextOf, WasTextOf};
 ghost use Rattle.kmip_client.specs.Saving.{progress};
 ghost use Rattle.kmip_progress.specs.Texts.{progress_text};
 ghost use Rattle.kmip_runs.specs.CarriesOut.{CarriesOut, stage};
@@ -19,6 +20,7 @@ use crate::sights::Sights;
 use crate::{Stop, close_run};
 use kmip_client::Client;
 use kmip_client::laws::a_client_has_a_lawful_plan;
+use kmip_progress::SavedText;
 use kmip_progress::laws::texts_are_read_back;
 use kmip_protocol::Link;
 use kmip_ttlv::NoMemory;
@@ -102,12 +104,17 @@ fn exchange_in_turn<L: Link, K: Keeper, P: Patience, O: Observer>(
 {
     the_laws_below_hold(); // proof
     a_client_has_a_lawful_plan(client); // proof
-    let Ok(begun) = Sights::of(alloc, client) else {
+    let Ok(begun) = Begun::of(alloc, client) else {
         return (Ok(Stop::NoMemory), 0);
     };
-    let mut sights = begun;
+    let Begun {
+        mut sights,
+        mut text,
+    } = begun;
     for made in 0..limit {
-        let (carried, exchanges, asked) = exchange_once(alloc, client, link, keeper, observer);
+        let (carried, exchanges, asked) = exchange_once(
+            alloc, client, link, keeper, observer, &mut text,
+        );
         tell(client, &mut sights, patience, observer, exchanges, asked);
         if !is_at_limit(&carried) {
             return (carried, made + exchanges);
@@ -117,6 +124,30 @@ fn exchange_in_turn<L: Link, K: Keeper, P: Patience, O: Observer>(
         }
     }
     (Ok(stop_of(client)), limit)
+}
+
+/// What is kept from one exchange to the next.
+struct Begun {
+    sights: Sights,
+    /// The text that was saved last, or that of what the run began with.
+    text: SavedText,
+}
+
+impl Begun {
+    /// What a run begins with.
+    ///
+    /// # Errors
+    /// If memory runs out.
+    fn of(alloc: Global, client: &Client<'_>) -> Result<Begun, NoMemory>
+        ensures as_many { IfOk result (λ begun.
+            length begun.sights.items.items ≡ length client.now.keys) }
+        ensures text { IfOk result (λ begun. IsTextOf client.now begun.text) }
+    {
+        Ok(Begun {
+            sights: Sights::of(alloc, client)?,
+            text: client.saved_text(alloc)?,
+        })
+    }
 }
 
 /// Makes one exchange, if any key is worked on, and saves what is then known. Returns why no other one
@@ -130,7 +161,9 @@ fn exchange_once<L: Link, K: Keeper, O: Observer>(
     link: &mut L,
     keeper: &mut K,
     observer: &mut O,
+    text: &mut SavedText,
 ) -> (Result<Stop, SaveFault>, usize, usize)
+    requires { IsTextOf client.old text.old }
     ensures made { MakesOneExchange (record {
       client = client.old;
       link = L.seen link.old;
@@ -142,6 +175,7 @@ fn exchange_once<L: Link, K: Keeper, O: Observer>(
     }) result.0 result.1 }
     ensures followed { HasMemory result.0 → L.follows link.old link.new }
     ensures asked { HasMemory result.0 → result.2 ≡ unwrap_or (asked_count client.old) 0 }
+    ensures text { result.0 ≡ Ok Stop.Limit → IsTextOf client.new text.new }
 {
     the_laws_below_hold(); // proof
     // proof: a key that is settled is not worked on
@@ -150,7 +184,7 @@ fn exchange_once<L: Link, K: Keeper, O: Observer>(
         Ok(None) => return (Ok(stop_of(client)), 0, 0),
         Err(fault) => return (Ok(Stop::NoMemory), fault.exchanges(), 0),
     };
-    match save_progress(alloc, client, keeper) {
+    match save_progress(alloc, client, keeper, text) {
         Ok(()) => (Ok(stop_of(client)), 1, asked),
         Err(fault) => (Err(fault), 1, asked),
     }
@@ -177,7 +211,7 @@ fn tell<P: Patience, O: Observer>(
     }
 }
 
-/// Saves the text of what the client knows.
+/// Brings the text up to what the client knows, and saves it.
 ///
 /// # Errors
 /// Why it was not saved.
@@ -185,7 +219,10 @@ fn save_progress<K: Keeper>(
     alloc: Global,
     client: &Client<'_>,
     keeper: &mut K,
+    text: &mut SavedText,
 ) -> Result<(), SaveFault>
+    requires { WasTextOf client.now text.old }
+    ensures text { OnOk result (IsTextOf client.now text.new) }
     ensures remembered { (K.kept keeper.old).remembers → (K.kept keeper.new).remembers
         × OnOk result ((K.kept keeper.new).saved ≡ (K.kept keeper.old).saved
         ++ progress_text client.now.keys (progress client.now) ∷ [])
@@ -197,9 +234,9 @@ fn save_progress<K: Keeper>(
         → HasRisen (K.kept keeper.old).refusals (K.kept keeper.new).refusals) }
 {
     texts_are_read_back(); // proof
-    let progress = client.progress(alloc)?;
-    let text = progress.write_text(alloc, client.plan())?;
-    keeper.save(alloc, text.as_str().as_bytes())
+    a_client_has_a_lawful_plan(client); // proof
+    client.bring_up(alloc, text)?;
+    keeper.save(alloc, text.as_bytes())
 }
 
 /// Whether as many exchanges were made as were allowed, and all is saved.

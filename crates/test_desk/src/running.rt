@@ -43,8 +43,7 @@ const CREATED: &str = "kmip-progress 2\nk1 active - 1 31\nk2 created - 1 32\nend
 
 /// A plan of two keys, the first with this target.
 fn two_keys(alloc: Global, target: &str) -> Result<String, AllocError> {
-    format!(
-        in alloc;
+    format!(in alloc;
         "\
 [[key]]
 name = \"k1\"
@@ -99,7 +98,13 @@ fn options(alloc: Global, trust: Trust, lock_wait: u64) -> Result<RunOptions, Fa
 fn run(alloc: Global, options: &RunOptions, desk: MemoryDesk) -> Result<Came, Fail> {
     let script = read_script(alloc, "pass\nlose-reply\npass\n")?;
     let mut link = new_link(alloc, script);
-    run_on(alloc, two_keys(alloc, "active")?.as_str(), options, desk, &mut link)
+    run_on(
+        alloc,
+        two_keys(alloc, "active")?.as_str(),
+        options,
+        desk,
+        &mut link,
+    )
 }
 
 /// A run of this plan at this desk, over this link.

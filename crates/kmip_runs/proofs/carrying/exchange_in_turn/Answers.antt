@@ -24,6 +24,7 @@ loop-made-init g c = record {
         keeper = g.K.Keeper.kept
             c.args.keeper.now;
       });
+  text = search rules;
   as_many = search rules;
   patient = refl;
   asked = omega arith;
@@ -123,6 +124,7 @@ loop-made-preserved g c =
           })
           step.result.0 c.loop-made.made step.result.1 c.a_client_has_a_lawful_plan.ensures
           c.loop-made.invariant.carried made.carried limit (step.ensures.made.limit limit);
+      text = step.ensures.text limit;
       as_many = c.tell.ensures.as_many ∙ c.loop-made.invariant.as_many
           ∙ ap length (sym made.carried.went.keeps.keys_stay);
       patient =

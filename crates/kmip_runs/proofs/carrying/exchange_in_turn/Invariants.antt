@@ -1,5 +1,6 @@
 -- So many exchanges were made, and are paid for, and what was known after each is saved; no run was ended. It was not given up meanwhile.
 use Rattle.std.proofs.Common.{◌-◌, ◌≡◌, ◌≤◌, Ok, length, min}
+use Rattle.kmip_client.specs.KeepingUp.{IsTextOf}
 use Rattle.kmip_disk.specs.Calls.{HasRisenBy}
 use Rattle.kmip_protocol.specs.Past.{is_planned}
 use Rattle.kmip_runs.specs.Driving.{IsGood}
@@ -13,6 +14,7 @@ abbrev pub invariant-loop-made : goal.invariant-loop-made
 invariant-loop-made g l = record {
   carried : Carried (record { client = l.fn.client; link = g.L.Link.seen l.fn.link; keeper = g.K.Keeper.kept l.fn.keeper })
       (record { client = l.client; link = g.L.Link.seen l.link; keeper = g.K.Keeper.kept l.keeper }) (Ok stops.Limit) l.made;
+  text : IsTextOf l.client l.text;
   as_many : length l.sights.items.items ≡ length l.client.keys;
   patient : g.P.Patience.has_given_up l.patience ≡ g.P.Patience.has_given_up l.fn.patience;
   asked : HasRisenBy (min l.made (l.limit - 1)) (g.P.Patience.asked l.fn.patience) (g.P.Patience.asked l.patience);

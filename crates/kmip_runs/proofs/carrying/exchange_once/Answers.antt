@@ -1,5 +1,5 @@
 -- One exchange, saved or not.
-use Rattle.std.proofs.Common.{Ok, Err, subst, rules}
+use Rattle.std.proofs.Common.{Ok, Err, subst, sym, rules}
 use Rattle.kmip_runs.specs.PrivateTurns.{turn_count}
 use Rattle.kmip_protocol.specs.Past.{is_planned}
 use Rattle.kmip_runs.specs.Private.{TakesTurn}
@@ -66,6 +66,11 @@ returns-in-Err-clause-made g c =
       within = search rules;
       ended = search rules;
     }
+
+pub save_progress-requires : goal.save_progress-requires
+save_progress-requires g c =
+    let keeps = c.in-Ok-Some.ensures.tries.keeps in
+    record { before = c.args.client.now; was = c.requires; same_keys = sym keeps.keys_stay; kept = keeps.kept }
 
 pub returns-in-Ok-clause-made : goal.returns-in-Ok-clause-made
 returns-in-Ok-clause-made g c =
