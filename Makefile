@@ -28,7 +28,7 @@
 # make reading    lists the public functions; with FUNCTION=crate::name [CLAUSE=name], what they rest on (needs python3)
 # make reference  writes a page for each crate to out/reference, and what exercises its calls (needs python3)
 # make man        writes docs/man, from the help texts of the program and OPERATING and PROFILE (needs python3)
-# make layers     draws docs/layers.svg and the table of crates of docs/ARCHITECTURE.md (needs python3)
+# make layers     writes the layers and the table of crates of docs/ARCHITECTURE.md (needs python3)
 # make examples   runs each example of README.md and docs/ with the program that is built (needs python3)
 # make documents  compares documents and man pages with the code, and looks at links, sentences, sizes (needs python3)
 # make tools      runs the tests of the tools (needs python3)

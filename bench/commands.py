@@ -11,7 +11,10 @@ import sys
 
 sys.dont_write_bytecode = True
 
-from measuring import KEYS, RUNS, Server, least, remove_progress, run, write_plan
+from measuring import KEYS, RUNS, Server, least, note_aim, remove_progress, run, write_plan
+
+# How many milliseconds of processor a look at all keys may take.
+LOOK_AIM = 60
 
 
 def main():
@@ -22,6 +25,7 @@ def main():
     def tell(what, *words, wanted=0):
         took = least([run([program, *words], told, wanted=wanted) for _ in range(RUNS)])
         print(f'{what}: {took.processor:.1f} ms of processor', flush=True)
+        return took.processor
 
     tell(f'check, {KEYS:,} keys', 'check', *plan)
     tell(f'look --loopback, {KEYS:,} keys, none there', 'look', *plan, '--loopback', wanted=1)
@@ -30,7 +34,8 @@ def main():
         address = ['--connect', f'127.0.0.1:{server.port}']
         remove_progress(progress)
         run([program, 'run', *plan, '--progress', progress, *address], told)
-        tell(f'look, {KEYS:,} keys, all there', 'look', *plan, *address)
+        look = tell(f'look, {KEYS:,} keys, all there', 'look', *plan, *address)
+        note_aim(out, f'look at {KEYS:,} keys: ms of processor', f'{look:.0f}', LOOK_AIM)
     tell('probe --loopback, two keys', 'probe', '--name-prefix', 'probe', '--loopback')
 
 

@@ -27,7 +27,7 @@ import sys
 
 sys.dont_write_bytecode = True
 
-from measuring import Server, fail, ratio, remove_progress, run, write_plan
+from measuring import Server, fail, note_aim, ratio, remove_progress, run, write_plan
 
 # What the messages are, how many the second run has more, and the words for bench/input.rs of both.
 LOADS = [
@@ -39,6 +39,12 @@ LOADS = [
 FEW, MANY = 500, 1000
 # The keys of the plan of `run`, with three exchanges each.
 RUN_KEYS = 20
+# The exchanges of two runs of MANY keys, by whose difference an exchange of `run` is counted.
+RUN_LIMITS = 100, 200
+# The aims: allocations a message, by the baseline's, and allocations and instructions of an exchange.
+ALLOCATIONS_AIM = 1.0
+SIM_AIMS = {'allocations': 45, 'instructions': 25_000}
+RUN_AIM = 150_000
 # The functions that parse a plan and a progress: the crate, and the name.
 PARSERS = [('kmip_plan', 'read_plan'), ('kmip_progress', 'read_text')]
 # A function that a line of callgrind names, by a number, and with its name the first time; and how often it is called.
@@ -84,8 +90,8 @@ class Instructions:
         with open(self.counted) as file:
             return file.read()
 
-    def of(self, words, source):
-        found = re.search(r'^totals: (\d+)', self.count(words, source), re.M)
+    def of(self, words, source, wanted=0):
+        found = re.search(r'^totals: (\d+)', self.count(words, source, wanted=wanted), re.M)
         return int(found.group(1)) if found else fail(words, 'callgrind counts nothing')
 
     def calls(self, words, wanted):
@@ -129,6 +135,16 @@ class Counts:
             plan = write_plan(self.path('plan.toml'), keys)
             counts.append(counter.of([self.program, 'sim', '--plan', plan, '--script', script], os.devnull))
         return (counts[1] - counts[0]) / (3 * (MANY - FEW))
+
+    def of_run(self, counter):
+        """The count an exchange of `run` of MANY keys, which writes the text of its progress."""
+        plan, progress = write_plan(self.path('plan.toml'), MANY), self.path('run.progress')
+        words = [self.program, 'run', '--plan', plan, '--progress', progress, '--loopback', '--limit']
+        counts = []
+        for limit in RUN_LIMITS:
+            remove_progress(progress)
+            counts.append(counter.of([*words, str(limit)], os.devnull, wanted=1))
+        return (counts[1] - counts[0]) / (RUN_LIMITS[1] - RUN_LIMITS[0])
 
     def exchanges(self, words):
         """How many exchanges a command makes, by the lines of --verbose."""
@@ -205,7 +221,15 @@ class Counts:
             ours, theirs = self.of_messages(counter, *load)
             print(f'{kind.what} a message, {what}: kmipctl {ours:.{digits}f}, baseline {theirs:.{digits}f}, '
                   f'ratio {ratio(ours, theirs)}', flush=True)
-        print(f'{kind.what} an exchange of sim: {self.of_exchange(counter):.{digits}f}', flush=True)
+            if kind is Allocations:
+                note_aim(self.out, f'{what}: allocations, by plain Rust', ratio(ours, theirs), ALLOCATIONS_AIM)
+        exchange = self.of_exchange(counter)
+        print(f'{kind.what} an exchange of sim: {exchange:.{digits}f}', flush=True)
+        note_aim(self.out, f'an exchange of sim: {kind.what}', f'{exchange:.0f}', SIM_AIMS[kind.what])
+        if kind is Instructions:
+            exchange = self.of_run(counter)
+            print(f'{kind.what} an exchange of run, {MANY:,} keys: {exchange:.0f}', flush=True)
+            note_aim(self.out, f'an exchange of run of {MANY:,} keys: {kind.what}', f'{exchange:.0f}', RUN_AIM)
 
 
 def main():

@@ -95,5 +95,11 @@ def remove_progress(path):
         os.remove(one)
 
 
+def note_aim(out, what, measured, aim):
+    """Notes what was measured beside its aim, for the table at the end of bench/bench.sh."""
+    with open(os.path.join(out, 'aims.tsv'), 'a') as aims:
+        aims.write(f'{what}\t{measured}\t{aim}\n')
+
+
 def ratio(ours, theirs):
     return f'{ours / theirs if theirs else 0:.2f}'

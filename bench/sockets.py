@@ -11,7 +11,7 @@ from its start to its end, with all that it waits for.
 
 `run` writes its progress after each exchange that teaches something. To see it without waits for the disk, its file
 lies on a tmpfs, and then on the disk. A second plain client writes texts of the same sizes as often, to the same
-place. The first one writes none, so no aim stands for it beside a run that waits for the disk.
+place. The first one writes none, so no aim stands for it.
 
 The exit status is 1 where a run against the plain server does not finish all keys in as many exchanges, or a reply of
 `serve` is another one than before. It is 0 whatever the times are.
@@ -23,11 +23,13 @@ import tempfile
 
 sys.dont_write_bytecode = True
 
-from measuring import KEYS, RUNS, Server, Spent, fail, least, ratio, remove_progress, run, write_plan
+from measuring import KEYS, RUNS, Server, Spent, fail, least, note_aim, ratio, remove_progress, run, write_plan
 
 EXCHANGES = 3 * KEYS
-# How much longer than the plain loop one of ours may take, the waits included.
-AIM = 1.2
+# How much more a run may take than a plain client that writes as many texts: of processor, and of time.
+AIMS = {'a tmpfs': (1.5, 1.3), 'the disk': (1.3, 1.1)}
+# How much longer than the plain server ours may take, the waits included.
+SERVE_AIM = 1.0
 # A run over the disk takes seconds.
 DISK_RUNS = 3
 TMPFS = '/dev/shm'
@@ -81,7 +83,7 @@ class Sockets:
             server.end()
         return took
 
-    def compare_runs(self, where, folder, runs, bare_aim):
+    def compare_runs(self, where, folder, runs):
         """Prints what a run takes with its progress in this folder, beside a plain client without texts and one with them."""
         path = progress_in(folder)
         ours, bare, writing = [], [], []
@@ -92,8 +94,10 @@ class Sockets:
             writing.append(self.at_plain_server(lambda port: self.client_at(port, path, *self.sizes)))
         remove_progress(path)
         head = f'run of {KEYS:,} keys, {EXCHANGES} exchanges, progress on {where}'
-        tell(f'{head}, beside a plain client', ours, bare, bare_aim)
-        tell(f'{head}, beside a plain client that writes as many texts', ours, writing, AIM)
+        tell(f'{head}, beside a plain client', ours, bare)
+        processor, wall = tell(f'{head}, beside a plain client that writes as many texts', ours, writing)
+        note_aim(self.out, f'run of {KEYS:,} keys, progress on {where}: processor, by a plain client', processor, AIMS[where][0])
+        note_aim(self.out, f'run of {KEYS:,} keys, progress on {where}: time, by a plain client', wall, AIMS[where][1])
 
     def compare_serve(self):
         """Prints what our server takes for the plain client, beside the plain server."""
@@ -103,19 +107,22 @@ class Sockets:
                 with new() as server:
                     client = self.client_at(server.port)
                     took.append(Spent(server.end().processor, client.wall))
-        tell(f'serve, {EXCHANGES} exchanges, beside a plain server', ours, theirs, AIM)
+        _, wall = tell(f'serve, {EXCHANGES} exchanges, beside a plain server', ours, theirs)
+        note_aim(self.out, 'serve: time, by a plain server', wall, SERVE_AIM)
 
 
 def progress_in(folder):
     return os.path.join(folder, 'sockets.progress')
 
 
-def tell(what, ours, theirs, aim):
-    """Prints the least processor time and the least wall time of our runs, and of those of the plain program."""
+def tell(what, ours, theirs):
+    """Prints the least processor time and the least wall time of our runs, and of those of the plain program. Returns
+    the two ratios."""
     ours, theirs = least(ours), least(theirs)
-    print(f'{what}: processor {ours.processor:.1f} ms, plain {theirs.processor:.1f} ms, '
-          f'ratio {ratio(ours.processor, theirs.processor)}; wall {ours.wall:.1f} ms, plain {theirs.wall:.1f} ms, '
-          f'ratio {ratio(ours.wall, theirs.wall)}' + (f' (aim: at most {aim})' if aim else ''), flush=True)
+    processor, wall = ratio(ours.processor, theirs.processor), ratio(ours.wall, theirs.wall)
+    print(f'{what}: processor {ours.processor:.1f} ms, plain {theirs.processor:.1f} ms, ratio {processor}; '
+          f'wall {ours.wall:.1f} ms, plain {theirs.wall:.1f} ms, ratio {wall}', flush=True)
+    return processor, wall
 
 
 @contextlib.contextmanager
@@ -135,10 +142,10 @@ def main():
     with folder_on_tmpfs() as folder:
         sockets.record(folder or sockets.out)
         if folder:
-            sockets.compare_runs('a tmpfs', folder, RUNS, AIM)
+            sockets.compare_runs('a tmpfs', folder, RUNS)
         else:
             print(f'no tmpfs is at {TMPFS}, so no run is measured without waits for the disk')
-    sockets.compare_runs('the disk', sockets.out, DISK_RUNS, None)
+    sockets.compare_runs('the disk', sockets.out, DISK_RUNS)
     sockets.compare_serve()
 
 

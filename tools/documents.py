@@ -2,7 +2,6 @@
 what the sources say of themselves and bring in."""
 import re
 
-from big_crates import check_big_crates
 from calls import check_calls
 from claims import check_claims
 from comments import check_comments
@@ -34,7 +33,7 @@ def check(repository):
     faults = check_comments(repository) + check_headline(repository) + check_own_numbers() + check_layers() + check_laws()
     faults += check_links() + check_names() + check_messages() + check_rows() + check_mistakes(repository) + check_ways() + check_prose()
     faults += check_uses(repository) + check_plan_schema() + check_man_pages() + check_versions()
-    faults += check_calls(repository) + check_trusted() + check_big_crates()
+    faults += check_calls(repository) + check_trusted()
     faults += check_counts() + check_claims() + check_touches() + check_document_table()
     print(f'{faults} places to look at' if faults else 'nothing to look at')
     return 1 if faults else 0

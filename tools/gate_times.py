@@ -6,7 +6,7 @@
 It runs beside `make test` or `rt ci`, reads /proc every second, and prints a line for each crate once no check
 has run for SECONDS (120), or at an interrupt. A proof has what is built with it, tests have a proof of their
 own, and wrong bodies begin with one more, of the crate as it stands. What ends between two looks is cut by a
-second at most. tools/measured.py reads what it prints.
+second at most.
 """
 import collections
 import os

@@ -1,4 +1,4 @@
-"""Counts in documents, sentences that rest on a place of the code, and the table of large crates."""
+"""Counts in documents, and sentences that rest on a place of the code."""
 import operator
 import pathlib
 import re
@@ -6,10 +6,8 @@ import unittest
 
 from scratch import Scratch, printed
 
-import big_crates
 import claims
 import counts
-from made import END, begin_of
 
 
 class Counts(Scratch):
@@ -51,20 +49,6 @@ class EachClaim(unittest.TestCase):
         top = pathlib.Path(claims.__file__).parents[1]
         for _, path, _ in claims.CLAIMS:
             self.assertTrue((top / path).exists(), path)
-
-
-class BigCrates(Scratch):
-    def test_it_is_written_and_then_up_to_date(self):
-        page = f'A.\n\n{begin_of("tools/big_crates.py")}old\n{END}B.\n'
-        self.write({'docs/DECISIONS.md': page, 'docs/MEASURED.md': (
-            f'{big_crates.BEGIN}| crate | functions | minutes | edits |\n|---|---|---|---|\n| low | 101 | 2.0 | 1 |\n'
-            f'| middle | 100 | 8.0 | 1 |\n| high | 120 | 3.5 | none |\n| slow | 9 | 8.1 | none |\n{END}')})
-        self.assertEqual(printed(big_crates.check_big_crates), (
-            1, ['docs/DECISIONS.md: its table of large crates is out of date: run tools/big_crates.py']))
-        self.assertEqual(big_crates.main([]), 0)
-        self.assertEqual(pathlib.Path('docs/DECISIONS.md').read_text(), page.replace('old\n', (
-            '| crate | functions | minutes |\n|---|---|---|\n| high | 120 | 3.5 |\n| low | 101 | 2.0 |\n| slow | 9 | 8.1 |\n')))
-        self.assertEqual(printed(big_crates.check_big_crates), (0, []))
 
 
 if __name__ == '__main__':

@@ -1,6 +1,5 @@
-"""The picture of the crates by layers, for made-up crates."""
+"""The layers of made-up crates."""
 import pathlib
-import re
 import unittest
 
 from scratch import Scratch, printed
@@ -27,39 +26,26 @@ class Layers(Scratch):
         self.write({'crates.txt': '\n'.join(lines) + '\n'})
 
     def faults(self):
-        return list(layers.Picture().faults())
+        return list(layers.Layers().faults())
 
     def test_it_is_written_and_then_up_to_date(self):
-        self.assertEqual(printed(layers.check_layers), (2, [
-            'docs/ARCHITECTURE.md: its crates are out of date: run tools/layers.py',
-            'docs/layers.svg: its crates are out of date: run tools/layers.py']))
+        self.assertEqual(printed(layers.check_layers), (1, [
+            'docs/ARCHITECTURE.md: its crates are out of date: run tools/layers.py']))
         self.assertEqual(printed(layers.main, ['--check'])[0], 1)
         self.assertEqual(layers.main([]), 0)
         self.assertEqual(printed(layers.main, ['--check']), (0, []))
         self.assertEqual(pathlib.Path('docs/ARCHITECTURE.md').read_text(), (
             f'Before.\n\n{layers.BEGIN}```mermaid\nflowchart TB\n  tests["<b>Tests</b>: apart<br/>try"]\n'
             '  top["<b>Top</b>: what calls<br/>high ✓, beside"]\n  base["<b>Base</b>: what carries<br/>low ✓"]\n'
-            '  top --> base\n  tests -.-> top\n```\n\n![The crates by layers](layers.svg)\n\n'
+            '  top --> base\n  tests -.-> top\n```\n\n'
             '| layer | crate | what it is | ✓ |\n|---|---|---|---|\n'
             '| Base | [low](../crates/low/src/lib.rt) | A line that carries numbers. | ✓ |\n'
             '| Top | [high](../crates/high/src/lib.rt) | Who calls a carrier. | ✓ |\n'
             '|  | [beside](../crates/beside/src/main.rt) | Beside: it ensures nothing. |  |\n'
             f'| Tests | [try](../crates/try/src/lib.rt) | Tries 2.1 \\| all |  |\n{layers.END}After.\n'))
 
-    def test_a_crate_is_drawn_above_those_that_it_stands_on(self):
-        self.list('## All: in one', 'low:', 'high: low', 'beside: low', '## Tests: apart', 'try: high')
-        found = re.findall(r'y="([\d.]+)" class="name"[^>]*>(\w+)<', layers.svg(layers.Picture()))
-        height = {name: float(y) for y, name in found}
-        self.assertEqual(height['high'], height['beside'])
-        self.assertLess(height['high'], height['low'])
-
     def test_who_promises_something_is_marked(self):
-        self.assertEqual(layers.Picture().proved, {'low', 'high'})
-        self.assertEqual(layers.svg(layers.Picture()).count('class="mark"'), 3)
-
-    def test_layers_side_by_side(self):
-        self.list('## Base: it', 'low:', '## A: a', 'high: low', '## B: b', 'beside: low', '## Tests: apart', 'try: high')
-        self.assertEqual([[layer.name for layer in level] for level in layers.Picture().levels()], [['base'], ['a', 'b']])
+        self.assertEqual(layers.Layers().proved, {'low', 'high'})
 
     def test_a_crate_in_no_layer(self):
         self.list('low:', '## Top: it', 'high: low', 'beside: low', '## Tests: apart', 'try: high')

@@ -6,17 +6,7 @@ import unittest
 from scratch import Scratch, printed
 
 import check_times
-import long_run
 import message_rows
-
-
-class LongRun(unittest.TestCase):
-    def test_a_checksum(self):
-        self.assertEqual(long_run.checksum('ab'), 97 * 31 + 98)
-
-    def test_a_text_in_short(self):
-        self.assertEqual(printed(long_run.short, 'kept', 'a\nb\n')[1], [
-            f'kept: 2 lines, 4 bytes, checksum {((97 * 31 + 10) * 31 + 98) * 31 + 10}', 'a', 'b'])
 
 
 class MessageRows(unittest.TestCase):
