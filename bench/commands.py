@@ -29,7 +29,7 @@ def main():
 
     tell(f'check, {KEYS:,} keys', 'check', *plan)
     tell(f'look --loopback, {KEYS:,} keys, none there', 'look', *plan, '--loopback', wanted=1)
-    # A look opens a connection for each exchange. So the server is for more than are needed, and is stopped at the end.
+    # The server is for more connections than are needed, and is stopped at the end.
     with Server([program, 'serve', '--port', '0', '--connections', '1000000']) as server:
         address = ['--connect', f'127.0.0.1:{server.port}']
         remove_progress(progress)

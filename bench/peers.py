@@ -430,18 +430,21 @@ class Peers:
                   (self.known() == progress(numbers=numbers_by(sent)), self.known()),
                   (told_of(port, self.told) == [f'no reply from PEER: {CLOSED}; trying again',
                                                 'PEER answers again after T s'], self.told))
-        self.closing_costs_nothing(port, batch, looks_of(looked(numbers=numbers_by(sent))))
+        self.closing_costs_little(port, batch, looks_of(looked(numbers=numbers_by(sent))))
         server.kill()
         server.wait()
 
-    def closing_costs_nothing(self, port, batch, finished):
-        """Each question of a look and of a probe has a stream of its own: a peer that closes behind each reply costs none."""
+    def closing_costs_little(self, port, batch, finished):
+        """A peer that closes behind each reply costs a look one message that is sent again. It costs a probe none, since
+        each of its questions has a stream of its own."""
         path = os.path.join(self.folder, f'closing-{batch}')
         listening_at(path, closing_behind_the_reply(port))
         for over, words in ('TCP', ('--connect', f'127.0.0.1:{port}')), ('a Unix socket', ('--socket', path)):
             status, printed, told, _ = self.ended([self.program, 'look', '--plan', self.plan, *words, '--batch', batch])
             self.look(f'a look over such a peer, over {over}, {batch} keys a message', (status == 0, status),
-                      (printed == finished, printed), (told == '', told))
+                      (printed == finished, printed),
+                      (told_of(port, told.replace(words[1], 'PEER')) == [
+                          f'no reply from PEER: {CLOSED}; trying again', 'PEER answers again after T s'], told))
             prefix = f'{over.split()[-1]}-{batch}'
             status, printed, told, _ = self.ended([self.program, 'probe', '--name-prefix', prefix, *words])
             self.look(f'a probe over such a peer, over {over}, the {prefix} one', (status == 0, status),

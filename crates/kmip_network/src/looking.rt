@@ -23,7 +23,8 @@ const FIRST_WAIT: u64 = 100;
 pub(crate) const RANDOM_BYTES: &str = "random bytes of the system";
 
 /// The command `look`: the plan is read first, then the server is asked, and the status of each key is printed.
-/// Each message goes over a stream of its own, so a server that closes the stream after each reply answers all.
+/// The stream is held from one message to the next. If the server closes it after a reply, one message has no answer
+/// and is sent again, and from then on each message has a stream of its own.
 ///
 /// # Errors
 /// What ends it before anything is asked.
@@ -36,8 +37,7 @@ pub fn look_at_server(rt: &HostRuntime, options: &LookOptions) -> Result<ExitSta
         options.give_up,
         options.is_verbose,
     )?;
-    let mut link = link_to(&log, &options.peer, options.timeout)?;
-    link.hold_none();
+    let link = link_to(&log, &options.peer, options.timeout)?;
     look_over(&log, options, file.plan(), link)
 }
 
