@@ -227,6 +227,7 @@ def answered_in_http(listed, peer, request):
 
 def answered_about_another(listed, peer, request):
     peer.sendall(OF_ANOTHER)
+    return True
 
 
 def answered_without_a_count(listed, peer, request):
@@ -234,6 +235,7 @@ def answered_without_a_count(listed, peer, request):
     reply = listed.reply_to(request)
     place = reply.index(bytes.fromhex('42000d0200000004'))
     peer.sendall(reply[:place + 11] + bytes([9]) + reply[place + 12:])
+    return True
 
 
 def answered_in_version_1_0(listed, peer, request):
