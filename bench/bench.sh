@@ -128,7 +128,7 @@ print_growth() {
         "$(quotient "$ours_few" 1000 2)" "$(quotient "$ours_many" 1000 2)" "$growth" \
         "$(quotient "$theirs_few" 1000 2)" "$(quotient "$theirs_many" 1000 2)" "$growth_of_theirs" \
         "$(quotient "$growth" "$growth_of_theirs" 2)"
-    note_aim "$title, from few objects to many: growth, by plain Rust's" "$(quotient "$growth" "$growth_of_theirs" 2)" "$growth_aim"
+    note_aim "$title: growth to 10,000 objects, by plain Rust's" "$(quotient "$growth" "$growth_of_theirs" 2)" "$growth_aim"
     printf '%s\t%s\t%s\t%s\t%s\n' "$title" "$ours_few" "$theirs_few" "$ours_many" "$theirs_many" >> "$out/growth.tsv"
 }
 
