@@ -34,7 +34,7 @@ SIZES = {
     'docs/OPERATING.md': (19_000, None),
     'docs/PROFILE.md': (12_000, None),
     'docs/PROOF-GUIDE.md': (18_000, None),
-    'docs/PROOF.md': (15_000, None),
+    'docs/PROOF.md': (15_500, None),
     'docs/SERVERS.md': (3_000, None),
     'docs/TESTING.md': (9_300, None),
 }
