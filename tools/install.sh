@@ -53,7 +53,7 @@ files() (
     done
     echo "644 $top/examples/systemd/sysusers.conf lib/sysusers.d/kmipctl.conf"
     echo "644 $top/examples/systemd/tmpfiles.conf lib/tmpfiles.d/kmipctl.conf"
-    for document in *.md docs/*.md docs/*.svg; do
+    for document in *.md docs/*.md; do
         echo "644 $top/$document share/doc/kmipctl/$document"
     done
     find examples -type f | LC_ALL=C sort | while read -r example; do
