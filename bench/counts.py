@@ -32,7 +32,7 @@ from measuring import Server, fail, note_aim, ratio, remove_progress, run, write
 # What the messages are, how many the second run has more, and the words for bench/input.rs of both.
 LOADS = [
     ('Locates of 5,000 names over 5,000 objects', 5000, 'locate 5000 5000', 'locate 5000 10000'),
-    ('Creates of 5,000 objects beside 5,000', 5000, 'create 5000', 'create 10000'),
+    ('Creates of 5,000 objects, with 5,000 there', 5000, 'create 5000', 'create 10000'),
     ('a mix over 100 objects', 10000, 'mix 10000 100', 'mix 20000 100'),
 ]
 # The keys of the plans of `sim`, with three exchanges each.

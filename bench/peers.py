@@ -227,7 +227,6 @@ def answered_in_http(listed, peer, request):
 
 def answered_about_another(listed, peer, request):
     peer.sendall(OF_ANOTHER)
-    return True
 
 
 def answered_without_a_count(listed, peer, request):
@@ -235,7 +234,15 @@ def answered_without_a_count(listed, peer, request):
     reply = listed.reply_to(request)
     place = reply.index(bytes.fromhex('42000d0200000004'))
     peer.sendall(reply[:place + 11] + bytes([9]) + reply[place + 12:])
-    return True
+
+
+def going_on(behaviour):
+    """The same over a connection that stays open."""
+    def goes_on(listed, peer, request):
+        behaviour(listed, peer, request)
+        return True
+    goes_on.__name__ = f'{behaviour.__name__} over a connection that stays open'
+    return goes_on
 
 
 def answered_in_version_1_0(listed, peer, request):
@@ -261,6 +268,7 @@ def in_words(behaviour):
 # A time limit that a busy machine keeps, and that is waited for.
 SHORT = ('--timeout', '3')
 CLOSED = 'the connection was closed before a reply (if there is a tunnel, see its log)'
+WITHOUT_A_COUNT = 'an unreadable reply (BatchCount)'
 CUT = 'the connection was closed within a reply'
 IN_HTTP = 'the server did not reply in KMIP: it answers in HTTP'
 IN_VERSION_1_0 = 'an unreadable reply (Version: KMIP 1.0)'
@@ -491,20 +499,28 @@ class Peers:
         return self.ended([self.program, 'look', '--plan', self.plan, '--connect', f'127.0.0.1:{port}', *more])
 
     def looks(self, batch):
-        """A look asks each question four times at most, and says why nothing is told."""
+        """A look sends each question four times at most, and says why nothing is reported of a key.
+
+        A stream that brought a whole reply is held. So if the peer closes it then, the second of the four messages goes
+        into a closed stream: the peer gets three of them, and the person is told of it."""
         server, behind = self.serve('--connections', '1000000')
-        for bad, why, reason in (
-                (answered_in_http, 'no reply', IN_HTTP), (cut, 'no reply', CUT),
-                (answered_about_another, 'no reply', None),
-                (answered_in_version_1_0, 'unreadable reply', IN_VERSION_1_0),
-                (answered_without_a_count, 'unreadable reply', 'an unreadable reply (BatchCount)')):
+        without_a_count = f'no reply from PEER: {WITHOUT_A_COUNT}; trying again'
+        closed_once = f'no reply from PEER: {CLOSED}; trying again'
+        for bad, why, got, lines in (
+                (answered_in_http, 'no reply', 4, [f'no reply from PEER: {IN_HTTP}; trying again']),
+                (cut, 'no reply', 4, [f'no reply from PEER: {CUT}; trying again']),
+                (going_on(answered_about_another), 'no reply', 4, []),
+                (answered_about_another, 'no reply', 3, [closed_once, 'PEER answers again after T s']),
+                (answered_in_version_1_0, 'unreadable reply', 4, [f'no reply from PEER: {IN_VERSION_1_0}; trying again']),
+                (going_on(answered_without_a_count), 'unreadable reply', 4, [without_a_count]),
+                (answered_without_a_count, 'unreadable reply', 3, [without_a_count, closed_once, without_a_count])):
             peer = AtLast(behind, bad, ALL_MESSAGES)
             port = listening(peer)
             status, printed, told, took = self.look_at(port, '--batch', batch, *PATIENT)
             wanted = looks_of([*looked(done=NONE_DONE)[:-1], untold(CASE, '-', why)])
             self.look(f'a look, of which messages about the last key are {in_words(bad)}, {batch} keys a message',
-                      (status == 1, status), (printed == wanted, printed), (peer.count == 4, peer.count), soon(took),
-                      (told == (f'no reply from 127.0.0.1:{port}: {reason}; trying again\n' if reason else ''), told))
+                      (status == 1, status), (printed == wanted, printed), (peer.count == got, peer.count), soon(took),
+                      (told_of(port, told) == lines, told))
         server.kill()
         server.wait()
         for behaviour in (silent, dripping):
