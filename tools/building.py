@@ -48,6 +48,10 @@ def heights(names, used):
     return {name: height(name) for name in names}
 
 
+def is_library(crate):
+    return (CRATES / crate / 'src/lib.rt').exists()
+
+
 def minutes(seconds):
     return f'{int(seconds) // 60}:{int(seconds) % 60:02}'
 
@@ -69,7 +73,7 @@ class Build:
     def prove(self, name):
         """Proves and builds a crate. Returns its name, the status of `rt`, and how long it took."""
         start = time.monotonic()
-        verb = 'lib' if (CRATES / name / 'src/lib.rt').exists() else 'run'
+        verb = 'lib' if is_library(name) else 'run'
         with open(LOGS / f'{name}.log', 'w') as log:
             status = subprocess.run(['rt', verb], cwd=CRATES / name, stdin=subprocess.DEVNULL, stdout=log, stderr=log).returncode
         return name, status, time.monotonic() - start
@@ -104,7 +108,8 @@ def main(crate='kmipctl'):
     LOGS.mkdir(parents=True, exist_ok=True)
     if not Build(crate).run(max(1, (os.cpu_count() or 1) // 2)):
         return 1
-    print(f'built {CRATES}/{crate}/out/{crate} in {minutes(time.monotonic() - start)}')
+    built = f'rlib/{crate}.rlib' if is_library(crate) else crate
+    print(f'built {CRATES}/{crate}/out/{built} in {minutes(time.monotonic() - start)}')
     return 0
 
 

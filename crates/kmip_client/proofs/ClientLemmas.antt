@@ -1,12 +1,12 @@
 -- What holds of each key, key by key.
-use Rattle.std.proofs.Common.{◌≡◌, ℕ, zero, suc, List, [], ◌∷◌, length, map, Option, Some, None, slice_set, subst, refl, sym, ◌∙◌, inl, inr, arith}
+use Rattle.std.proofs.Common.{◌≡◌, ℕ, zero, suc, List, [], ◌∷◌, length, map, Option, Some, None, is_some, slice_set, subst, refl, sym, ◌∙◌, inl, inr, arith}
 use Rattle.std.proofs.lemmas.Bool.{cases_Bool}
 use Rattle.std.specs.List.{AllZip, slice_get}
 use Rattle.kmip_plan.specs.Plans.{IsLawful}
 use Rattle.kmip_plan.specs.declared.key.Key.{Key}
 use Rattle.kmip_client.specs.declared.knowledge.Knowledge.{Knowledge}
-use Rattle.kmip_client.specs.Clients.{lost_working, changed_by, changed_at}
-use Rattle.kmip_client.specs.Knowledge.{fresh_knowledge, is_working, lose}
+use Rattle.kmip_client.specs.Clients.{lost_working, changed_by, changed_at, standing_at, tells}
+use Rattle.kmip_client.specs.Knowledge.{fresh_knowledge, is_working, lose, verdict_of}
 use Rattle.kmip_client.specs.Private.{IsShaped, AreShaped}
 use Rattle.kmip_client.proofs.CountLemmas.{fresh_count, lost_count}
 use Rattle.kmip_client.proofs.LearningLemmas.{lost_goes_on}
@@ -85,3 +85,8 @@ lost_are_shaped keys knowns next working place shaped = record {
   turn = shaped.turn;
   counted = shaped.counted ∙ sym (lost_count keys knowns place);
 }
+
+-- what is known of a key, by the key and its knowledge
+pub standing_of : (keys : List Key) (knowns : List Knowledge) (place : ℕ) (key : Key) (known : Knowledge) → slice_get keys place ≡ Some key → slice_get knowns place ≡ Some known
+    → record { done = known.done; is_identified = is_some known.identifier; verdict = verdict_of key known; is_told = tells known.phase } ≡ standing_at keys knowns place
+standing_of keys knowns place key known key_at known_at = rw (known_at, key_at) refl

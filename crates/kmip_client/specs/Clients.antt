@@ -1,12 +1,13 @@
 -- What a client is to its caller: what it knows of each key of a plan, whose turn it is, and how much it asks
 -- at once.
 -- Source: own (view).
-use Rattle.std.specs.Prelude.{◌≡◌, ◌≢◌, ◌<◌, ℕ, ◌+◌, length, Bool, true, false, cond, List, [], ◌∷◌, map, Option, Some, slice_get, slice_set, if◌then◌else◌}
+use Rattle.std.specs.Prelude.{◌≡◌, ◌≢◌, ◌<◌, ℕ, ◌+◌, length, Bool, true, false, cond, List, [], ◌∷◌, map, Option, Some, is_some, slice_get, slice_set, if◌then◌else◌}
 use Rattle.std.specs.List.{AllZip}
 use Rattle.std.specs.Option.{option_map_or, option_and_then}
 use Rattle.kmip_plan.specs.declared.key.Key.{Key}
 use Rattle.kmip_client.specs.declared.knowledge.Knowledge.{Knowledge}
 use Rattle.kmip_client.specs.declared.phase.Phase.{Phase}
+use Rattle.kmip_client.specs.declared.standing.Standing.{Standing}
 use Rattle.kmip_client.specs.declared.phase.Phase.TheVariants.{Look, Make, Check, Go}
 use Rattle.kmip_client.specs.declared.verdict.Verdict.{Verdict}
 use Rattle.kmip_client.specs.declared.verdict.Verdict.TheVariants.{Working}
@@ -48,6 +49,16 @@ tells Go = true
 -- The last answer about the key at a place told how it stands: it has no object, or what its object is.
 abbrev pub is_told_at : List Knowledge → ℕ → Bool
 is_told_at knowns place = option_map_or (λ known. tells known.phase) (slice_get knowns place) false
+
+-- What is known of the key at a place: its steps that are done, whether its identifier is known, the verdict
+-- on it, and whether the last answer told how it stands.
+abbrev pub standing_at : List Key → List Knowledge → ℕ → Standing
+standing_at keys knowns place = record {
+  done = done_at knowns place;
+  is_identified = is_some (identifier_at knowns place);
+  verdict = verdict_at keys knowns place;
+  is_told = is_told_at knowns place;
+}
 
 -- A key whose answer did not come is looked at again, where it is worked on. Own (choice).
 abbrev pub lost_working : Key → Knowledge → Knowledge

@@ -11,6 +11,7 @@ ghost use Rattle.kmip_client.specs.Clients.{
   done_at,
   identifier_at,
   is_told_at,
+  standing_at,
   verdict_at,
   lost_working,
   changed_at,
@@ -40,6 +41,7 @@ use crate::hearing::hear_message;
 use crate::listener::Listener;
 use crate::question::Question;
 use crate::saving::{all_knowledge, all_known, bring_up, count_working};
+use crate::standing::Standing;
 use crate::verdicts::{all_counts, all_verdicts, tells, verdict_of};
 use crate::{HearFault, Knowledge, Verdict};
 use kmip_plan::laws::the_laws_of_plans_hold;
@@ -318,6 +320,21 @@ impl<'p> Client<'p> {
         ensures { result ≡ verdict_at self.now.keys self.now.knowns key }
     {
         verdict_of(self.plan.keys(), self.knowns.as_slice(), key)
+    }
+
+    /// What is known of the key at a place from 0, in one call. Takes no memory.
+    pub fn standing(&self, key: usize) -> Standing
+        // The plan has a key at this place.
+        requires { key < length self.now.keys }
+        ensures { result ≡ standing_at self.now.keys self.now.knowns key }
+    {
+        let known = &self.knowns[key];
+        Standing {
+            done: known.done,
+            is_identified: known.identifier.is_some(),
+            verdict: known.verdict(&self.plan.keys()[key]),
+            is_told: tells(known.phase),
+        }
     }
 
     /// How many steps of each key are known to have taken effect, in the order of the plan.

@@ -1,5 +1,6 @@
 -- Key by key, whether a run got on, and how many keys are told.
-use Rattle.std.proofs.Common.{◌≡◌, ◌≢◌, ◌∙◌, ◌<◌, ◌≤◌, ℕ, zero, suc, ◌+◌, List, [], ◌∷◌, Some, false, slice_get, slice_set, refl, sym, ap, subst, inl, inr, arith}
+use Rattle.std.proofs.Common.{◌≡◌, ◌≢◌, ◌∙◌, ◌<◌, ◌≤◌, ℕ, zero, suc, ◌+◌, List, [], ◌∷◌, Some, Bool, true, false, slice_get, slice_set, refl, sym, ap, subst, inl, inr, arith}
+use mir.Val.{bool_byte}
 use Rattle.std.proofs.lemmas.Bool.{cases_lt}
 use Rattle.kmip_plan.specs.declared.key.Key.{Key}
 use Rattle.kmip_client.specs.declared.knowledge.Knowledge.{Knowledge}
@@ -40,3 +41,12 @@ nowhere_more keys knowns first place seen here none before p s below is =
 -- one place more is counted
 pub told_more : (place : ℕ) (knowns : List Knowledge) → told_before (place + 1) knowns ≡ told_before place knowns + one_if (is_told_at knowns place)
 told_more place knowns = let e : place + 1 ≡ suc place = omega arith in rw e refl
+
+-- a truth counts as one or as nothing
+pub counts_one : (b : Bool) → bool_byte b ≡ one_if b
+counts_one true = refl
+counts_one false = refl
+
+pub one_or_none : (b : Bool) → one_if b ≤ 1
+one_or_none true = omega arith
+one_or_none false = omega arith

@@ -21,11 +21,12 @@ impl Sight {
         requires { place < length client.now.keys }
         ensures { result ≡ sight_at client.now.keys client.now.knowns place }
     {
+        let standing = client.standing(place);
         Sight {
-            done: client.done(place),
-            is_identified: client.identifier(place).is_some(),
-            is_in_conflict: matches!(client.verdict(place), Verdict::Conflict(_)),
-            is_told: client.is_told(place),
+            done: standing.done,
+            is_identified: standing.is_identified,
+            is_in_conflict: matches!(standing.verdict, Verdict::Conflict(_)),
+            is_told: standing.is_told,
         }
     }
 

@@ -29,10 +29,12 @@ impl Sights {
     {
         let count = client.plan().count();
         let mut items = Vec::with_capacity(alloc, count)?;
+        let mut told = 0;
         for place in 0..count {
-            items.push(Sight::at(client, place))?;
+            let now = Sight::at(client, place);
+            told += usize::from(now.is_told);
+            items.push(now)?;
         }
-        let told = told_count(client);
         Ok(Sights { items, told })
     }
 
@@ -54,7 +56,6 @@ impl Sights {
     {
         let before = self.told;
         let has_grown = self.see(client);
-        self.told = told_count(client);
         news_of(has_grown, is_each_answered(asked, before, self.told))
     }
 
@@ -66,31 +67,21 @@ impl Sights {
             → GetsOn client.now.keys client.now.knowns self.old.items.items }
         ensures nowhere { result ≡ false
             → GetsNowhere client.now.keys client.now.knowns self.old.items.items }
+        ensures told { self.new.told ≡ told_count client.now.keys client.now.knowns }
         ensures stays { length self.new.items.items ≡ length self.old.items.items }
     {
         let mut got_on = false;
+        let mut told = 0;
         for place in 0..self.items.len() {
             let now = Sight::at(client, place);
+            told += usize::from(now.is_told);
             if self.items[place].take(now) {
                 got_on = true;
             }
         }
+        self.told = told;
         got_on
     }
-}
-
-/// The number of keys whose status the last answer reported.
-#[tactic(auto, using(crate::proofs::SightLemmas::told_more))]
-fn told_count(client: &Client<'_>) -> usize
-    ensures { result ≡ told_count client.now.keys client.now.knowns }
-{
-    let mut told = 0;
-    for place in 0..client.plan().count() {
-        if client.is_told(place) {
-            told += 1;
-        }
-    }
-    told
 }
 
 /// Whether each key that was asked about was answered, and has another question: there was one at
